@@ -1,5 +1,7 @@
 -- A part is met exactly where a row of it is.
-use Rattle.std.proofs.Common.{◌≡◌, ℕ, zero, suc, ◌+◌, ◌<◌, ◌&&◌, ◌||◌, Bool, true, false, not, cond, eqb, leb, List, [], ◌∷◌, ◌++◌, map, length, get_or, Option, Some, None, refl, ap, sym, subst, ◌∙◌, arith, inl, inr}
+use Rattle.std.proofs.Common.{◌≡◌, ℕ, zero, suc, ◌+◌, ◌<◌, ◌&&◌, ◌||◌, Bool, true, false, not, cond, eqb, leb, List, []}
+use Rattle.std.proofs.Common.{◌∷◌, ◌++◌, map, length, get_or, Option, Some, None, refl, ap, sym, subst, ◌∙◌, arith, inl}
+use Rattle.std.proofs.Common.{inr}
 use Rattle.std.specs.Prelude.{IsSome}
 use Rattle.std.specs.List.{list_all, list_any}
 use Rattle.std.proofs.lemmas.Bool.{cases_Bool, cases_eq, and_parts, and_from, or_cases, or_left, or_right, eqb-true}
@@ -7,7 +9,8 @@ use Rattle.std.proofs.Math.Bool.{or-false}
 use Rattle.shq_terms.proofs.Bools.{same_truth}
 use Rattle.shq_terms.specs.Concept.{Concept, top, some_of, parts_of}
 use Rattle.calculus_specs.specs.Normal.{negated_form}
-use Rattle.calculus_specs.specs.Rows.{Part, inclusion, range, conjunct_at, is_among, others_from, row_concept, are_name_positions, is_some_of, row_of, Trigger}
+use Rattle.calculus_specs.specs.Rows.{Part, inclusion, range, conjunct_at, is_among, others_from, row_concept}
+use Rattle.calculus_specs.specs.Rows.{are_name_positions, is_some_of, row_of, Trigger}
 use Rattle.calculus_specs.specs.Rows.Trigger.{always, names, edge, end_of}
 use Rattle.shq_terms.specs.declared.axioms.Axiom.{Axiom}
 use Rattle.shq_meaning.specs.Below.{all_below, count_below}
@@ -27,7 +30,8 @@ use Rattle.absorption.proofs.Positions.{part_has_row}
 -- ---- counts of at least one
 
 one_more : (n : ℕ) (p : ℕ → Bool) → leb 1 (count_below (suc n) p) ≡ (leb 1 (count_below n p) || p n)
-one_more n p = some_is_some (count_below n p) (cond (p n) 1 0) ∙ ap (λ (b : Bool). leb 1 (count_below n p) || b) (some_cond (p n))
+one_more n p =
+    some_is_some (count_below n p) (cond (p n) 1 0) ∙ ap (λ (b : Bool). leb 1 (count_below n p) || b) (some_cond (p n))
 
 counted : (n : ℕ) (p : ℕ → Bool) (y : ℕ) → y < n → p y ≡ true → leb 1 (count_below n p) ≡ true
 counted zero p y lt h = absurd (omega arith)
@@ -46,12 +50,14 @@ record Counted (n : ℕ) (p : ℕ → Bool) : Type 0 where
 witness : (n : ℕ) (p : ℕ → Bool) → leb 1 (count_below n p) ≡ true → Counted n p
 witness zero p h = cc
 witness (suc n) p h = elim (or_cases (leb 1 (count_below n p)) (p n) (sym (one_more n p) ∙ h)) [
-  | inl earlier ↦ let w = witness n p earlier in record { it = w.it; below = (let lt = w.below in omega arith); passes = w.passes }
+  | inl earlier ↦
+      let w = witness n p earlier in record { it = w.it; below = (let lt = w.below in omega arith); passes = w.passes }
   | inr here ↦ record { it = n; below = omega arith; passes = here }
 ]
 
 fewer : (n : ℕ) (p q : ℕ → Bool) → leb 1 (count_below n (λ y. p y && q y)) ≡ true → leb 1 (count_below n p) ≡ true
-fewer n p q h = let w = witness n (λ y. p y && q y) h in counted n p w.it w.below (and_parts (p w.it) (q w.it) w.passes).0
+fewer n p q h =
+    let w = witness n (λ y. p y && q y) h in counted n p w.it w.below (and_parts (p w.it) (q w.it) w.passes).0
 
 -- ---- what a row's concept says
 
@@ -60,21 +66,30 @@ module _ (i : Interpretation) (x : ℕ) (d : Concept) (ps : List ℕ) where
   one_of cs = hold_any i (parts_of (map negated_form cs ++ d ∷ [])) x
 
   -- one that is in all conjuncts and in the row's concept is in the right side
-  one_taken : (cs : List Concept) (first : ℕ) → one_of (others_from first ps cs) ≡ true → list_all (λ c. holds i c x) cs ≡ true → holds i d x ≡ true
+  one_taken : (cs : List Concept) (first : ℕ) → one_of (others_from first ps cs) ≡ true
+      → list_all (λ c. holds i c x) cs ≡ true → holds i d x ≡ true
   one_taken [] first h all = sym (or-false (holds i d x)) ∙ h
   one_taken (c ∷ cs) first h all =
       let both = and_parts (holds i c x) (list_all (λ e. holds i e x) cs) all in
       elim (cases_Bool (is_among ps first)) [
         | inl among ↦
-            one_taken cs (first + 1) (sym (ap (λ (b : Bool). one_of (cond b (others_from (first + 1) ps cs) (c ∷ others_from (first + 1) ps cs))) among) ∙ h) both.1
+            one_taken cs (first + 1)
+            (sym (ap (λ (b : Bool). one_of (cond b (others_from (first + 1) ps cs) (c ∷ others_from (first + 1) ps cs)))
+            among)
+            ∙ h)
+            both.1
         | inr other ↦
             let either : (holds i (negated_form c) x || one_of (others_from (first + 1) ps cs)) ≡ true =
-            sym (ap (λ (b : Bool). one_of (cond b (others_from (first + 1) ps cs) (c ∷ others_from (first + 1) ps cs))) other) ∙ h in
+            sym (ap (λ (b : Bool). one_of (cond b (others_from (first + 1) ps cs) (c ∷ others_from (first + 1) ps cs)))
+            other)
+            ∙ h in
             let not_there : holds i (negated_form c) x ≡ false = negated_truth i c x ∙ ap not both.0 in
-            one_taken cs (first + 1) (sym (ap (λ (b : Bool). b || one_of (others_from (first + 1) ps cs)) not_there) ∙ either) both.1
+            one_taken cs (first + 1)
+            (sym (ap (λ (b : Bool). b || one_of (others_from (first + 1) ps cs)) not_there) ∙ either) both.1
       ]
 
-  taken : (cs : List Concept) → holds i (row_concept cs d ps) x ≡ true → list_all (λ c. holds i c x) cs ≡ true → holds i d x ≡ true
+  taken : (cs : List Concept) → holds i (row_concept cs d ps) x ≡ true → list_all (λ c. holds i c x) cs ≡ true
+      → holds i d x ≡ true
   taken cs h all = one_taken cs 1 (sym (or_holds i x (map negated_form (others_from 1 ps cs) ++ d ∷ [])) ∙ h) all
 
 -- ---- inclusions
@@ -94,16 +109,23 @@ module _ (i : Interpretation) (cs : List Concept) (d : Concept) where
   -- ---- from the part to the row
 
   given : (met : meets_part i (inclusion cs d) ≡ true) (ps : List ℕ) (x : ℕ) → x < i.size
-      → ((j : ℕ) → j < length cs → is_among ps (1 + j) ≡ true → holds i (get_or cs j top) x ≡ true) → holds i (row_concept cs d ps) x ≡ true
+      → ((j : ℕ) → j < length cs → is_among ps (1 + j) ≡ true → holds i (get_or cs j top) x ≡ true)
+      → holds i (row_concept cs d ps) x ≡ true
   given met ps x lt at =
-      row_holds i x d ps cs at (λ all. implied (in_all x) (holds i d x) (all_at i.size (λ v. implies (in_all v) (holds i d v)) x met lt) all)
+      row_holds i x d ps cs at
+      (λ all. implied (in_all x) (holds i d x) (all_at i.size (λ v. implies (in_all v) (holds i d v)) x met lt) all)
 
-  given_all : (met : meets_part i (inclusion cs d) ≡ true) (t : Trigger) → all_below i.size (λ x. implies (is_triggered i (inclusion cs d) t x) (holds i (row_concept cs d []) x)) ≡ true
-  given_all met t = all_from i.size (λ x. implies (is_triggered i (inclusion cs d) t x) (holds i (row_concept cs d []) x))
-      (λ x lt. implies_from (is_triggered i (inclusion cs d) t x) (holds i (row_concept cs d []) x) (λ h. given met [] x lt (λ j less among. cc)))
+  given_all : (met : meets_part i (inclusion cs d) ≡ true) (t : Trigger)
+      → all_below i.size (λ x. implies (is_triggered i (inclusion cs d) t x) (holds i (row_concept cs d []) x)) ≡ true
+  given_all met t =
+      all_from i.size (λ x. implies (is_triggered i (inclusion cs d) t x) (holds i (row_concept cs d []) x))
+      (λ x lt. implies_from (is_triggered i (inclusion cs d) t x) (holds i (row_concept cs d []) x)
+      (λ h. given met [] x lt (λ j less among. cc)))
 
-  given_names : (met : meets_part i (inclusion cs d) ≡ true) (ps : List ℕ) → meets_row i (inclusion cs d) (names ps) (row_concept cs d ps) ≡ true
-  given_names met ps = all_from i.size (λ x. implies (is_triggered i (inclusion cs d) (names ps) x) (holds i (row_concept cs d ps) x))
+  given_names : (met : meets_part i (inclusion cs d) ≡ true) (ps : List ℕ)
+      → meets_row i (inclusion cs d) (names ps) (row_concept cs d ps) ≡ true
+  given_names met ps =
+      all_from i.size (λ x. implies (is_triggered i (inclusion cs d) (names ps) x) (holds i (row_concept cs d ps) x))
       (λ x lt. implies_from (is_triggered i (inclusion cs d) (names ps) x) (holds i (row_concept cs d ps) x)
       (λ h. given met ps x lt
       (λ j less among.
@@ -124,29 +146,40 @@ module _ (i : Interpretation) (cs : List Concept) (d : Concept) where
 
   at_positions : (x : ℕ) (ps : List ℕ) → in_all x ≡ true → list_all (λ p. holds i (conjunct_at cs p) x) ps ≡ true
   at_positions x [] all = refl
-  at_positions x (p ∷ ps) all = and_from (holds i (conjunct_at cs p) x) (list_all (λ k. holds i (conjunct_at cs k) x) ps) (at_position x p all) (at_positions x ps all)
+  at_positions x (p ∷ ps) all =
+      and_from (holds i (conjunct_at cs p) x) (list_all (λ k. holds i (conjunct_at cs k) x) ps) (at_position x p all)
+      (at_positions x ps all)
 
   begins : (s x : ℕ) (c : Concept) → is_some_of s c ≡ true → holds i c x ≡ true → leb 1 (out_degree i s x) ≡ true
-  begins s x (some_of r e) is h = fewer i.size (λ y. i.in_role s x y) (holds i e) (subst (λ (q : ℕ). leb 1 (count_below i.size (λ y. i.in_role q x y && holds i e y)) ≡ true) (eqb-true r s is) h)
+  begins s x (some_of r e) is h =
+      fewer i.size (λ y. i.in_role s x y) (holds i e)
+      (subst (λ (q : ℕ). leb 1 (count_below i.size (λ y. i.in_role q x y && holds i e y)) ≡ true) (eqb-true r s is) h)
   begins s x _ is h = cc
 
   -- an element that is in all conjuncts triggers the row
-  triggered : (t : Trigger) (c : Concept) → row_of (inclusion cs d) t ≡ Some c → (x : ℕ) → in_all x ≡ true → is_triggered i (inclusion cs d) t x ≡ true
+  triggered : (t : Trigger) (c : Concept) → row_of (inclusion cs d) t ≡ Some c → (x : ℕ) → in_all x ≡ true
+      → is_triggered i (inclusion cs d) t x ≡ true
   triggered always c e x all = refl
   triggered (names ps) c e x all = at_positions x ps all
   triggered (edge s) c e x all =
-      let f = found (is_some_of s) (λ k. holds i k x) cs (passed (list_any (is_some_of s) cs) (row_concept cs d []) c e) all in
+      let f =
+      found (is_some_of s) (λ k. holds i k x) cs (passed (list_any (is_some_of s) cs) (row_concept cs d []) c e) all in
       begins s x f.it f.first f.second
   triggered (end_of s) c e x all = cc
 
-  back : (t : Trigger) (c : Concept) (ps : List ℕ) → row_of (inclusion cs d) t ≡ Some c → c ≡ row_concept cs d ps → meets_row i (inclusion cs d) t c ≡ true → meets_part i (inclusion cs d) ≡ true
+  back : (t : Trigger) (c : Concept) (ps : List ℕ) → row_of (inclusion cs d) t ≡ Some c → c ≡ row_concept cs d ps
+      → meets_row i (inclusion cs d) t c ≡ true → meets_part i (inclusion cs d) ≡ true
   back t c ps e same met = all_from i.size (λ x. implies (in_all x) (holds i d x))
       (λ x lt. implies_from (in_all x) (holds i d x)
       (λ all. taken i x d ps cs
       (subst (λ (k : Concept). holds i k x ≡ true) same
-      (implied (is_triggered i (inclusion cs d) t x) (holds i c x) (all_at i.size (λ v. implies (is_triggered i (inclusion cs d) t v) (holds i c v)) x met lt) (triggered t c e x all))) all))
+      (implied (is_triggered i (inclusion cs d) t x) (holds i c x)
+      (all_at i.size (λ v. implies (is_triggered i (inclusion cs d) t v) (holds i c v)) x met lt)
+      (triggered t c e x all)))
+      all))
 
-  pub inclusion_met : (t : Trigger) (c : Concept) → row_of (inclusion cs d) t ≡ Some c → meets_part i (inclusion cs d) ≡ meets_row i (inclusion cs d) t c
+  pub inclusion_met : (t : Trigger) (c : Concept) → row_of (inclusion cs d) t ≡ Some c
+      → meets_part i (inclusion cs d) ≡ meets_row i (inclusion cs d) t c
   inclusion_met always c e =
       let same : row_concept cs d [] ≡ c = cc in
       same_truth (meets_part i (inclusion cs d)) (meets_row i (inclusion cs d) always c)
@@ -175,39 +208,49 @@ module _ (i : Interpretation) (r : ℕ) (d : Concept) where
       (λ y lt. implies_from (leb 1 (in_degree i r y)) (holds i d y)
       (λ h.
       let w = witness i.size (λ z. i.in_role r z y) h in
-      implied (i.in_role r w.it y) (holds i d y) (all_at i.size (λ v. implies (i.in_role r w.it v) (holds i d v)) y (all_at i.size from_each w.it met w.below) lt) w.passes))
+      implied (i.in_role r w.it y) (holds i d y)
+      (all_at i.size (λ v. implies (i.in_role r w.it v) (holds i d v)) y (all_at i.size from_each w.it met w.below) lt)
+      w.passes))
 
   range_back : meets_row i (range r d) (end_of r) d ≡ true → meets_part i (range r d) ≡ true
   range_back met = all_from i.size from_each
       (λ x lt. all_from i.size (λ y. implies (i.in_role r x y) (holds i d y))
       (λ y mt. implies_from (i.in_role r x y) (holds i d y)
-      (λ h. implied (leb 1 (in_degree i r y)) (holds i d y) (all_at i.size (λ v. implies (leb 1 (in_degree i r v)) (holds i d v)) y met mt) (counted i.size (λ z. i.in_role r z y) x lt h))))
+      (λ h. implied (leb 1 (in_degree i r y)) (holds i d y)
+      (all_at i.size (λ v. implies (leb 1 (in_degree i r v)) (holds i d v)) y met mt)
+      (counted i.size (λ z. i.in_role r z y) x lt h))))
 
-  pub range_met : (t : Trigger) (c : Concept) → row_of (range r d) t ≡ Some c → meets_part i (range r d) ≡ meets_row i (range r d) t c
+  pub range_met : (t : Trigger) (c : Concept) → row_of (range r d) t ≡ Some c
+      → meets_part i (range r d) ≡ meets_row i (range r d) t c
   range_met always c e = cc
   range_met (names ps) c e = cc
   range_met (edge s) c e = cc
   range_met (end_of s) c e =
       let same : d ≡ c = chosen (eqb s r) d c e in
       let role : s ≡ r = eqb-true s r (passed (eqb s r) d c e) in
-      same_truth (meets_part i (range r d)) (meets_row i (range r d) (end_of r) d) range_given range_back ∙ (λ j. meets_row i (range r d) (end_of (sym role j)) (same j))
+      same_truth (meets_part i (range r d)) (meets_row i (range r d) (end_of r) d) range_given range_back
+      ∙ (λ j. meets_row i (range r d) (end_of (sym role j)) (same j))
 
 -- ---- any part
 
-pub part_is_row : (i : Interpretation) (q : Part) (t : Trigger) (c : Concept) → row_of q t ≡ Some c → meets_part i q ≡ meets_row i q t c
+pub part_is_row : (i : Interpretation) (q : Part) (t : Trigger) (c : Concept) → row_of q t ≡ Some c
+    → meets_part i q ≡ meets_row i q t c
 part_is_row i (inclusion cs d) t c e = inclusion_met i cs d t c e
 part_is_row i (range r d) t c e = range_met i r d t c e
 
-fixed_row : (i : Interpretation) (q : Part) (o : Option Concept) → fixed_concept q ≡ o → meets_part i q ≡ meets_row_if i q (trigger_for q) o
+fixed_row : (i : Interpretation) (q : Part) (o : Option Concept) → fixed_concept q ≡ o
+    → meets_part i q ≡ meets_row_if i q (trigger_for q) o
 fixed_row i q None e = let none : false ≡ true = subst (λ (o : Option Concept). IsSome o) e (part_has_row q) in cc
 fixed_row i q (Some c) e = part_is_row i q (trigger_for q) c e
 
-are_rows : (i : Interpretation) (qs : List Part) → meets_parts i qs ≡ list_all (λ q. meets_row_if i q (trigger_for q) (fixed_concept q)) qs
+are_rows : (i : Interpretation) (qs : List Part)
+    → meets_parts i qs ≡ list_all (λ q. meets_row_if i q (trigger_for q) (fixed_concept q)) qs
 are_rows i [] = refl
 are_rows i (q ∷ qs) =
     let head = fixed_row i q (fixed_concept q) refl in
     let tail = are_rows i qs in
     λ j. head j && tail j
 
-pub axiom_is_rows : (i : Interpretation) (a : Axiom) → is_role_axiom a ≡ false → is_assertion a ≡ false → meets i a ≡ list_all (λ q. meets_row_if i q (trigger_for q) (fixed_concept q)) (axiom_parts a)
+pub axiom_is_rows : (i : Interpretation) (a : Axiom) → is_role_axiom a ≡ false → is_assertion a ≡ false
+    → meets i a ≡ list_all (λ q. meets_row_if i q (trigger_for q) (fixed_concept q)) (axiom_parts a)
 axiom_is_rows i a h e = axiom_is_parts i a h e ∙ are_rows i (axiom_parts a)

@@ -8,4 +8,5 @@ use Rattle.calculus_specs.specs.Tree.{IsComplement}
 -- below
 pub record IsClosed (below : ℕ → ℕ → Bool) (is_transitive : ℕ → Bool) (table : List Shape) : Type 0 where
   pub complements : (c n s e : ℕ) → shape_of table c ≡ at_most n s e → (d : ℕ) × IsComplement table e d
-  pub carried : (c s e t : ℕ) → shape_of table c ≡ all_of s e → is_transitive t ≡ true → below t s ≡ true → (d : ℕ) × (shape_of table d ≡ all_of t e)
+  pub carried : (c s e t : ℕ) → shape_of table c ≡ all_of s e → is_transitive t ≡ true → below t s ≡ true
+      → (d : ℕ) × (shape_of table d ≡ all_of t e)

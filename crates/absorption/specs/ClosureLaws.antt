@@ -19,5 +19,6 @@ ClosedTablesLackNothing = (w : SearchContext) (fs : List (Fact ℕ)) → IsClose
 
 -- where no step is legal and there is no plain clash, the trail is saturated
 abbrev pub NoStepIsAnEnd : Type 0
-NoStepIsAnEnd = (w : SearchContext) (at sub not_sup k : ℕ) (trail : List Item) → at < w.first → Follows w (start at sub not_sup) k trail → IsClosedFor w
+NoStepIsAnEnd = (w : SearchContext) (at sub not_sup k : ℕ) (trail : List Item) → at < w.first
+    → Follows w (start at sub not_sup) k trail → IsClosedFor w
     → ¬ HasPlainClash w trail → ((new : List Item) → ¬ IsLegal w trail new) → IsSaturated w trail

@@ -22,11 +22,13 @@ HasAll table t e = (d : ℕ) × (d < length table) × (shape_of table d ≡ all_
 -- what is needed besides the parts of the number's shape
 pub record HasNeeded (below : ℕ → ℕ → Bool) (is_transitive : ℕ → Bool) (table : List Shape) (c : ℕ) : Type 0 where
   pub complements : (n s e : ℕ) → shape_of table c ≡ at_most n s e → (d : ℕ) × IsComplement table e d
-  pub carried : (s e t : ℕ) → shape_of table c ≡ all_of s e → is_transitive t ≡ true → below t s ≡ true → HasAll table t e
+  pub carried : (s e t : ℕ) → shape_of table c ≡ all_of s e → is_transitive t ≡ true → below t s ≡ true
+      → HasAll table t e
 
 -- each transitive role that is below another is in the list
 pub record HasTransitiveRoles (roles : List RoleAxiom) (found : List ℕ) : Type 0 where
-  pub every : (t s : ℕ) → is_transitive roles t ≡ true → is_below roles t s ≡ true → (t ≡ s) ⊎ (list_any (λ r. r == t) found ≡ true)
+  pub every : (t s : ℕ) → is_transitive roles t ≡ true → is_below roles t s ≡ true
+      → (t ≡ s) ⊎ (list_any (λ r. r == t) found ≡ true)
 
 -- 'all' over each of the roles below s has a number
 pub record AreCarried (below : ℕ → ℕ → Bool) (table : List Shape) (found : List ℕ) (s e : ℕ) : Type 0 where

@@ -25,7 +25,8 @@ plain_trigger (Edge role) = edge role
 plain_trigger (End role) = end_of role
 
 abbrev pub plain_row : Row → PlainRow
-plain_row r = record { axiom_number = r.«axiom»; part_number = r.part; trigger = plain_trigger r.trigger; concept = r.concept }
+plain_row r =
+    record { axiom_number = r.«axiom»; part_number = r.part; trigger = plain_trigger r.trigger; concept = r.concept }
 
 abbrev pub plain_rows : List Row → List PlainRow
 plain_rows rows = map plain_row rows

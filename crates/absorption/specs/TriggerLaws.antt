@@ -16,7 +16,8 @@ EachPartHasItsRow = (q : Part) → IsSome (fixed_concept q)
 
 -- a finite interpretation meets a part exactly where it meets any one of its rows
 abbrev pub RowsAreTheirParts : Type 0
-RowsAreTheirParts = (i : Interpretation) (q : Part) (t : Trigger) (c : Concept) → row_of q t ≡ Some c → meets_part i q ≡ meets_row i q t c
+RowsAreTheirParts = (i : Interpretation) (q : Part) (t : Trigger) (c : Concept) → row_of q t ≡ Some c
+    → meets_part i q ≡ meets_row i q t c
 
 -- and an axiom that is neither of roles alone nor an assertion exactly where it meets the rows of its parts
 abbrev pub AxiomsAreTheirRows : Type 0

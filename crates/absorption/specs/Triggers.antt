@@ -9,7 +9,8 @@ use Rattle.calculus_specs.specs.Rows.Trigger.{always, names, edge, end_of}
 -- the positions of the conjuncts that are names, where the first conjunct has the position `first`
 abbrev pub name_positions : ℕ → List Concept → List ℕ
 name_positions first [] = []
-name_positions first (c ∷ cs) = if is_name c then first ∷ name_positions (first + 1) cs else name_positions (first + 1) cs
+name_positions first (c ∷ cs) =
+    if is_name c then first ∷ name_positions (first + 1) cs else name_positions (first + 1) cs
 
 abbrev pub role_of_some : Concept → Option ℕ
 role_of_some (some_of r c) = Some r

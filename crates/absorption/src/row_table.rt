@@ -36,7 +36,8 @@ impl Model for RowTable {
 
     ghost view = { λ t. record { at_names = t.at_names.entries; at_roles = t.at_roles.entries; general = t.general } };
 
-    ghost invariant = { λ t. KeysDiffer (record { at_names = t.at_names.entries; at_roles = t.at_roles.entries; general = t.general }) };
+    ghost invariant = { λ t. KeysDiffer
+        (record { at_names = t.at_names.entries; at_roles = t.at_roles.entries; general = t.general }) };
 }
 
 impl RowTable {

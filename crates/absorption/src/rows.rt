@@ -21,7 +21,8 @@ pub(crate) fn rows_of(
 ) -> Result<Vec<Row>, NoMemory>
     requires numbers { All (λ k. (1 ≤ k) × (k ≤ length ontology.now.axioms)) numbers.now }
     requires within { AreInLimit ontology.now.axioms }
-    ensures rows { IfOk result (λ rows. AreRowsOf concepts.new (named_parts ontology.now.axioms numbers.now) rows.items) }
+    ensures rows { IfOk result
+        (λ rows. AreRowsOf concepts.new (named_parts ontology.now.axioms numbers.now) rows.items) }
     ensures kept { Extends concepts.old concepts.new }
 {
     let _count = concepts.len();
@@ -48,7 +49,8 @@ fn push_rows(
 ) -> Result<(), NoMemory>
     requires counts { IsTrue (axiom_has_counts_within 100 «axiom».now) }
     requires parts { length (axiom_parts «axiom».now) ≤ 500000 }
-    ensures rows { OnOk result (AddsRows concepts.old concepts.new number (axiom_parts «axiom».now) rows.old.items rows.new.items) }
+    ensures rows { OnOk result
+        (AddsRows concepts.old concepts.new number (axiom_parts «axiom».now) rows.old.items rows.new.items) }
     ensures kept { Extends concepts.old concepts.new }
 {
     let _count = concepts.len();

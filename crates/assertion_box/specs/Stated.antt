@@ -1,8 +1,11 @@
 -- What the axioms of some numbers state of individuals.
-use Rattle.std.specs.Prelude.{ℕ, ◌+◌, ◌-◌, ◌==◌, ◌||◌, Bool, List, [], ◌∷◌, ◌++◌, Option, None, Some, slice_get, slice_index_or}
+use Rattle.std.specs.Prelude.{ℕ, ◌+◌, ◌-◌, ◌==◌, ◌||◌, Bool, List, [], ◌∷◌, ◌++◌, Option, None, Some, slice_get}
+use Rattle.std.specs.Prelude.{slice_index_or}
 use Rattle.shq_nnf.specs.Concept.{Concept}
 use Rattle.shq_nnf.specs.Axiom.{Axiom}
-use Rattle.shq_nnf.specs.Axiom.TheVariants.{SubClassOf, EquivalentClasses, DisjointClasses, DisjointUnion, SubRole, EquivalentRoles, Domain, Range, Functional, Transitive, Member, Pair, SameAll, Different}
+use Rattle.shq_nnf.specs.Axiom.TheVariants.{SubClassOf, EquivalentClasses, DisjointClasses, DisjointUnion, SubRole}
+use Rattle.shq_nnf.specs.Axiom.TheVariants.{EquivalentRoles, Domain, Range, Functional, Transitive, Member, Pair}
+use Rattle.shq_nnf.specs.Axiom.TheVariants.{SameAll, Different}
 use Rattle.shq_nnf.specs.Numbered.{Numbered}
 use Rattle.calculus_specs.specs.declared.facts.Fact.{Fact}
 use Rattle.calculus_specs.specs.declared.facts.Fact.TheVariants.{Has, Edge, Apart, Same}

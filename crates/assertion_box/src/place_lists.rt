@@ -1,5 +1,6 @@
 // The places of facts by the individuals that they name.
-ghost use Rattle.std.specs.Prelude.{◌≡◌, ℕ, ◌<◌, ◌==◌, [], ◌∷◌, ◌++◌, ◌||◌, length, slice_set, IfOk, OnOk, if◌then◌else◌};
+ghost use Rattle.std.specs.Prelude.{◌≡◌, ℕ, ◌<◌, ◌==◌, [], ◌∷◌, ◌++◌, ◌||◌, length, slice_set, IfOk, OnOk};
+ghost use Rattle.std.specs.Prelude.{if◌then◌else◌};
 ghost use Rattle.std.specs.Iterator.{YieldsFirst, item_count};
 ghost use Rattle.assertion_box.specs.Places.{places_of, list_at};
 
@@ -29,7 +30,9 @@ fn push_place(
     first: u32,
     last: u32,
 ) -> Result<(), NoMemory>
-    ensures { OnOk result ((a : ℕ) → list_at lists.new.items a ≡ (if (first == a || last == a) then list_at lists.old.items a ++ place ∷ [] else list_at lists.old.items a)) }
+    ensures { OnOk result
+        ((a : ℕ) → list_at lists.new.items a
+        ≡ (if (first == a || last == a) then list_at lists.old.items a ++ place ∷ [] else list_at lists.old.items a)) }
 {
     push_under(alloc, lists, first, place)?;
     if last == first {
@@ -44,7 +47,9 @@ fn push_under(
     individual: u32,
     place: u32,
 ) -> Result<(), NoMemory>
-    ensures { OnOk result ((a : ℕ) → list_at lists.new.items a ≡ (if individual == a then list_at lists.old.items a ++ place ∷ [] else list_at lists.old.items a)) }
+    ensures { OnOk result
+        ((a : ℕ) → list_at lists.new.items a
+        ≡ (if individual == a then list_at lists.old.items a ++ place ∷ [] else list_at lists.old.items a)) }
 {
     grow(alloc, lists, individual)?;
     push_at(lists, individual, place)
@@ -63,7 +68,8 @@ fn grow(alloc: Global, lists: &mut Vec<NumberList>, individual: u32) -> Result<(
 
 fn push_at(lists: &mut Vec<NumberList>, individual: u32, place: u32) -> Result<(), NoMemory>
     requires { individual < length lists.old.items }
-    ensures { OnOk result (lists.new.items ≡ slice_set lists.old.items individual (list_at lists.old.items individual ++ place ∷ [])) }
+    ensures { OnOk result
+        (lists.new.items ≡ slice_set lists.old.items individual (list_at lists.old.items individual ++ place ∷ [])) }
 {
     let list = &mut lists[individual as usize];
     list.push(place)

@@ -11,18 +11,26 @@ use Rattle.pinpointing_specs.proofs.Explored.{laws_of_lists, laws_of_leaves}
 use Rattle.audit_check.specs.Audits.{IsAudited, AuditedAreMinimalYes, AuditedAreMinimalRemovals}
 use Rattle.audit_check.proofs.Hits.{has_smallest, smallest_hits_alone}
 
-module _ (holds : NumberSet → Type 0) (limit : ℕ) (justs repairs : List Limited) (grows : Grows holds) (audited : IsAudited holds limit justs repairs) where
+module _ (holds : NumberSet → Type 0) (limit : ℕ) (justs repairs : List Limited) (grows : Grows holds)
+    (audited : IsAudited holds limit justs repairs) where
   -- what a listed set lacks when it is without k meets each listed set
-  met_outside : (j : Limited) (k : ℕ) → Contains justs j → set.contains j.members k ≡ true → MeetsEach justs (rest (without j k))
+  met_outside : (j : Limited) (k : ℕ) → Contains justs j → set.contains j.members k ≡ true
+      → MeetsEach justs (rest (without j k))
   met_outside j k listed member s s_listed =
       elim (part_or_more s.members (set.remove j.members k)) [
         | inl part ↦
             let same = audited.antichain s j s_listed listed (λ m h. (in_without j.members k m (part m h)).1) in
-            let in_s : set.contains s.members k ≡ true = subst (λ (x : Limited). set.contains x.members k ≡ true) (sym same) member in
+            let in_s : set.contains s.members k ≡ true =
+            subst (λ (x : Limited). set.contains x.members k ≡ true) (sym same) member in
             absurd ((in_without j.members k k (part k in_s)).0 (λ i. k))
         | inr more ↦
-            let inside = audited.within s s_listed more.0 more.1 in
-            (more.0, more.1, to_rest (without j k) more.0 inside.0 (subst (λ (n : ℕ). more.0 ≤ n) (audited.limits s s_listed ∙ sym (audited.limits j listed)) inside.1) more.2)
+            let inside = audited.within s s_listed more.0 more.1 in (
+              more.0,
+              more.1,
+              to_rest (without j k) more.0 inside.0
+                  (subst (λ (n : ℕ). more.0 ≤ n) (audited.limits s s_listed ∙ sym (audited.limits j listed)) inside.1)
+                  more.2,
+            )
       ]
 
   covered : (t : NumberSet) → MeetsEach justs t → (l : Limited) × Contains repairs l × IsPart l.members t
@@ -47,16 +55,24 @@ module _ (holds : NumberSet → Type 0) (limit : ℕ) (justs repairs : List Limi
   explored =
       record {
         limits = audited.limits;
-        smallest = λ j listed. record { within = audited.within j listed; yes_set = audited.yes_sets j listed; needed = needed j listed };
+        smallest =
+            λ j listed. record {
+              within = audited.within j listed;
+              yes_set = audited.yes_sets j listed;
+              needed = needed j listed;
+            };
         leaf_limits = λ r listed. ((audited.transversals r).0 listed).0;
         ends = λ r listed. (((audited.transversals r).0 listed).1.within, audited.ends r listed);
         covered = covered;
       }
 
 pub audited_yes : (holds : NumberSet → Type 0) → AuditedAreMinimalYes holds
-audited_yes holds limit justs repairs grows audited = laws_of_lists holds limit justs repairs grows (explored holds limit justs repairs grows audited)
+audited_yes holds limit justs repairs grows audited =
+    laws_of_lists holds limit justs repairs grows (explored holds limit justs repairs grows audited)
 
 pub audited_removals : (holds : NumberSet → Type 0) → AuditedAreMinimalRemovals holds
 audited_removals holds limit justs repairs grows audited r e =
-    let law = laws_of_leaves holds limit justs repairs grows (explored holds limit justs repairs grows audited) r e in
-    (λ listed. law.0 (listed, smallest_hits_alone justs r ((audited.transversals r).0 listed).1), λ smallest. (law.1 smallest).0)
+    let law = laws_of_leaves holds limit justs repairs grows (explored holds limit justs repairs grows audited) r e in (
+      λ listed. law.0 (listed, smallest_hits_alone justs r ((audited.transversals r).0 listed).1),
+      λ smallest. (law.1 smallest).0,
+    )

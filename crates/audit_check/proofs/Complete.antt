@@ -19,28 +19,37 @@ use Rattle.audit_check.specs.Laws.{SoundAuditsListAll}
 use Rattle.audit_check.proofs.Items.{from_map, all_has}
 use Rattle.audit_check.proofs.Follows.{follows_over, follows_not}
 
-module _ (o : Listed) (q : Query) (a : AuditLists) (over : AreOfAxioms o a) (within : All (λ (s : Limited). IsWithin s.limit s.members) (justified_sets a.justifications)) (sound : IsSound o q a) where
+module _ (o : Listed) (q : Query) (a : AuditLists) (over : AreOfAxioms o a)
+    (within : All (λ (s : Limited). IsWithin s.limit s.members) (justified_sets a.justifications))
+    (sound : IsSound o q a) where
   yes_set : (s : Limited) → Contains (justified_sets a.justifications) s → FollowsFrom o.axioms q s.members
   yes_set s listed =
       let j = from_map (λ (x : Justification). x.set) a.justifications s listed in
-      let inside = all_has (λ (x : Limited). IsWithin x.limit x.members) (justified_sets a.justifications) s within listed in
+      let inside =
+      all_has (λ (x : Limited). IsWithin x.limit x.members) (justified_sets a.justifications) s within listed in
       subst (λ (x : Limited). FollowsFrom o.axioms q x.members) j.2
-      (follows_over o j.0.set q j.0.refutation (subst (λ (x : Limited). IsWithin x.limit x.members) (sym j.2) inside) (sound.shown j.0 j.1))
+      (follows_over o j.0.set q j.0.refutation (subst (λ (x : Limited). IsWithin x.limit x.members) (sym j.2) inside)
+      (sound.shown j.0 j.1))
 
   end : (s : Limited) → Contains (repaired_sets a.repairs) s → FollowsFrom o.axioms q (rest s) → ⊥
   end s listed follows =
       let r = from_map (λ (x : Repair). x.set) a.repairs s listed in
-      follows_not o.axioms q r.0 (sound.modelled r.0 r.1) (subst (λ (x : Limited). FollowsFrom o.axioms q (rest x)) (sym r.2) follows)
+      follows_not o.axioms q r.0 (sound.modelled r.0 r.1)
+      (subst (λ (x : Limited). FollowsFrom o.axioms q (rest x)) (sym r.2) follows)
 
   limit_of : (s : Limited) → Contains (justified_sets a.justifications) s → s.limit ≡ length o.axioms
   limit_of s listed =
       let j = from_map (λ (x : Justification). x.set) a.justifications s listed in
-      ap (λ (x : Limited). x.limit) (sym j.2) ∙ all_has (λ (x : Justification). IsOfAxioms o x.set) a.justifications j.0 over.justified j.1
+      ap (λ (x : Limited). x.limit) (sym j.2)
+      ∙ all_has (λ (x : Justification). IsOfAxioms o x.set) a.justifications j.0 over.justified j.1
 
-  audited : IsAudited (FollowsFrom o.axioms q) (length o.axioms) (justified_sets a.justifications) (repaired_sets a.repairs)
+  audited : IsAudited (FollowsFrom o.axioms q) (length o.axioms) (justified_sets a.justifications)
+      (repaired_sets a.repairs)
   audited = record {
     limits = limit_of;
-    within = λ s listed. all_has (λ (x : Limited). IsWithin x.limit x.members) (justified_sets a.justifications) s within listed;
+    within =
+        λ s listed. all_has (λ (x : Limited). IsWithin x.limit x.members) (justified_sets a.justifications) s within
+        listed;
     antichain = sound.antichain;
     yes_sets = yes_set;
     transversals = sound.transversals;
@@ -52,10 +61,18 @@ module _ (o : Listed) (q : Query) (a : AuditLists) (over : AreOfAxioms o a) (wit
 
   lists : ListsAll o q a
   lists = record {
-    justifications = λ s e. subst (λ (x : Limited). Contains (justified_sets a.justifications) s ↔ IsMinimalYes (FollowsFrom o.axioms q) x) (same_set s e)
-        (audited_yes (FollowsFrom o.axioms q) (length o.axioms) (justified_sets a.justifications) (repaired_sets a.repairs) (grows o.axioms q) audited s e);
-    repairs = λ r e. subst (λ (x : Limited). Contains (repaired_sets a.repairs) r ↔ IsMinimalRemoval (FollowsFrom o.axioms q) x) (same_set r e)
-        (audited_removals (FollowsFrom o.axioms q) (length o.axioms) (justified_sets a.justifications) (repaired_sets a.repairs) (grows o.axioms q) audited r e);
+    justifications =
+        λ s e. subst
+        (λ (x : Limited). Contains (justified_sets a.justifications) s ↔ IsMinimalYes (FollowsFrom o.axioms q) x)
+        (same_set s e)
+        (audited_yes (FollowsFrom o.axioms q) (length o.axioms) (justified_sets a.justifications)
+        (repaired_sets a.repairs) (grows o.axioms q) audited s e);
+    repairs =
+        λ r e. subst
+        (λ (x : Limited). Contains (repaired_sets a.repairs) r ↔ IsMinimalRemoval (FollowsFrom o.axioms q) x)
+        (same_set r e)
+        (audited_removals (FollowsFrom o.axioms q) (length o.axioms) (justified_sets a.justifications)
+        (repaired_sets a.repairs) (grows o.axioms q) audited r e);
   }
 
 pub lists_all : SoundAuditsListAll

@@ -1,5 +1,6 @@
 -- Sets that meet each listed set, and what each of their members is there for.
-use Rattle.std.proofs.Common.{◌≡◌, ℕ, zero, suc, ◌+◌, ◌<◌, ◌≤◌, true, eqb, List, ◌⊎◌, refl, sym, ◌∙◌, subst, arith, inl, inr}
+use Rattle.std.proofs.Common.{◌≡◌, ℕ, zero, suc, ◌+◌, ◌<◌, ◌≤◌, true, eqb, List, ◌⊎◌, refl, sym, ◌∙◌, subst, arith, inl}
+use Rattle.std.proofs.Common.{inr}
 use Rattle.std.specs.List.{Contains}
 use Rattle.std.specs.Cmp.{nat_cmp_total}
 use Rattle.std.specs.FinSet as set
@@ -13,26 +14,36 @@ use Rattle.audit_check.specs.Transversals.{IsMinimalTransversal, AreTransversals
 
 -- some listed set has k, and no other member of t
 abbrev pub HitsAt : List Limited → NumberSet → ℕ → Type 0
-HitsAt sets t k = (j : Limited) × Contains sets j × (set.contains j.members k ≡ true) × ((m : ℕ) → set.contains t m ≡ true → set.contains j.members m ≡ true → m ≡ k)
+HitsAt sets t k = (j : Limited) × Contains sets j × (set.contains j.members k ≡ true)
+    × ((m : ℕ) → set.contains t m ≡ true → set.contains j.members m ≡ true → m ≡ k)
 
 apart_or_meet : (s t : NumberSet) → AreApart s t ⊎ DoMeet s t
 apart_or_meet s t = elim (meet_or_apart s t) [ inl m ↦ inr m | inr a ↦ inl a ]
 
 -- some listed set is apart from t, or t meets each
-pub one_apart_or_met : (sets : List Limited) (t : NumberSet) → ((j : Limited) × Contains sets j × AreApart j.members t) ⊎ MeetsEach sets t
-one_apart_or_met sets t = one_or_each (λ (j : Limited). AreApart j.members t) (λ (j : Limited). DoMeet j.members t) (λ j. apart_or_meet j.members t) sets
+pub one_apart_or_met : (sets : List Limited) (t : NumberSet)
+    → ((j : Limited) × Contains sets j × AreApart j.members t) ⊎ MeetsEach sets t
+one_apart_or_met sets t =
+    one_or_each (λ (j : Limited). AreApart j.members t) (λ (j : Limited). DoMeet j.members t)
+    (λ j. apart_or_meet j.members t) sets
 
 -- a set that meets t, but not without k, has k alone
-pub alone_in : (j t : NumberSet) (k : ℕ) → AreApart j (set.remove t k) → (m : ℕ) → set.contains t m ≡ true → set.contains j m ≡ true → m ≡ k
+pub alone_in : (j t : NumberSet) (k : ℕ) → AreApart j (set.remove t k) → (m : ℕ) → set.contains t m ≡ true
+    → set.contains j m ≡ true → m ≡ k
 alone_in j t k apart m in_t in_j =
     elim (cases_eq m k) [
       | inl same ↦ same
       | inr ne ↦ absurd (true≢false (sym (to_without t k m ne in_t) ∙ apart m in_j))
     ]
 
-pub hits_at : (sets : List Limited) (t : NumberSet) (k : ℕ) (j : Limited) → Contains sets j → DoMeet j.members t → AreApart j.members (set.remove t k) → HitsAt sets t k
-hits_at sets t k j listed meet apart =
-    (j, listed, subst (λ (m : ℕ). set.contains j.members m ≡ true) (alone_in j.members t k apart meet.0 meet.2 meet.1) meet.1, alone_in j.members t k apart)
+pub hits_at : (sets : List Limited) (t : NumberSet) (k : ℕ) (j : Limited) → Contains sets j → DoMeet j.members t
+    → AreApart j.members (set.remove t k) → HitsAt sets t k
+hits_at sets t k j listed meet apart = (
+  j,
+  listed,
+  subst (λ (m : ℕ). set.contains j.members m ≡ true) (alone_in j.members t k apart meet.0 meet.2 meet.1) meet.1,
+  alone_in j.members t k apart,
+)
 
 -- ---- smallest ones
 
@@ -45,7 +56,8 @@ smallest_hits_alone sets r minimal k member =
           absurd ((in_without r.members k k back).0 (λ i. k))
     ]
 
-pub alone_is_smallest : (sets : List Limited) (r : Limited) → IsHitAlone sets r → (t : NumberSet) → IsPart t r.members → MeetsEach sets t → IsPart r.members t
+pub alone_is_smallest : (sets : List Limited) (r : Limited) → IsHitAlone sets r → (t : NumberSet) → IsPart t r.members
+    → MeetsEach sets t → IsPart r.members t
 alone_is_smallest sets r alone t part meets k member =
     let hit = alone k member in
     let meet = meets hit.0 hit.1 in
@@ -63,7 +75,8 @@ fewer : (sets : List Limited) (t u : NumberSet) (k : ℕ) → IsPart u t → Hit
 fewer sets t u k part hit = (hit.0, hit.1, hit.2, λ m in_u in_j. hit.3 m (part m in_u) in_j)
 
 -- members above n are needed already; those from n down are let go of, where the others meet each set
-needed_part : (sets : List Limited) (n : ℕ) (t : NumberSet) → MeetsEach sets t → ((k : ℕ) → set.contains t k ≡ true → n < k → HitsAt sets t k)
+needed_part : (sets : List Limited) (n : ℕ) (t : NumberSet) → MeetsEach sets t
+    → ((k : ℕ) → set.contains t k ≡ true → n < k → HitsAt sets t k)
     → (u : NumberSet) × IsPart u t × MeetsEach sets u × ((k : ℕ) → set.contains u k ≡ true → 0 < k → HitsAt sets u k)
 needed_part sets zero t meets needed = (t, λ k h. h, meets, needed)
 needed_part sets (suc n) t meets needed =
@@ -71,13 +84,16 @@ needed_part sets (suc n) t meets needed =
       | inl found ↦
           needed_part sets n t meets
           (λ k member low. elim (cases_eq k (n + 1)) [
-            | inl e ↦ subst (λ (m : ℕ). HitsAt sets t m) (sym e) (hits_at sets t (n + 1) found.0 found.1 (meets found.0 found.1) found.2)
+            | inl e ↦
+                subst (λ (m : ℕ). HitsAt sets t m) (sym e)
+                (hits_at sets t (n + 1) found.0 found.1 (meets found.0 found.1) found.2)
             | inr ne ↦ needed k member (omega arith)
           ])
       | inr each ↦
           let less = needed_part sets n (set.remove t (n + 1)) each
           (λ k member low. let both = in_without t (n + 1) k member in
-          fewer sets t (set.remove t (n + 1)) k (λ m h. (in_without t (n + 1) m h).1) (needed k both.1 (omega (arith, low, both.0)))) in
+          fewer sets t (set.remove t (n + 1)) k (λ m h. (in_without t (n + 1) m h).1)
+          (needed k both.1 (omega (arith, low, both.0)))) in
           (less.0, λ k h. (in_without t (n + 1) k (less.1 k h)).1, less.2, less.3)
     ]
 
@@ -85,17 +101,22 @@ numbers_within : (n k : ℕ) → set.contains (numbers_to n) k ≡ true → (1 �
 unfolding numbers_to
 numbers_within zero k h = absurd (true≢false (sym h ∙ set.contains-empty _ k))
 numbers_within (suc n) k h =
-    elim (or_cases (eqb k (n + 1)) (set.contains (numbers_to n) k) (sym (contains_insert (numbers_to n) (n + 1) k) ∙ h)) [
+    elim
+    (or_cases (eqb k (n + 1)) (set.contains (numbers_to n) k) (sym (contains_insert (numbers_to n) (n + 1) k) ∙ h)) [
       | inl e ↦ let same : k ≡ n + 1 = eqb-true k (n + 1) e in (omega arith, omega arith)
       | inr old ↦ let both = numbers_within n k old in (both.0, omega (arith, both.1))
     ]
 
-module _ (limit : ℕ) (sets : List Limited) (limits : (j : Limited) → Contains sets j → j.limit ≡ limit) (inside : (j : Limited) → Contains sets j → IsWithin j.limit j.members) where
+module _ (limit : ℕ) (sets : List Limited) (limits : (j : Limited) → Contains sets j → j.limit ≡ limit)
+    (inside : (j : Limited) → Contains sets j → IsWithin j.limit j.members) where
   abbrev up_to_limit : NumberSet → NumberSet
   up_to_limit t = set.intersection t (numbers_to limit)
 
-  in_both : (t : NumberSet) (k : ℕ) → set.contains (up_to_limit t) k ≡ true → (set.contains t k ≡ true) × (set.contains (numbers_to limit) k ≡ true)
-  in_both t k h = and_parts (set.contains t k) (set.contains (numbers_to limit) k) (sym (set.contains-intersection nat_cmp_total t (numbers_to limit) k) ∙ h)
+  in_both : (t : NumberSet) (k : ℕ) → set.contains (up_to_limit t) k ≡ true
+      → (set.contains t k ≡ true) × (set.contains (numbers_to limit) k ≡ true)
+  in_both t k h =
+      and_parts (set.contains t k) (set.contains (numbers_to limit) k)
+      (sym (set.contains-intersection nat_cmp_total t (numbers_to limit) k) ∙ h)
 
   still_met : (t : NumberSet) → MeetsEach sets t → MeetsEach sets (up_to_limit t)
   still_met t meets j listed =
@@ -103,12 +124,16 @@ module _ (limit : ℕ) (sets : List Limited) (limits : (j : Limited) → Contain
       let range = inside j listed meet.0 meet.1 in (
         meet.0,
         meet.1,
-        set.contains-intersection nat_cmp_total t (numbers_to limit) meet.0 ∙ rw (meet.2, in_numbers_to limit meet.0 range.0 (subst (λ (n : ℕ). meet.0 ≤ n) (limits j listed) range.1)) refl,
+        set.contains-intersection nat_cmp_total t (numbers_to limit) meet.0
+            ∙ rw (meet.2, in_numbers_to limit meet.0 range.0 (subst (λ (n : ℕ). meet.0 ≤ n) (limits j listed) range.1))
+            refl,
       )
 
-  pub has_smallest : (list : List Limited) → AreTransversals limit sets list → (t : NumberSet) → MeetsEach sets t → HasPart list t
+  pub has_smallest : (list : List Limited) → AreTransversals limit sets list → (t : NumberSet) → MeetsEach sets t
+      → HasPart list t
   has_smallest list are t meets =
-      let found = needed_part sets limit (up_to_limit t) (still_met t meets) (λ k member low. absurd (omega (arith, low, (numbers_within limit k (in_both t k member).1).1))) in
+      let found = needed_part sets limit (up_to_limit t) (still_met t meets)
+      (λ k member low. absurd (omega (arith, low, (numbers_within limit k (in_both t k member).1).1))) in
       let r : Limited = record { limit = limit; members = found.0 } in
       let within : IsWithin limit found.0 = λ k h. numbers_within limit k (in_both t k (found.1 k h)).1 in
       let alone : IsHitAlone sets r = λ k h. found.3 k h (omega (arith, (within k h).0)) in (

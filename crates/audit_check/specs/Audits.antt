@@ -21,10 +21,12 @@ pub record IsAudited (holds : NumberSet → Type 0) (limit : ℕ) (justs repairs
 
 -- the one list has exactly the smallest yes-sets
 abbrev pub AuditedAreMinimalYes : (NumberSet → Type 0) → Type 0
-AuditedAreMinimalYes holds = (limit : ℕ) (justs repairs : List Limited) → Grows holds → IsAudited holds limit justs repairs
+AuditedAreMinimalYes holds = (limit : ℕ) (justs repairs : List Limited) → Grows holds
+    → IsAudited holds limit justs repairs
     → (s : Limited) → s.limit ≡ limit → (Contains justs s ↔ IsMinimalYes holds s)
 
 -- the other one has exactly the smallest sets whose removal leaves no yes-set
 abbrev pub AuditedAreMinimalRemovals : (NumberSet → Type 0) → Type 0
-AuditedAreMinimalRemovals holds = (limit : ℕ) (justs repairs : List Limited) → Grows holds → IsAudited holds limit justs repairs
+AuditedAreMinimalRemovals holds = (limit : ℕ) (justs repairs : List Limited) → Grows holds
+    → IsAudited holds limit justs repairs
     → (r : Limited) → r.limit ≡ limit → (Contains repairs r ↔ IsMinimalRemoval holds r)

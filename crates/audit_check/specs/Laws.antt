@@ -12,8 +12,10 @@ use Rattle.audit_check.specs.declared.verdict.AuditVerdict.{AuditVerdict}
 
 -- the lists of a sound audit over sets of axioms are exactly all justifications and all repairs
 abbrev pub SoundAuditsListAll : Type 0
-SoundAuditsListAll = (o : Listed) (q : Query) (a : AuditLists) → AreOfAxioms o a → All (λ s. IsWithin s.limit s.members) (justified_sets a.justifications) → IsSound o q a → ListsAll o q a
+SoundAuditsListAll = (o : Listed) (q : Query) (a : AuditLists) → AreOfAxioms o a
+    → All (λ s. IsWithin s.limit s.members) (justified_sets a.justifications) → IsSound o q a → ListsAll o q a
 
 -- an audit whose lists are in order has one verdict; a sound one is accepted, since that is a verdict on it
 abbrev pub VerdictsAreUnique : Type 0
-VerdictsAreUnique = (o : Listed) (q : Query) (a : AuditLists) (v w : AuditVerdict) → IsOrdered a.justifications a.repairs → IsVerdict o q a v → IsVerdict o q a w → v ≡ w
+VerdictsAreUnique = (o : Listed) (q : Query) (a : AuditLists) (v w : AuditVerdict)
+    → IsOrdered a.justifications a.repairs → IsVerdict o q a v → IsVerdict o q a w → v ≡ w

@@ -6,7 +6,8 @@ use Rattle.audit_check.specs.Audits.{IsAntichain}
 
 -- the set at the place contains the one at another place
 abbrev pub ContainsAt : List Limited → ℕ → ℕ → Type 0
-ContainsAt sets place j = (¬ (j ≡ place)) × ((d : Limited) → IsPart (slice_index_or sets j d).members (slice_index_or sets place d).members)
+ContainsAt sets place j = (¬ (j ≡ place))
+    × ((d : Limited) → IsPart (slice_index_or sets j d).members (slice_index_or sets place d).members)
 
 -- it contains one at some other place
 abbrev pub ContainsAnother : List Limited → ℕ → Type 0
@@ -14,4 +15,5 @@ ContainsAnother sets place = (j : ℕ) × (j < length sets) × ContainsAt sets p
 
 -- where no set contains one at another place, none contains another one
 abbrev pub NoneContainsAnother : Type 0
-NoneContainsAnother = (sets : List Limited) → ((place : ℕ) → place < length sets → ¬ ContainsAnother sets place) → IsAntichain sets
+NoneContainsAnother = (sets : List Limited) → ((place : ℕ) → place < length sets → ¬ ContainsAnother sets place)
+    → IsAntichain sets

@@ -43,5 +43,7 @@ pub record IsSound (o : Listed) (q : Query) (a : AuditLists) : Type 0 where
 
 -- the lists are exactly all justifications of the query and all its repairs
 pub record ListsAll (o : Listed) (q : Query) (a : AuditLists) : Type 0 where
-  pub justifications : (s : Limited) → s.limit ≡ length o.axioms → (Contains (justified_sets a.justifications) s ↔ IsJustification o.axioms q s.members)
-  pub repairs : (r : Limited) → r.limit ≡ length o.axioms → (Contains (repaired_sets a.repairs) r ↔ IsRepair o.axioms q r.members)
+  pub justifications : (s : Limited) → s.limit ≡ length o.axioms
+      → (Contains (justified_sets a.justifications) s ↔ IsJustification o.axioms q s.members)
+  pub repairs : (r : Limited) → r.limit ≡ length o.axioms
+      → (Contains (repaired_sets a.repairs) r ↔ IsRepair o.axioms q r.members)

@@ -36,19 +36,26 @@ GrowsBy sets hit barred old new = (x : Limited) → Contains new x ↔ (Contains
 -- some set without k meets the hit set in u alone
 abbrev pub IsFree : List Limited → Limited → ℕ → ℕ → Type 0
 IsFree sets hit u k = (j : Limited) × Contains sets j × (set.contains j.members u ≡ true)
-    × ((m : ℕ) → set.contains hit.members m ≡ true → set.contains j.members m ≡ true → m ≡ u) × (set.contains j.members k ≡ false)
+    × ((m : ℕ) → set.contains hit.members m ≡ true → set.contains j.members m ≡ true → m ≡ u)
+    × (set.contains j.members k ≡ false)
 
 -- the numbers up to the limit, without the barred ones, with which each member is still hit alone
 abbrev pub AreCandidates : List Limited → Limited → Limited → NumberSet → Type 0
 AreCandidates sets hit barred candidates = (k : ℕ)
-    → (set.contains candidates k ≡ true) ↔ ((1 ≤ k) × (k ≤ hit.limit) × (set.contains barred.members k ≡ false) × ((u : ℕ) → set.contains hit.members u ≡ true → IsFree sets hit u k))
+    → (set.contains candidates k ≡ true)
+    ↔ ((1 ≤ k) × (k ≤ hit.limit) × (set.contains barred.members k ≡ false)
+    × ((u : ℕ) → set.contains hit.members u ≡ true → IsFree sets hit u k))
 
 -- the numbers of the set that is not met, without the barred ones, with which each member is hit alone
 abbrev pub AreChoices : List Limited → Limited → Limited → Limited → NumberSet → Type 0
-AreChoices sets unmet hit barred fitting = (k : ℕ) → (set.contains fitting k ≡ true) ↔ ((set.contains unmet.members k ≡ true) × (set.contains barred.members k ≡ false) × IsHitAlone sets (with_number hit k))
+AreChoices sets unmet hit barred fitting = (k : ℕ)
+    → (set.contains fitting k ≡ true)
+    ↔ ((set.contains unmet.members k ≡ true) × (set.contains barred.members k ≡ false)
+    × IsHitAlone sets (with_number hit k))
 
 abbrev pub LeavesFree : List Limited → Limited → ℕ → NumberSet → NumberSet → Type 0
-LeavesFree sets hit u old new = (k : ℕ) → (set.contains new k ≡ true) ↔ ((set.contains old k ≡ true) × IsFree sets hit u k)
+LeavesFree sets hit u old new = (k : ℕ)
+    → (set.contains new k ≡ true) ↔ ((set.contains old k ≡ true) × IsFree sets hit u k)
 
 -- j has u, and none of the others
 abbrev pub HasAlone : Limited → NumberSet → ℕ → Type 0
@@ -56,11 +63,17 @@ HasAlone j others u = (set.contains j.members u ≡ true) × ¬ DoMeet j.members
 
 -- of the numbers those that each of the sets has that hits u alone
 abbrev pub AreShared : List Limited → NumberSet → ℕ → NumberSet → NumberSet → Type 0
-AreShared sets others u fitting blocked = (k : ℕ) → (set.contains blocked k ≡ true) ↔ ((set.contains fitting k ≡ true) × ((j : Limited) → Contains sets j → HasAlone j others u → set.contains j.members k ≡ true))
+AreShared sets others u fitting blocked = (k : ℕ)
+    → (set.contains blocked k ≡ true)
+    ↔ ((set.contains fitting k ≡ true)
+    × ((j : Limited) → Contains sets j → HasAlone j others u → set.contains j.members k ≡ true))
 
 -- those numbers are kept that are in j, should j have u alone
 abbrev pub KeepsShared : Limited → NumberSet → ℕ → NumberSet → NumberSet → Type 0
-KeepsShared j others u old new = (k : ℕ) → (set.contains new k ≡ true) ↔ ((set.contains old k ≡ true) × (HasAlone j others u → set.contains j.members k ≡ true))
+KeepsShared j others u old new = (k : ℕ)
+    → (set.contains new k ≡ true)
+    ↔ ((set.contains old k ≡ true) × (HasAlone j others u → set.contains j.members k ≡ true))
 
 abbrev pub KeepsCommon : NumberSet → NumberSet → NumberSet → Type 0
-KeepsCommon other old new = (k : ℕ) → (set.contains new k ≡ true) ↔ ((set.contains old k ≡ true) × (set.contains other k ≡ true))
+KeepsCommon other old new = (k : ℕ)
+    → (set.contains new k ≡ true) ↔ ((set.contains old k ≡ true) × (set.contains other k ≡ true))

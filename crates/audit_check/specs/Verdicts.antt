@@ -42,8 +42,11 @@ IsFirstFailing holds count n = (place : ℕ) × (n ≡ clamped_line (place + 1))
 -- does either, and the repairs are not the smallest sets that meet each justification.
 abbrev pub IsVerdict : Listed → Query → AuditLists → AuditVerdict → Type 0
 IsVerdict o q a verdict.Accepted = IsSound o q a
-IsVerdict o q a (verdict.Justification n) = IsFirstFailing (JustificationHolds o q a.justifications) (length a.justifications) n
-IsVerdict o q a (verdict.Repair n) = JustificationsHold o q a.justifications (length a.justifications) × IsFirstFailing (RepairHolds o.axioms q a.repairs) (length a.repairs) n
+IsVerdict o q a (verdict.Justification n) =
+    IsFirstFailing (JustificationHolds o q a.justifications) (length a.justifications) n
+IsVerdict o q a (verdict.Repair n) = JustificationsHold o q a.justifications (length a.justifications)
+    × IsFirstFailing (RepairHolds o.axioms q a.repairs) (length a.repairs) n
 IsVerdict o q a verdict.Transversal =
-    JustificationsHold o q a.justifications (length a.justifications) × RepairsHold o.axioms q a.repairs (length a.repairs)
+    JustificationsHold o q a.justifications (length a.justifications)
+    × RepairsHold o.axioms q a.repairs (length a.repairs)
     × (¬ AreTransversals (length o.axioms) (justified_sets a.justifications) (repaired_sets a.repairs))

@@ -4,7 +4,8 @@ ghost use Rattle.std.specs.Prelude.{◌≡◌, ◌≤◌, IfOk, OnOk};
 ghost use Rattle.std.specs.List.{All, Contains};
 ghost use Rattle.axiom_sets.specs.Sets.{IsWithin};
 ghost use Rattle.pinpointing_specs.specs.Smallest.{AreApart};
-ghost use Rattle.audit_check.specs.Territory.{AreCandidates, AreChoices, AreShared, LeavesFree, KeepsShared, KeepsCommon};
+ghost use Rattle.audit_check.specs.Territory.{AreCandidates, AreChoices, AreShared, LeavesFree, KeepsShared};
+ghost use Rattle.audit_check.specs.Territory.{KeepsCommon};
 
 use axiom_sets::AxiomSet;
 use shq_terms::NoMemory;

@@ -6,7 +6,8 @@ ghost use Rattle.finite_model.specs.ModelLists.{meaning};
 ghost use Rattle.audit_file.specs.AuditLists.{justified_sets};
 ghost use Rattle.audit_file.specs.Fitting.{IsOfAxioms};
 ghost use Rattle.audit_check.specs.Sound.{IsShown, meets_rest, IsCounterModel};
-ghost use Rattle.audit_check.specs.Verdicts.{JustificationHolds, RepairHolds, JustificationsHold, RepairsHold, FailsFirst};
+ghost use Rattle.audit_check.specs.Verdicts.{JustificationHolds, RepairHolds, JustificationsHold, RepairsHold};
+ghost use Rattle.audit_check.specs.Verdicts.{FailsFirst};
 
 use crate::listed::contains_another;
 use audit_file::{Justification, Repair};

@@ -1,5 +1,7 @@
 -- The first malformed line of a block is that of the lines in which it stands.
-use Rattle.std.proofs.Common.{◌≡◌, ℕ, zero, suc, ◌+◌, ◌-◌, ◌<◌, ◌≤◌, Bool, true, false, ◌||◌, List, [], ◌∷◌, ◌++◌, length, take, drop, Ok, Err, Option, Some, None, refl, ap, sym, ◌∙◌, subst, arith, append_assoc, inl, inr}
+use Rattle.std.proofs.Common.{◌≡◌, ℕ, zero, suc, ◌+◌, ◌-◌, ◌<◌, ◌≤◌, Bool, true, false, ◌||◌, List, [], ◌∷◌, ◌++◌}
+use Rattle.std.proofs.Common.{length, take, drop, Ok, Err, Option, Some, None, refl, ap, sym, ◌∙◌, subst, arith}
+use Rattle.std.proofs.Common.{append_assoc, inl, inr}
 use Rattle.std.specs.Prelude.{if◌then◌else◌}
 use Rattle.std.specs.List.{list_any}
 use Rattle.std.proofs.lemmas.Bool.{cases_lt, cases_Bool, or_left, or_right, false≢true}
@@ -29,17 +31,24 @@ module _ {B K : Type 0} (read : B → List ℕ → Option B) (whole : B → K) w
   body_has b [] k h = let clash : ◌≡◌ {A = Option K} None (Some k) = h in absurd (cc clash)
   body_has b (l ∷ ls) k h = by (λ next. body_has next ls k) (is_end_line l) refl
     where
-      by : ((next : B) → read_body read whole next ls ≡ Some k → has_end ls ≡ true) → (e : Bool) → is_end_line l ≡ e → has_end (l ∷ ls) ≡ true
+      by : ((next : B) → read_body read whole next ls ≡ Some k → has_end ls ≡ true) → (e : Bool) → is_end_line l ≡ e
+          → has_end (l ∷ ls) ≡ true
       by later true ends = or_left (is_end_line l) (has_end ls) ends
       by later false goes = by_line (read b l) refl
         where
           by_line : (r : Option B) → read b l ≡ r → has_end (l ∷ ls) ≡ true
-          by_line None bad = let clash : ◌≡◌ {A = Option K} None (Some k) = sym (body_line read whole b l ls None goes bad) ∙ h in absurd (cc clash)
-          by_line (Some next) good = or_right (is_end_line l) (has_end ls) (later next (sym (body_line read whole b l ls (Some next) goes good) ∙ h))
+          by_line None bad =
+              let clash : ◌≡◌ {A = Option K} None (Some k) = sym (body_line read whole b l ls None goes bad) ∙ h in
+              absurd (cc clash)
+          by_line (Some next) good =
+              or_right (is_end_line l) (has_end ls)
+              (later next (sym (body_line read whole b l ls (Some next) goes good) ∙ h))
 
-pub line_has : {A K : Type 0} (first : List ℕ → Option A) (rest : A → List (List ℕ) → Option K) → ((a : A) → HasEnd (rest a)) → HasEnd (after_line first rest)
+pub line_has : {A K : Type 0} (first : List ℕ → Option A) (rest : A → List (List ℕ) → Option K)
+    → ((a : A) → HasEnd (rest a)) → HasEnd (after_line first rest)
 line_has {K = K} first rest has [] k h = let clash : ◌≡◌ {A = Option K} None (Some k) = h in absurd (cc clash)
-line_has first rest has (l ∷ ls) k h = let a = and_then_some (λ b. rest b ls) (first l) k h in or_right (is_end_line l) (has_end ls) (has a.0 ls k a.2)
+line_has first rest has (l ∷ ls) k h =
+    let a = and_then_some (λ b. rest b ls) (first l) k h in or_right (is_end_line l) (has_end ls) (has a.0 ls k a.2)
 
 one_end : (l : List ℕ) (ls : List (List ℕ)) → is_end_line l ≡ true → block_len (l ∷ ls) ≡ 1
 one_end l ls is = ap (λ b. if b then 1 else suc (block_len ls)) is
@@ -67,7 +76,9 @@ end_long : (ls more : List (List ℕ)) → has_end ls ≡ true → block_len (ls
 end_long [] more some = absurd (false≢true some)
 end_long (l ∷ ls) more some = elim (cases_Bool (is_end_line l)) [
   | inl ends ↦ one_end l (ls ++ more) ends ∙ sym (one_end l ls ends)
-  | inr goes ↦ block_more l (ls ++ more) goes ∙ ap suc (end_long ls more (sym (ap (λ b. b || has_end ls) goes) ∙ some)) ∙ sym (block_more l ls goes)
+  | inr goes ↦
+      block_more l (ls ++ more) goes ∙ ap suc (end_long ls more (sym (ap (λ b. b || has_end ls) goes) ∙ some))
+      ∙ sym (block_more l ls goes)
 ]
 
 -- before the end of a block there is none
@@ -93,11 +104,14 @@ end_within ls lt = elim (cases_Bool (has_end (block ls))) [
     at_end [] some = some
     at_end (l ∷ xs) some = elim (cases_Bool (is_end_line l)) [
       | inl ends ↦ ap (λ n. has_end (take n (l ∷ xs))) (one_end l xs ends) ∙ or_left (is_end_line l) false ends
-      | inr goes ↦ ap (λ n. has_end (take n (l ∷ xs))) (block_more l xs goes) ∙ or_right (is_end_line l) (has_end (block xs)) (at_end xs (sym (ap (λ b. b || has_end xs) goes) ∙ some))
+      | inr goes ↦
+          ap (λ n. has_end (take n (l ∷ xs))) (block_more l xs goes)
+          ∙ or_right (is_end_line l) (has_end (block xs)) (at_end xs (sym (ap (λ b. b || has_end xs) goes) ∙ some))
     ]
 
 -- lines without one are fewer than the block that they begin
-longer_than : (xs : List (List ℕ)) (l : List ℕ) (rest : List (List ℕ)) → has_end xs ≡ false → length xs < block_len (xs ++ l ∷ rest)
+longer_than : (xs : List (List ℕ)) (l : List ℕ) (rest : List (List ℕ)) → has_end xs ≡ false
+    → length xs < block_len (xs ++ l ∷ rest)
 longer_than [] l rest none = elim (cases_Bool (is_end_line l)) [
   | inl ends ↦ omega (arith, one_end l rest ends)
   | inr goes ↦ omega (arith, block_more l rest goes)
@@ -112,14 +126,18 @@ longer_than (x ∷ xs) l rest none = elim (cases_Bool (is_end_line x)) [
 no_end_front : (xs : List (List ℕ)) (j : ℕ) → has_end xs ≡ false → has_end (take j xs) ≡ false
 no_end_front xs j none = elim (cases_Bool (has_end (take j xs))) [
   | inr out ↦ out
-  | inl some ↦ absurd (false≢true (sym none ∙ ap has_end (sym (take-append-drop j xs)) ∙ list_any-append is_end_line (take j xs) (drop j xs) ∙ or_left (has_end (take j xs)) (has_end (drop j xs)) some))
+  | inl some ↦
+      absurd (false≢true
+      (sym none ∙ ap has_end (sym (take-append-drop j xs)) ∙ list_any-append is_end_line (take j xs) (drop j xs)
+      ∙ or_left (has_end (take j xs)) (has_end (drop j xs)) some))
 ]
 
 -- one line more
 take_one : (k : ℕ) (ls : List (List ℕ)) → k < length ls → (l : List ℕ) × (take (suc k) ls ≡ take k ls ++ l ∷ [])
 take_one k [] lt = absurd (omega (arith, lt))
 take_one zero (l ∷ ls) lt = (l, refl)
-take_one (suc k) (l ∷ ls) lt = let r = take_one k ls (omega (arith, lt)) in (r.0, ap (λ (xs : List (List ℕ)). l ∷ xs) r.1)
+take_one (suc k) (l ∷ ls) lt =
+    let r = take_one k ls (omega (arith, lt)) in (r.0, ap (λ (xs : List (List ℕ)). l ∷ xs) r.1)
 
 -- ---- texts that begin so
 
@@ -128,7 +146,8 @@ module _ {K : Type 0} (reading : List (List ℕ) → Option K) where
   begins_front xs i some = (
     drop i xs ++ some.0,
     some.1,
-    ap reading (sym (append_assoc (take i xs) (drop i xs) some.0) ∙ ap (λ ys. ys ++ some.0) (take-append-drop i xs)) ∙ some.2,
+    ap reading (sym (append_assoc (take i xs) (drop i xs) some.0) ∙ ap (λ ys. ys ++ some.0) (take-append-drop i xs))
+        ∙ some.2,
   )
 
   begins_itself : (xs : List (List ℕ)) (k : K) → reading xs ≡ Some k → BeginsText reading xs
@@ -136,22 +155,28 @@ module _ {K : Type 0} (reading : List (List ℕ) → Option K) where
 
 -- ---- the reading of a block
 
-module _ {K : Type 0} (reading : List (List ℕ) → Option K) (malformed : List (List ℕ) → Option ℕ) (tells : TellsMalformed 2 reading malformed) (ends : EndsThere reading) (has : HasEnd reading) where
+module _ {K : Type 0} (reading : List (List ℕ) → Option K) (malformed : List (List ℕ) → Option ℕ)
+    (tells : TellsMalformed 2 reading malformed) (ends : EndsThere reading) (has : HasEnd reading) where
   -- where a block is no text, it is told where it stops
   told_at : (zs : List (List ℕ)) → reading zs ≡ None → (i : ℕ) × (malformed zs ≡ Some (2 + i)) × StopsAfter reading zs i
   told_at zs none = by (malformed zs) refl
     where
       by : (r : Option ℕ) → malformed zs ≡ r → (i : ℕ) × (malformed zs ≡ Some (2 + i)) × StopsAfter reading zs i
-      by None is = let t = tells.unless zs is in let clash : ◌≡◌ {A = Option K} None (Some t.0) = sym none ∙ t.1 in absurd (cc clash)
+      by None is =
+          let t = tells.unless zs is in
+          let clash : ◌≡◌ {A = Option K} None (Some t.0) = sym none ∙ t.1 in absurd (cc clash)
       by (Some p) is = let f = tells.is_first zs p is in (f.0, is ∙ ap Some f.1, f.2)
 
-  stops_with : (n i : ℕ) (ls zs : List (List ℕ)) → block ls ≡ zs → reading zs ≡ None → malformed zs ≡ Some (2 + i) → block_read reading malformed (at_lines n ls) ≡ Err (n + i)
+  stops_with : (n i : ℕ) (ls zs : List (List ℕ)) → block ls ≡ zs → reading zs ≡ None → malformed zs ≡ Some (2 + i)
+      → block_read reading malformed (at_lines n ls) ≡ Err (n + i)
   stops_with n i ls zs is none told =
       let e : n + (2 + i) - 2 ≡ n + i = omega arith in
-      block_none reading malformed (at_lines n ls) (ap reading is ∙ none) ∙ ap (λ r. Err (line_of_block n r)) (ap malformed is ∙ told) ∙ ap Err e
+      block_none reading malformed (at_lines n ls) (ap reading is ∙ none)
+      ∙ ap (λ r. Err (line_of_block n r)) (ap malformed is ∙ told) ∙ ap Err e
 
   -- lines that begin a text and have no end lack just the next line
-  lacks_next : (n : ℕ) (xs : List (List ℕ)) → has_end xs ≡ false → BeginsText reading xs → block_read reading malformed (at_lines n xs) ≡ Err (n + length xs)
+  lacks_next : (n : ℕ) (xs : List (List ℕ)) → has_end xs ≡ false → BeginsText reading xs
+      → block_read reading malformed (at_lines n xs) ≡ Err (n + length xs)
   lacks_next n xs none begins = by (reading xs) refl
     where
       by : (r : Option K) → reading xs ≡ r → block_read reading malformed (at_lines n xs) ≡ Err (n + length xs)
@@ -160,7 +185,9 @@ module _ {K : Type 0} (reading : List (List ℕ) → Option K) (malformed : List
           let t = told_at xs is in
           elim (cases_lt t.0 (length xs)) [
             | inl less ↦ absurd (t.2.stops less (begins_front reading xs (suc t.0) begins))
-            | inr more ↦ let same : t.0 ≡ length xs = omega (arith, more, t.2.within) in stops_with n t.0 xs xs (no_end_block xs none) is t.1 ∙ ap (λ i. Err (n + i)) same
+            | inr more ↦
+                let same : t.0 ≡ length xs = omega (arith, more, t.2.within) in
+                stops_with n t.0 xs xs (no_end_block xs none) is t.1 ∙ ap (λ i. Err (n + i)) same
           ]
 
   module _ (n : ℕ) (ls : List (List ℕ)) where
@@ -190,21 +217,30 @@ module _ {K : Type 0} (reading : List (List ℕ) → Option K) (malformed : List
               let at : k ≡ block_len ls = omega (arith, more, inside) in
               let all : take k ls ≡ block ls = ap (λ i. take i ls) at in
               let ended : has_end (block ls) ≡ true = ap has_end (sym all) ∙ some in
-              let whole : reading (block ls ++ begins_k.0) ≡ Some begins_k.1 = ap (λ xs. reading (xs ++ begins_k.0)) (sym all) ∙ begins_k.2 in
+              let whole : reading (block ls ++ begins_k.0) ≡ Some begins_k.1 =
+              ap (λ xs. reading (xs ++ begins_k.0)) (sym all) ∙ begins_k.2 in
               let cut : block (block ls ++ begins_k.0) ≡ block ls =
-              ap (λ i. take i (block ls ++ begins_k.0)) (end_long (block ls) begins_k.0 ended) ∙ take-append-le (block_len (block ls)) (block ls) begins_k.0 (block_within (block ls)) ∙ take-take (block_len (block ls)) (block_len ls) ls (omega (arith, block_within (block ls), long)) ∙ twice ended in
-              let clash : ◌≡◌ {A = Option K} None (Some begins_k.1) = sym none ∙ ap reading (sym cut) ∙ (ends (block ls ++ begins_k.0) begins_k.1 whole).0 in
+              ap (λ i. take i (block ls ++ begins_k.0)) (end_long (block ls) begins_k.0 ended)
+              ∙ take-append-le (block_len (block ls)) (block ls) begins_k.0 (block_within (block ls))
+              ∙ take-take (block_len (block ls)) (block_len ls) ls (omega (arith, block_within (block ls), long))
+              ∙ twice ended in
+              let clash : ◌≡◌ {A = Option K} None (Some begins_k.1) =
+              sym none ∙ ap reading (sym cut) ∙ (ends (block ls ++ begins_k.0) begins_k.1 whole).0 in
               absurd (cc clash)
         ]
       ]
         where
           twice : has_end (block ls) ≡ true → take (block_len (block ls)) ls ≡ block ls
-          twice ended = ap (λ i. take i ls) (sym (end_long (block ls) (drop (block_len ls) ls) ended) ∙ ap block_len (take-append-drop (block_len ls) ls))
+          twice ended =
+              ap (λ i. take i ls)
+              (sym (end_long (block ls) (drop (block_len ls) ls) ended)
+              ∙ ap block_len (take-append-drop (block_len ls) ls))
 
       before : (j : ℕ) → j ≤ k → block_read reading malformed (at_lines n (take j ls)) ≡ Err (n + j)
       before j le =
           let front : take j (take k ls) ≡ take j ls = take-take j k ls le in
-          lacks_next n (take j ls) (ap has_end (sym front) ∙ no_end_front (take k ls) j not_ended) (subst (BeginsText reading) front (begins_front reading (take k ls) j begins_k))
+          lacks_next n (take j ls) (ap has_end (sym front) ∙ no_end_front (take k ls) j not_ended)
+          (subst (BeginsText reading) front (begins_front reading (take k ls) j begins_k))
           ∙ ap (λ i. Err (n + i)) (short j (omega (arith, le, inside)))
 
       within_block : k < length ls → k < block_len ls
@@ -212,7 +248,8 @@ module _ {K : Type 0} (reading : List (List ℕ) → Option K) (malformed : List
         | inl less ↦ less
         | inr more ↦
             let same : k ≡ block_len ls = omega (arith, more, inside) in
-            absurd (false≢true (sym not_ended ∙ ap (λ i. has_end (take i ls)) same ∙ end_within ls (omega (arith, lt, same))))
+            absurd
+            (false≢true (sym not_ended ∙ ap (λ i. has_end (take i ls)) same ∙ end_within ls (omega (arith, lt, same))))
       ]
 
       module _ (lt : k < length ls) (more : List (List ℕ)) where
@@ -220,7 +257,9 @@ module _ {K : Type 0} (reading : List (List ℕ) → Option K) (malformed : List
         ys = take (suc k) ls
 
         no_text : BeginsText reading (take (suc k) ls) → ⊥
-        no_text begins = stop.stops (omega (arith, within_block lt, long)) (subst (BeginsText reading) (sym (front_of (suc k) (omega (arith, within_block lt)))) begins)
+        no_text begins =
+            stop.stops (omega (arith, within_block lt, long))
+            (subst (BeginsText reading) (sym (front_of (suc k) (omega (arith, within_block lt)))) begins)
 
         abbrev all : List (List ℕ)
         all = take (suc k) ls ++ more
@@ -232,22 +271,31 @@ module _ {K : Type 0} (reading : List (List ℕ) → Option K) (malformed : List
         block_has : suc k ≤ block_len all
         block_has =
             let one = take_one k ls lt in
-            let e : all ≡ take k ls ++ one.0 ∷ more = ap (λ xs. xs ++ more) one.1 ∙ append_assoc (take k ls) (one.0 ∷ []) more in
+            let e : all ≡ take k ls ++ one.0 ∷ more =
+            ap (λ xs. xs ++ more) one.1 ∙ append_assoc (take k ls) (one.0 ∷ []) more in
             let l = longer_than (take k ls) one.0 more not_ended in
             omega (arith, l, ap block_len e, short k inside)
 
         front_is : take (suc k) (block all) ≡ take (suc k) ls
-        front_is = take-take (suc k) (block_len all) all block_has ∙ take-append-le (suc k) (take (suc k) ls) more (omega (arith, ys_long)) ∙ take_all (suc k) (take (suc k) ls) (omega (arith, ys_long))
+        front_is =
+            take-take (suc k) (block_len all) all block_has
+            ∙ take-append-le (suc k) (take (suc k) ls) more (omega (arith, ys_long))
+            ∙ take_all (suc k) (take (suc k) ls) (omega (arith, ys_long))
 
         no_more : (i : ℕ) → k < i → BeginsText reading (take i (block all)) → ⊥
-        no_more i less begins = no_text (subst (BeginsText reading) (take-take (suc k) i (block all) (omega (arith, less)) ∙ front_is) (begins_front reading (take i (block all)) (suc k) begins))
+        no_more i less begins =
+            no_text (subst (BeginsText reading) (take-take (suc k) i (block all) (omega (arith, less)) ∙ front_is)
+            (begins_front reading (take i (block all)) (suc k) begins))
 
         is_none : reading (block all) ≡ None
         is_none = by (reading (block all)) refl
           where
             by : (r : Option K) → reading (block all) ≡ r → r ≡ None
             by None is = refl
-            by (Some q) is = absurd (no_text (subst (BeginsText reading) front_is (begins_front reading (block all) (suc k) (begins_itself reading (block all) q is))))
+            by (Some q) is =
+                absurd (no_text
+                (subst (BeginsText reading) front_is
+                (begins_front reading (block all) (suc k) (begins_itself reading (block all) q is))))
 
         all_long : suc k ≤ length (block all)
         all_long = let l = length-take (block_len all) all in omega (arith, l, block_has, block_within all)
@@ -258,19 +306,28 @@ module _ {K : Type 0} (reading : List (List ℕ) → Option K) (malformed : List
             elim (cases_lt t.0 k) [
               | inl less ↦
                   absurd (t.2.stops (omega (arith, less, all_long))
-                  (subst (BeginsText reading) (take-take (suc t.0) k ls (omega (arith, less)) ∙ sym (take-take (suc t.0) (suc k) ls (omega (arith, less))) ∙ ap (take (suc t.0)) (sym front_is) ∙ take-take (suc t.0) (suc k) (block all) (omega (arith, less)))
+                  (subst (BeginsText reading)
+                  (take-take (suc t.0) k ls (omega (arith, less))
+                  ∙ sym (take-take (suc t.0) (suc k) ls (omega (arith, less))) ∙ ap (take (suc t.0)) (sym front_is)
+                  ∙ take-take (suc t.0) (suc k) (block all) (omega (arith, less)))
                   (begins_front reading (take k ls) (suc t.0) begins_k)))
               | inr more' ↦ elim (cases_lt k t.0) [
                 | inl beyond ↦ absurd (no_more t.0 beyond t.2.begins)
-                | inr less ↦ let same : t.0 ≡ k = omega (arith, more', less) in stops_with n t.0 all (block all) refl is_none t.1 ∙ ap (λ i. Err (n + i)) same
+                | inr less ↦
+                    let same : t.0 ≡ k = omega (arith, more', less) in
+                    stops_with n t.0 all (block all) refl is_none t.1 ∙ ap (λ i. Err (n + i)) same
               ]
             ]
 
-  block_bad : (n : ℕ) (ls : List (List ℕ)) (m : ℕ) → block_read reading malformed (at_lines n ls) ≡ Err m → (k : ℕ) × (m ≡ n + k) × Stops (block_read reading malformed) n ls k
+  block_bad : (n : ℕ) (ls : List (List ℕ)) (m : ℕ) → block_read reading malformed (at_lines n ls) ≡ Err m
+      → (k : ℕ) × (m ≡ n + k) × Stops (block_read reading malformed) n ls k
   block_bad n ls m h = by (reading (block ls)) refl
     where
       by : (r : Option K) → reading (block ls) ≡ r → (k : ℕ) × (m ≡ n + k) × Stops (block_read reading malformed) n ls k
-      by (Some q) is = let clash : ◌≡◌ {A = Reads K} (Ok (q, behind_block (at_lines n ls))) (Err m) = sym (block_ok reading malformed (at_lines n ls) q is) ∙ h in absurd (cc clash)
+      by (Some q) is =
+          let clash : ◌≡◌ {A = Reads K} (Ok (q, behind_block (at_lines n ls))) (Err m) =
+          sym (block_ok reading malformed (at_lines n ls) q is) ∙ h in
+          absurd (cc clash)
       by None is =
           let t = told_at (block ls) is in
           let same : n + t.0 ≡ m = cc (sym (stops_with n t.0 ls (block ls) refl is t.1) ∙ h) in (
@@ -283,15 +340,21 @@ module _ {K : Type 0} (reading : List (List ℕ) → Option K) (malformed : List
             },
           )
 
-  block_good : (n : ℕ) (ls : List (List ℕ)) (a : K) (next : Ahead) → ◌≡◌ {A = Reads K} (block_read reading malformed (at_lines n ls)) (Ok (a, next)) → (c : ℕ) × (next ≡ at_lines (n + c) (drop c ls)) × Takes (block_read reading malformed) n ls c a
+  block_good : (n : ℕ) (ls : List (List ℕ)) (a : K) (next : Ahead)
+      → ◌≡◌ {A = Reads K} (block_read reading malformed (at_lines n ls)) (Ok (a, next))
+      → (c : ℕ) × (next ≡ at_lines (n + c) (drop c ls)) × Takes (block_read reading malformed) n ls c a
   block_good n ls a next h = by (reading (block ls)) refl
     where
-      by : (r : Option K) → reading (block ls) ≡ r → (c : ℕ) × (next ≡ at_lines (n + c) (drop c ls)) × Takes (block_read reading malformed) n ls c a
+      by : (r : Option K) → reading (block ls) ≡ r
+          → (c : ℕ) × (next ≡ at_lines (n + c) (drop c ls)) × Takes (block_read reading malformed) n ls c a
       by None is =
           let t = told_at (block ls) is in
-          let clash : ◌≡◌ {A = Reads K} (Err (n + t.0)) (Ok (a, next)) = sym (stops_with n t.0 ls (block ls) refl is t.1) ∙ h in absurd (cc clash)
+          let clash : ◌≡◌ {A = Reads K} (Err (n + t.0)) (Ok (a, next)) =
+          sym (stops_with n t.0 ls (block ls) refl is t.1) ∙ h in
+          absurd (cc clash)
       by (Some q) is =
-          let same : ◌≡◌ {A = K × Ahead} (q, behind_block (at_lines n ls)) (a, next) = cc (sym (block_ok reading malformed (at_lines n ls) q is) ∙ h) in
+          let same : ◌≡◌ {A = K × Ahead} (q, behind_block (at_lines n ls)) (a, next) =
+          cc (sym (block_ok reading malformed (at_lines n ls) q is) ∙ h) in
           let c = block_len ls in
           let ended = has (block ls) q is in (
             c,
@@ -299,13 +362,20 @@ module _ {K : Type 0} (reading : List (List ℕ) → Option K) (malformed : List
             record {
               within = block_within ls;
               before = λ j lt.
-                  lacks_next n (take j ls) (end_behind ls j lt) (subst (BeginsText reading) (front_of n ls j (omega (arith, lt))) (begins_front reading (block ls) j (begins_itself reading (block ls) q is))) ∙ ap (λ i. Err (n + i)) (short n ls j (omega (arith, lt)));
+                  lacks_next n (take j ls) (end_behind ls j lt)
+                  (subst (BeginsText reading) (front_of n ls j (omega (arith, lt)))
+                  (begins_front reading (block ls) j (begins_itself reading (block ls) q is)))
+                  ∙ ap (λ i. Err (n + i)) (short n ls j (omega (arith, lt)));
               same = λ more.
                   let all = block ls ++ more in
-                  let len : block_len all ≡ c = end_long (block ls) more ended ∙ sym (end_long (block ls) (drop c ls) ended) ∙ ap block_len (take-append-drop c ls) in
+                  let len : block_len all ≡ c =
+                  end_long (block ls) more ended ∙ sym (end_long (block ls) (drop c ls) ended)
+                  ∙ ap block_len (take-append-drop c ls) in
                   let l = long n ls in
-                  let cut : block all ≡ block ls = ap (λ i. take i all) (len ∙ sym l) ∙ take-append_seam (block ls) more in
-                  let behind : drop (block_len all) all ≡ more = ap (λ i. drop i all) (len ∙ sym l) ∙ drop-append_seam (block ls) more in
+                  let cut : block all ≡ block ls =
+                  ap (λ i. take i all) (len ∙ sym l) ∙ take-append_seam (block ls) more in
+                  let behind : drop (block_len all) all ≡ more =
+                  ap (λ i. drop i all) (len ∙ sym l) ∙ drop-append_seam (block ls) more in
                   block_ok reading malformed (at_lines n all) q (ap reading cut ∙ is)
                   ∙ (λ i. Ok ((ap (λ (p : K × Ahead). p.0) same) i, at_lines (n + len i) (behind i)));
             },

@@ -14,7 +14,8 @@ use Rattle.refutation_tree.specs.Written.{refutation_text}
 use Rattle.finite_model.specs.Written.{model_text}
 use Rattle.audit_file.specs.AuditLists.{AuditLists}
 use Rattle.audit_file.specs.Fitting.{IsOfAxioms}
-use Rattle.audit_file.specs.Written.{set_text, count_text, justification_text, repair_text, justifications_text, repairs_text, audit_text, IsSetOf, WhatIsWrittenIsRead}
+use Rattle.audit_file.specs.Written.{set_text, count_text, justification_text, repair_text, justifications_text}
+use Rattle.audit_file.specs.Written.{repairs_text, audit_text, IsSetOf, WhatIsWrittenIsRead}
 use Rattle.audit_file.specs.declared.entries.Justification.{Justification}
 use Rattle.audit_file.specs.declared.entries.Repair.{Repair}
 use Rattle.audit_file.proofs.TextBack.{audits_back}
@@ -24,7 +25,8 @@ abbrev feeds : List ℕ → ℕ
 feeds t = count_by (λ b. nat_eq b 10) t
 
 lines_count : (t : List ℕ) → length (lines t) ≡ feeds t + 1
-lines_count t = length-map (slice_split (λ b. nat_eq b 10) t) strip_carriage_return ∙ length-slice_split (λ b. nat_eq b 10) t
+lines_count t =
+    length-map (slice_split (λ b. nat_eq b 10) t) strip_carriage_return ∙ length-slice_split (λ b. nat_eq b 10) t
 
 feeds_both : (a b : List ℕ) → feeds (a ++ b) ≡ feeds a + feeds b
 feeds_both a b = sum_by-append (λ c. cond (nat_eq c 10) 1 0) a b
@@ -33,12 +35,18 @@ feeds_fed : (l : List ℕ) → 1 ≤ feeds (fed l)
 feeds_fed l = let e = feeds_both l (10 ∷ []) in let one : feeds (10 ∷ []) ≡ 1 = refl in omega (arith, e, one)
 
 -- as many as there are items, if each has one
-each_feeds : {X : Type 0} (f : X → List ℕ) → ((x : X) → 1 ≤ feeds (f x)) → (xs : List X) → length xs ≤ feeds (flat_map f xs)
+each_feeds : {X : Type 0} (f : X → List ℕ) → ((x : X) → 1 ≤ feeds (f x)) → (xs : List X)
+    → length xs ≤ feeds (flat_map f xs)
 each_feeds f one [] = omega arith
-each_feeds f one (x ∷ xs) = let e = feeds_both (f x) (flat_map f xs) in let first = one x in let more = each_feeds f one xs in omega (arith, e, first, more)
+each_feeds f one (x ∷ xs) =
+    let e = feeds_both (f x) (flat_map f xs) in
+    let first = one x in let more = each_feeds f one xs in omega (arith, e, first, more)
 
 set_feeds : (s : Limited) (t : List ℕ) → 1 ≤ feeds (set_text s ++ t)
-set_feeds s t = let e = feeds_both (set_text s) t in let first : 1 ≤ feeds (set_text s) = feeds_fed (line_of (codes "set") (map decimal (member_list s))) in omega (arith, e, first)
+set_feeds s t =
+    let e = feeds_both (set_text s) t in
+    let first : 1 ≤ feeds (set_text s) = feeds_fed (line_of (codes "set") (map decimal (member_list s))) in
+    omega (arith, e, first)
 
 module _ (o : Listed) (a : AuditLists) where
   abbrev js : List ℕ
@@ -49,8 +57,12 @@ module _ (o : Listed) (a : AuditLists) where
 
   js_feeds : length a.justifications ≤ feeds js
   js_feeds =
-      let e = feeds_both (count_text (codes "justifications") (length a.justifications)) (flat_map (justification_text o) a.justifications) in
-      let more = each_feeds (justification_text o) (λ (j : Justification). set_feeds j.set (refutation_text o j.refutation)) a.justifications in
+      let e =
+      feeds_both (count_text (codes "justifications") (length a.justifications))
+      (flat_map (justification_text o) a.justifications) in
+      let more =
+      each_feeds (justification_text o) (λ (j : Justification). set_feeds j.set (refutation_text o j.refutation))
+      a.justifications in
       omega (arith, e, more)
 
   rs_feeds : length a.repairs ≤ feeds rs
@@ -71,7 +83,8 @@ module _ (o : Listed) (a : AuditLists) where
       let all = lines_count (audit_text o a) in
       (omega (arith, h, all, whole_feeds, js_feeds), omega (arith, h, all, whole_feeds, rs_feeds))
 
-of_both : {X : Type 0} (P Q R : X → Type 0) → ((x : X) → P x → Q x → R x) → (xs : List X) → All P xs → All Q xs → All R xs
+of_both : {X : Type 0} (P Q R : X → Type 0) → ((x : X) → P x → Q x → R x) → (xs : List X) → All P xs → All Q xs
+    → All R xs
 of_both P Q R f xs p q k d lt = f (get_or xs k d) (p k d lt) (q k d lt)
 
 pub written_is_read : WhatIsWrittenIsRead
@@ -82,8 +95,14 @@ written_is_read o a classes roles individuals axioms over refutations kept short
       few_axioms = axioms;
       few_justifications = small.0;
       few_repairs = small.1;
-      justified = of_both (λ (j : Justification). IsOfAxioms o j.set) (λ (j : Justification). IsWithin j.set.limit j.set.members) (λ (j : Justification). IsSetOf o j.set) (λ j limit within. record { limit = limit; within = within }) a.justifications over.justified kept.justified;
+      justified =
+          of_both (λ (j : Justification). IsOfAxioms o j.set)
+          (λ (j : Justification). IsWithin j.set.limit j.set.members) (λ (j : Justification). IsSetOf o j.set)
+          (λ j limit within. record { limit = limit; within = within }) a.justifications over.justified kept.justified;
       refutations = refutations;
-      repaired = of_both (λ (r : Repair). IsOfAxioms o r.set) (λ (r : Repair). IsWithin r.set.limit r.set.members) (λ (r : Repair). IsSetOf o r.set) (λ r limit within. record { limit = limit; within = within }) a.repairs over.repaired kept.repaired;
+      repaired =
+          of_both (λ (r : Repair). IsOfAxioms o r.set) (λ (r : Repair). IsWithin r.set.limit r.set.members)
+          (λ (r : Repair). IsSetOf o r.set) (λ r limit within. record { limit = limit; within = within }) a.repairs
+          over.repaired kept.repaired;
       models = kept.models;
     })

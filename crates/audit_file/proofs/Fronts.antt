@@ -1,5 +1,7 @@
 -- Where a reading stops, and how much it reads.
-use Rattle.std.proofs.Common.{◌≡◌, ◌⊎◌, ℕ, zero, suc, ◌+◌, ◌-◌, ◌<◌, ◌≤◌, Bool, true, false, List, [], ◌∷◌, ◌++◌, length, take, drop, Result, Ok, Err, Option, Some, None, refl, ap, sym, ◌∙◌, arith, append_assoc, inl, inr}
+use Rattle.std.proofs.Common.{◌≡◌, ◌⊎◌, ℕ, zero, suc, ◌+◌, ◌-◌, ◌<◌, ◌≤◌, Bool, true, false, List, [], ◌∷◌, ◌++◌}
+use Rattle.std.proofs.Common.{length, take, drop, Result, Ok, Err, Option, Some, None, refl, ap, sym, ◌∙◌, arith}
+use Rattle.std.proofs.Common.{append_assoc, inl, inr}
 use Rattle.std.specs.Prelude.{if◌then◌else◌}
 use Rattle.std.specs.Result.{result_map_both}
 use Rattle.std.proofs.lemmas.Bool.{cases_lt}
@@ -23,12 +25,14 @@ pub record Stops {C : Type 0} (f : Ahead → Result C ℕ) (n : ℕ) (ls : List 
 pub record Takes {A : Type 0} (f : Ahead → Reads A) (n : ℕ) (ls : List (List ℕ)) (c : ℕ) (a : A) : Type 0 where
   pub within : c ≤ length ls
   pub before : (j : ℕ) → j < c → f (at_lines n (take j ls)) ≡ Err (n + j)
-  pub same : (more : List (List ℕ)) → ◌≡◌ {A = Reads A} (f (at_lines n (take c ls ++ more))) (Ok (a, at_lines (n + c) more))
+  pub same : (more : List (List ℕ))
+      → ◌≡◌ {A = Reads A} (f (at_lines n (take c ls ++ more))) (Ok (a, at_lines (n + c) more))
 
 -- a reading of some lines, and no look at those behind them
 pub record IsFront {A : Type 0} (f : Ahead → Reads A) : Type 0 where
   pub bad : (n : ℕ) (ls : List (List ℕ)) (m : ℕ) → f (at_lines n ls) ≡ Err m → (k : ℕ) × (m ≡ n + k) × Stops f n ls k
-  pub good : (n : ℕ) (ls : List (List ℕ)) (a : A) (next : Ahead) → ◌≡◌ {A = Reads A} (f (at_lines n ls)) (Ok (a, next)) → (c : ℕ) × (next ≡ at_lines (n + c) (drop c ls)) × Takes f n ls c a
+  pub good : (n : ℕ) (ls : List (List ℕ)) (a : A) (next : Ahead) → ◌≡◌ {A = Reads A} (f (at_lines n ls)) (Ok (a, next))
+      → (c : ℕ) × (next ≡ at_lines (n + c) (drop c ls)) × Takes f n ls c a
 
 -- ---- two readings
 
@@ -51,7 +55,8 @@ module _ {A B : Type 0} (f : Ahead → Reads A) (g : A → Ahead → Result B �
     shorter : (j : ℕ) → c ≤ j → both (at_lines n (take j ls)) ≡ g a (at_lines (n + c) (take (j - c) (drop c ls)))
     shorter j le = ap (λ x. both (at_lines n x)) (split c j ls le) ∙ goes_on (take (j - c) (drop c ls))
 
-    longer : (k : ℕ) (more : List (List ℕ)) → both (at_lines n (take (suc (c + k)) ls ++ more)) ≡ g a (at_lines (n + c) (take (suc k) (drop c ls) ++ more))
+    longer : (k : ℕ) (more : List (List ℕ))
+        → both (at_lines n (take (suc (c + k)) ls ++ more)) ≡ g a (at_lines (n + c) (take (suc k) (drop c ls) ++ more))
     longer k more =
         let e : suc (c + k) - c ≡ suc k = omega arith in
         ap (λ x. both (at_lines n (x ++ more))) (split c (suc (c + k)) ls (omega arith))
@@ -61,14 +66,20 @@ module _ {A B : Type 0} (f : Ahead → Reads A) (g : A → Ahead → Result B �
 
   module _ (front : IsFront f) where
     -- where the second stops, both do
-    stops_after : (n : ℕ) (ls : List (List ℕ)) (c : ℕ) (a : A) → Takes f n ls c a → (k : ℕ) → Stops (g a) (n + c) (drop c ls) k → Stops both n ls (c + k)
+    stops_after : (n : ℕ) (ls : List (List ℕ)) (c : ℕ) (a : A) → Takes f n ls c a → (k : ℕ)
+        → Stops (g a) (n + c) (drop c ls) k → Stops both n ls (c + k)
     stops_after n ls c a first k second = record {
       within = omega (arith, first.within, second.within, length-drop c ls);
       before = λ j le. elim (cases_lt j c) [
         | inl less ↦ fails n (n + j) (take j ls) (first.before j less)
-        | inr more ↦ let e : n + c + (j - c) ≡ n + j = omega (arith, more) in shorter n ls c a first j more ∙ second.before (j - c) (omega (arith, le, more)) ∙ ap Err e
+        | inr more ↦
+            let e : n + c + (j - c) ≡ n + j = omega (arith, more) in
+            shorter n ls c a first j more ∙ second.before (j - c) (omega (arith, le, more)) ∙ ap Err e
       ];
-      stops = λ lt more. let e : n + c + k ≡ n + (c + k) = omega arith in longer n ls c a first k more ∙ second.stops (omega (arith, lt, length-drop c ls)) more ∙ ap Err e;
+      stops =
+          λ lt more.
+          let e : n + c + k ≡ n + (c + k) = omega arith in
+          longer n ls c a first k more ∙ second.stops (omega (arith, lt, length-drop c ls)) more ∙ ap Err e;
     }
 
     stops_first : (n : ℕ) (ls : List (List ℕ)) (k : ℕ) → Stops f n ls k → Stops both n ls k
@@ -78,8 +89,10 @@ module _ {A B : Type 0} (f : Ahead → Reads A) (g : A → Ahead → Result B �
       stops = λ lt more. fails n (n + k) (take (suc k) ls ++ more) (first.stops lt more);
     }
 
-module _ {A B : Type 0} (f : Ahead → Reads A) (g : A → Ahead → Reads B) (front : IsFront f) (fronts : (a : A) → IsFront (g a)) where
-  bad_both : (n : ℕ) (ls : List (List ℕ)) (m : ℕ) → both f g (at_lines n ls) ≡ Err m → (k : ℕ) × (m ≡ n + k) × Stops (both f g) n ls k
+module _ {A B : Type 0} (f : Ahead → Reads A) (g : A → Ahead → Reads B) (front : IsFront f)
+    (fronts : (a : A) → IsFront (g a)) where
+  bad_both : (n : ℕ) (ls : List (List ℕ)) (m : ℕ) → both f g (at_lines n ls) ≡ Err m
+      → (k : ℕ) × (m ≡ n + k) × Stops (both f g) n ls k
   bad_both n ls m h = by (f (at_lines n ls)) refl
     where
       by : (r : Reads A) → f (at_lines n ls) ≡ r → (k : ℕ) × (m ≡ n + k) × Stops (both f g) n ls k
@@ -89,20 +102,26 @@ module _ {A B : Type 0} (f : Ahead → Reads A) (g : A → Ahead → Reads B) (f
           (b.0, sym same ∙ b.1, stops_first f g front n ls b.0 b.2)
       by (Ok p) is =
           let t = front.good n ls p.0 p.1 is in
-          let second : g p.0 (at_lines (n + t.0) (drop t.0 ls)) ≡ Err m = ap (g p.0) (sym t.1) ∙ sym (ap (λ (r : Reads A). read_on r g) is) ∙ h in
+          let second : g p.0 (at_lines (n + t.0) (drop t.0 ls)) ≡ Err m =
+          ap (g p.0) (sym t.1) ∙ sym (ap (λ (r : Reads A). read_on r g) is) ∙ h in
           let b = (fronts p.0).bad (n + t.0) (drop t.0 ls) m second in
           let e : n + t.0 + b.0 ≡ n + (t.0 + b.0) = omega arith in
           (t.0 + b.0, b.1 ∙ e, stops_after f g front n ls t.0 p.0 t.2 b.0 b.2)
 
-  good_both : (n : ℕ) (ls : List (List ℕ)) (b : B) (next : Ahead) → ◌≡◌ {A = Reads B} (both f g (at_lines n ls)) (Ok (b, next)) → (c : ℕ) × (next ≡ at_lines (n + c) (drop c ls)) × Takes (both f g) n ls c b
+  good_both : (n : ℕ) (ls : List (List ℕ)) (b : B) (next : Ahead)
+      → ◌≡◌ {A = Reads B} (both f g (at_lines n ls)) (Ok (b, next))
+      → (c : ℕ) × (next ≡ at_lines (n + c) (drop c ls)) × Takes (both f g) n ls c b
   good_both n ls b next h = by (f (at_lines n ls)) refl
     where
-      by : (r : Reads A) → f (at_lines n ls) ≡ r → (c : ℕ) × (next ≡ at_lines (n + c) (drop c ls)) × Takes (both f g) n ls c b
-      by (Err p) is = let clash : ◌≡◌ {A = Reads B} (Err p) (Ok (b, next)) = sym (fails f g n p ls is) ∙ h in absurd (cc clash)
+      by : (r : Reads A) → f (at_lines n ls) ≡ r
+          → (c : ℕ) × (next ≡ at_lines (n + c) (drop c ls)) × Takes (both f g) n ls c b
+      by (Err p) is =
+          let clash : ◌≡◌ {A = Reads B} (Err p) (Ok (b, next)) = sym (fails f g n p ls is) ∙ h in absurd (cc clash)
       by (Ok p) is =
           let t = front.good n ls p.0 p.1 is in
           let c = t.0 in
-          let second : ◌≡◌ {A = Reads B} (g p.0 (at_lines (n + c) (drop c ls))) (Ok (b, next)) = ap (g p.0) (sym t.1) ∙ sym (ap (λ (r : Reads A). read_on r g) is) ∙ h in
+          let second : ◌≡◌ {A = Reads B} (g p.0 (at_lines (n + c) (drop c ls))) (Ok (b, next)) =
+          ap (g p.0) (sym t.1) ∙ sym (ap (λ (r : Reads A). read_on r g) is) ∙ h in
           let u = (fronts p.0).good (n + c) (drop c ls) b next second in
           let d = u.0 in
           let e : n + c + d ≡ n + (c + d) = omega arith in
@@ -113,7 +132,9 @@ module _ {A B : Type 0} (f : Ahead → Reads A) (g : A → Ahead → Reads B) (f
               within = omega (arith, t.2.within, u.2.within, length-drop c ls);
               before = λ j lt. elim (cases_lt j c) [
                 | inl less ↦ fails f g n (n + j) (take j ls) (t.2.before j less)
-                | inr more ↦ let e' : n + c + (j - c) ≡ n + j = omega (arith, more) in shorter f g n ls c p.0 t.2 j more ∙ u.2.before (j - c) (omega (arith, lt, more)) ∙ ap Err e'
+                | inr more ↦
+                    let e' : n + c + (j - c) ≡ n + j = omega (arith, more) in
+                    shorter f g n ls c p.0 t.2 j more ∙ u.2.before (j - c) (omega (arith, lt, more)) ∙ ap Err e'
               ];
               same = λ more.
                   ap (λ x. both f g (at_lines n (x ++ more))) (split c (c + d) ls (omega arith))
@@ -131,7 +152,8 @@ module _ {A B : Type 0} (f : Ahead → Reads A) (g : A → Ahead → Reads B) (f
 -- ---- one line
 
 module _ {A : Type 0} (says : List ℕ → Option A) where
-  line_as : (n : ℕ) (l : List ℕ) (ls : List (List ℕ)) (r : Option A) → says l ≡ r → line_from says n (l ∷ ls) ≡ elim r [ None ↦ Err n | Some a ↦ Ok (a, at_lines (n + 1) ls) ]
+  line_as : (n : ℕ) (l : List ℕ) (ls : List (List ℕ)) (r : Option A) → says l ≡ r
+      → line_from says n (l ∷ ls) ≡ elim r [ None ↦ Err n | Some a ↦ Ok (a, at_lines (n + 1) ls) ]
   line_as n l ls r is = ap (λ (s : Option A). elim s [ None ↦ Err n | Some a ↦ Ok (a, at_lines (n + 1) ls) ]) is
 
   plus_none : (n j : ℕ) → j ≤ 0 → n ≡ n + j
@@ -142,10 +164,18 @@ module _ {A : Type 0} (says : List ℕ → Option A) where
       let e : j ≡ 0 = omega (arith, le) in
       ap (λ i. line_from says n (take i ls)) e ∙ ap Err (plus_none n j le)
 
-  line_bad : (n : ℕ) (ls : List (List ℕ)) (m : ℕ) → line_from says n ls ≡ Err m → (k : ℕ) × (m ≡ n + k) × Stops (line_read says) n ls k
+  line_bad : (n : ℕ) (ls : List (List ℕ)) (m : ℕ) → line_from says n ls ≡ Err m
+      → (k : ℕ) × (m ≡ n + k) × Stops (line_read says) n ls k
   line_bad n [] m h =
-      let same : n ≡ m = cc h in
-      (0, sym same ∙ plus_none n 0 (omega arith), record { within = omega arith; before = λ j le. none_taken n j [] le; stops = λ lt. absurd (omega (arith, lt)) })
+      let same : n ≡ m = cc h in (
+        0,
+        sym same ∙ plus_none n 0 (omega arith),
+        record {
+          within = omega arith;
+          before = λ j le. none_taken n j [] le;
+          stops = λ lt. absurd (omega (arith, lt));
+        },
+      )
   line_bad n (l ∷ ls) m h = by (says l) refl
     where
       by : (r : Option A) → says l ≡ r → (k : ℕ) × (m ≡ n + k) × Stops (line_read says) n (l ∷ ls) k
@@ -153,24 +183,36 @@ module _ {A : Type 0} (says : List ℕ → Option A) where
           let same : n ≡ m = cc (sym (line_as n l ls None is) ∙ h) in (
             0,
             sym same ∙ plus_none n 0 (omega arith),
-            record { within = omega arith; before = λ j le. none_taken n j (l ∷ ls) le; stops = λ lt more. line_as n l more None is ∙ ap Err (plus_none n 0 (omega arith)) },
+            record {
+              within = omega arith;
+              before = λ j le. none_taken n j (l ∷ ls) le;
+              stops = λ lt more. line_as n l more None is ∙ ap Err (plus_none n 0 (omega arith));
+            },
           )
-      by (Some a) is = let clash : ◌≡◌ {A = Reads A} (Ok (a, at_lines (n + 1) ls)) (Err m) = sym (line_as n l ls (Some a) is) ∙ h in absurd (cc clash)
+      by (Some a) is =
+          let clash : ◌≡◌ {A = Reads A} (Ok (a, at_lines (n + 1) ls)) (Err m) = sym (line_as n l ls (Some a) is) ∙ h in
+          absurd (cc clash)
 
-  line_good : (n : ℕ) (ls : List (List ℕ)) (a : A) (next : Ahead) → ◌≡◌ {A = Reads A} (line_from says n ls) (Ok (a, next)) → (c : ℕ) × (next ≡ at_lines (n + c) (drop c ls)) × Takes (line_read says) n ls c a
+  line_good : (n : ℕ) (ls : List (List ℕ)) (a : A) (next : Ahead)
+      → ◌≡◌ {A = Reads A} (line_from says n ls) (Ok (a, next))
+      → (c : ℕ) × (next ≡ at_lines (n + c) (drop c ls)) × Takes (line_read says) n ls c a
   line_good n [] a next h = let clash : ◌≡◌ {A = Reads A} (Err n) (Ok (a, next)) = h in absurd (cc clash)
   line_good n (l ∷ ls) a next h = by (says l) refl
     where
-      by : (r : Option A) → says l ≡ r → (c : ℕ) × (next ≡ at_lines (n + c) (drop c (l ∷ ls))) × Takes (line_read says) n (l ∷ ls) c a
-      by None is = let clash : ◌≡◌ {A = Reads A} (Err n) (Ok (a, next)) = sym (line_as n l ls None is) ∙ h in absurd (cc clash)
+      by : (r : Option A) → says l ≡ r
+          → (c : ℕ) × (next ≡ at_lines (n + c) (drop c (l ∷ ls))) × Takes (line_read says) n (l ∷ ls) c a
+      by None is =
+          let clash : ◌≡◌ {A = Reads A} (Err n) (Ok (a, next)) = sym (line_as n l ls None is) ∙ h in absurd (cc clash)
       by (Some b) is =
-          let same : ◌≡◌ {A = A × Ahead} (b, at_lines (n + 1) ls) (a, next) = cc (sym (line_as n l ls (Some b) is) ∙ h) in (
+          let same : ◌≡◌ {A = A × Ahead} (b, at_lines (n + 1) ls) (a, next) =
+          cc (sym (line_as n l ls (Some b) is) ∙ h) in (
             1,
             ap (λ p. p.1) (sym same),
             record {
               within = omega arith;
               before = λ j lt. none_taken n j (l ∷ ls) (omega (arith, lt));
-              same = λ more. line_as n l more (Some b) is ∙ ap (λ (p : A × Ahead). Ok (p.0, at_lines (n + 1) more)) same;
+              same =
+                  λ more. line_as n l more (Some b) is ∙ ap (λ (p : A × Ahead). Ok (p.0, at_lines (n + 1) more)) same;
             },
           )
 
@@ -187,11 +229,16 @@ done_front {A = A} a = record {
       let e : n ≡ n + 0 = omega arith in (
         0,
         ap (λ p. p.1) (sym same) ∙ (λ i. at_lines (e i) ls),
-        record { within = omega arith; before = λ j lt. absurd (omega (arith, lt)); same = λ more i. Ok ((ap (λ (p : A × Ahead). p.0) same) i, at_lines (e i) more) },
+        record {
+          within = omega arith;
+          before = λ j lt. absurd (omega (arith, lt));
+          same = λ more i. Ok ((ap (λ (p : A × Ahead). p.0) same) i, at_lines (e i) more);
+        },
       );
 }
 
-pub times_front : {A : Type 0} (step : A → Ahead → Reads A) → ((a : A) → IsFront (step a)) → (n : ℕ) (a : A) → IsFront (times step n a)
+pub times_front : {A : Type 0} (step : A → Ahead → Reads A) → ((a : A) → IsFront (step a)) → (n : ℕ) (a : A)
+    → IsFront (times step n a)
 times_front step fronts zero a = done_front a
 times_front step fronts (suc n) a = both_front (step a) (times step n) (fronts a) (times_front step fronts n)
 
@@ -200,13 +247,15 @@ times_front step fronts (suc n) a = both_front (step a) (times step n) (fronts a
 -- the line after k others is the first that is wrong: those before it are enough, or lack just the next line
 pub record Ends {C : Type 0} (f : Ahead → Result C ℕ) (n : ℕ) (ls : List (List ℕ)) (k : ℕ) : Type 0 where
   pub within : k ≤ length ls
-  pub before : (j : ℕ) → j ≤ k → ((c : C) × (f (at_lines n (take j ls)) ≡ Ok c)) ⊎ (f (at_lines n (take j ls)) ≡ Err (n + j))
+  pub before : (j : ℕ) → j ≤ k
+      → ((c : C) × (f (at_lines n (take j ls)) ≡ Ok c)) ⊎ (f (at_lines n (take j ls)) ≡ Err (n + j))
   pub stops : k < length ls → (more : List (List ℕ)) → f (at_lines n (take (suc k) ls ++ more)) ≡ Err (n + k)
 
 abbrev pub IsLast : {C : Type 0} → (Ahead → Result C ℕ) → Type 0
 IsLast f = (n : ℕ) (ls : List (List ℕ)) (m : ℕ) → f (at_lines n ls) ≡ Err m → (k : ℕ) × (m ≡ n + k) × Ends f n ls k
 
-module _ {A B : Type 0} (f : Ahead → Reads A) (g : A → Ahead → Result B ℕ) (front : IsFront f) (lasts : (a : A) → IsLast (g a)) where
+module _ {A B : Type 0} (f : Ahead → Reads A) (g : A → Ahead → Result B ℕ) (front : IsFront f)
+    (lasts : (a : A) → IsLast (g a)) where
   pub both_last : IsLast (λ at. read_on (f at) g)
   both_last n ls m h = by (f (at_lines n ls)) refl
     where
@@ -225,7 +274,8 @@ module _ {A B : Type 0} (f : Ahead → Reads A) (g : A → Ahead → Result B �
       by (Ok p) is =
           let t = front.good n ls p.0 p.1 is in
           let c = t.0 in
-          let second : g p.0 (at_lines (n + c) (drop c ls)) ≡ Err m = ap (g p.0) (sym t.1) ∙ sym (ap (λ (r : Reads A). read_on r g) is) ∙ h in
+          let second : g p.0 (at_lines (n + c) (drop c ls)) ≡ Err m =
+          ap (g p.0) (sym t.1) ∙ sym (ap (λ (r : Reads A). read_on r g) is) ∙ h in
           let b = lasts p.0 (n + c) (drop c ls) m second in
           let e : n + c + b.0 ≡ n + (c + b.0) = omega arith in (
             c + b.0,
@@ -236,9 +286,14 @@ module _ {A B : Type 0} (f : Ahead → Reads A) (g : A → Ahead → Result B �
                 | inl less ↦ inr (fails f g n (n + j) (take j ls) (t.2.before j less))
                 | inr more ↦
                     let e' : n + c + (j - c) ≡ n + j = omega (arith, more) in
-                    elim (b.2.before (j - c) (omega (arith, le, more))) [ inl ok ↦ inl (ok.0, shorter f g n ls c p.0 t.2 j more ∙ ok.1) | inr lacks ↦ inr (shorter f g n ls c p.0 t.2 j more ∙ lacks ∙ ap Err e') ]
+                    elim (b.2.before (j - c) (omega (arith, le, more))) [
+                      | inl ok ↦ inl (ok.0, shorter f g n ls c p.0 t.2 j more ∙ ok.1)
+                      | inr lacks ↦ inr (shorter f g n ls c p.0 t.2 j more ∙ lacks ∙ ap Err e')
+                    ]
               ];
-              stops = λ lt more. longer f g n ls c p.0 t.2 b.0 more ∙ b.2.stops (omega (arith, lt, length-drop c ls)) more ∙ ap Err e;
+              stops =
+                  λ lt more. longer f g n ls c p.0 t.2 b.0 more ∙ b.2.stops (omega (arith, lt, length-drop c ls)) more
+                  ∙ ap Err e;
             },
           )
 
@@ -255,7 +310,8 @@ unblank : (ls : List (List ℕ)) (n m : ℕ) → first_unblank n ls ≡ Some m �
 unblank [] n m h = let clash : ◌≡◌ {A = Option ℕ} None (Some m) = h in absurd (cc clash)
 unblank (l ∷ ls) n m h = by (is_blank l) refl (unblank ls (n + 1) m)
   where
-    as_ : (n : ℕ) (rest : List (List ℕ)) (b : Bool) → is_blank l ≡ b → first_unblank n (l ∷ rest) ≡ (if b then first_unblank (n + 1) rest else Some n)
+    as_ : (n : ℕ) (rest : List (List ℕ)) (b : Bool) → is_blank l ≡ b
+        → first_unblank n (l ∷ rest) ≡ (if b then first_unblank (n + 1) rest else Some n)
     as_ n rest b is = ap (λ c. if c then first_unblank (n + 1) rest else Some n) is
 
     by : (b : Bool) → is_blank l ≡ b → (first_unblank (n + 1) ls ≡ Some m → Unblank (n + 1) ls m) → Unblank n (l ∷ ls) m
@@ -272,7 +328,13 @@ unblank (l ∷ ls) n m h = by (is_blank l) refl (unblank ls (n + 1) m)
     by true is later =
         let r = later (sym (as_ n ls true is) ∙ h) in
         let e : n + 1 + r.k ≡ n + suc r.k = omega arith in
-        record { k = suc r.k; is = r.is ∙ e; within = omega (arith, r.within); before = before r; stops = λ more. as_ n (take (suc r.k) ls ++ more) true is ∙ r.stops more ∙ ap Some e }
+        record {
+          k = suc r.k;
+          is = r.is ∙ e;
+          within = omega (arith, r.within);
+          before = before r;
+          stops = λ more. as_ n (take (suc r.k) ls ++ more) true is ∙ r.stops more ∙ ap Some e;
+        }
       where
         before : (r : Unblank (n + 1) ls m) (j : ℕ) → j ≤ suc r.k → first_unblank n (take j (l ∷ ls)) ≡ None
         before r zero le = refl
@@ -281,11 +343,13 @@ unblank (l ∷ ls) n m h = by (is_blank l) refl (unblank ls (n + 1) m)
 pub blank_last : IsLast blank_read
 blank_last n ls m h = by (first_unblank n ls) refl
   where
-    as_ : (xs : List (List ℕ)) (r : Option ℕ) → first_unblank n xs ≡ r → blank_read (at_lines n xs) ≡ elim r [ None ↦ Ok tt | Some p ↦ Err p ]
+    as_ : (xs : List (List ℕ)) (r : Option ℕ) → first_unblank n xs ≡ r
+        → blank_read (at_lines n xs) ≡ elim r [ None ↦ Ok tt | Some p ↦ Err p ]
     as_ xs r is = ap (λ (s : Option ℕ). elim s [ None ↦ Ok tt | Some p ↦ Err p ]) is
 
     by : (r : Option ℕ) → first_unblank n ls ≡ r → (k : ℕ) × (m ≡ n + k) × Ends blank_read n ls k
-    by None is = let clash : ◌≡◌ {A = Result (Unit {0}) ℕ} (Ok tt) (Err m) = sym (as_ ls None is) ∙ h in absurd (cc clash)
+    by None is =
+        let clash : ◌≡◌ {A = Result (Unit {0}) ℕ} (Ok tt) (Err m) = sym (as_ ls None is) ∙ h in absurd (cc clash)
     by (Some p) is =
         let same : p ≡ m = cc (sym (as_ ls (Some p) is) ∙ h) in
         let r = unblank ls n p is in (
@@ -299,7 +363,8 @@ blank_last n ls m h = by (first_unblank n ls) refl
         )
 
 -- what is made of what was read
-pub mapped_last : {B C : Type 0} (make : B → C) (f : Ahead → Result B ℕ) → IsLast f → IsLast (λ at. result_map_both make (λ n. n) (f at))
+pub mapped_last : {B C : Type 0} (make : B → C) (f : Ahead → Result B ℕ) → IsLast f
+    → IsLast (λ at. result_map_both make (λ n. n) (f at))
 mapped_last {B = B} {C = C} make f last n ls m h = by (f (at_lines n ls)) refl
   where
     made : Result B ℕ → Result C ℕ
@@ -314,7 +379,9 @@ mapped_last {B = B} {C = C} make f last n ls m h = by (f (at_lines n ls)) refl
           sym same ∙ r.1,
           record {
             within = r.2.within;
-            before = λ j le. elim (r.2.before j le) [ inl ok ↦ inl (make ok.0, ap made ok.1) | inr lacks ↦ inr (ap made lacks) ];
+            before =
+                λ j le. elim (r.2.before j le)
+                [ inl ok ↦ inl (make ok.0, ap made ok.1) | inr lacks ↦ inr (ap made lacks) ];
             stops = λ lt more. ap made (r.2.stops lt more);
           },
         )

@@ -1,5 +1,6 @@
 -- One text more of a list of texts, and what is known of the whole.
-use Rattle.std.proofs.Common.{◌≡◌, ℕ, ◌+◌, ◌<◌, Bool, true, List, ◌∷◌, ◌++◌, length, drop, take, get_or, ap, sym, ◌∙◌, subst, append_assoc}
+use Rattle.std.proofs.Common.{◌≡◌, ℕ, ◌+◌, ◌<◌, Bool, true, List, ◌∷◌, ◌++◌, length, drop, take, get_or, ap, sym, ◌∙◌}
+use Rattle.std.proofs.Common.{subst, append_assoc}
 use Rattle.std.specs.List.{All, list_all, flat_map}
 use Rattle.std.proofs.lemmas.Bool.{and_parts}
 use Rattle.std.proofs.lemmas.List.{drop_more}
@@ -14,8 +15,11 @@ use Rattle.audit_file.specs.declared.entries.Justification.{Justification}
 use Rattle.audit_file.specs.declared.entries.Repair.{Repair}
 
 -- what is known of the lists is known of the audit
-pub kept_audit : (o : Listed) (a : AuditLists) (js : List Justification) (rs : List Repair) → js ≡ a.justifications → rs ≡ a.repairs → IsAscending (justified_sets a.justifications) → IsAscending (repaired_sets a.repairs)
-    → All (λ (j : Justification). IsWithin j.set.limit j.set.members) js → All (λ (r : Repair). IsWithin r.set.limit r.set.members) rs → All (λ (r : Repair). IsKept o r.model) rs → IsKeptAudit o a
+pub kept_audit : (o : Listed) (a : AuditLists) (js : List Justification) (rs : List Repair) → js ≡ a.justifications
+    → rs ≡ a.repairs → IsAscending (justified_sets a.justifications) → IsAscending (repaired_sets a.repairs)
+    → All (λ (j : Justification). IsWithin j.set.limit j.set.members) js
+    → All (λ (r : Repair). IsWithin r.set.limit r.set.members) rs → All (λ (r : Repair). IsKept o r.model) rs
+    → IsKeptAudit o a
 kept_audit o a js rs e f up_js up_rs justified repaired models = record {
   ordered = record { justifications = up_js; repairs = up_rs };
   justified = subst (All (λ (j : Justification). IsWithin j.set.limit j.set.members)) e justified;
@@ -27,9 +31,11 @@ module _ {X : Type 0} (xs : List X) (i : ℕ) (x : X) (lt : i < length xs) (is :
   next : drop i xs ≡ x ∷ drop (i + 1) xs
   next = drop_more xs i x lt ∙ ap (λ y. y ∷ drop (i + 1) xs) (sym is)
 
-  pub text_more : (f : X → List ℕ) (old now new : List ℕ) → now ++ flat_map f (drop i xs) ≡ old ++ flat_map f xs → new ≡ now ++ f x → new ++ flat_map f (drop (i + 1) xs) ≡ old ++ flat_map f xs
+  pub text_more : (f : X → List ℕ) (old now new : List ℕ) → now ++ flat_map f (drop i xs) ≡ old ++ flat_map f xs
+      → new ≡ now ++ f x → new ++ flat_map f (drop (i + 1) xs) ≡ old ++ flat_map f xs
   text_more f old now new so_far put =
-      ap (λ t. t ++ flat_map f (drop (i + 1) xs)) put ∙ append_assoc now (f x) (flat_map f (drop (i + 1) xs)) ∙ ap (λ ys. now ++ flat_map f ys) (sym next) ∙ so_far
+      ap (λ t. t ++ flat_map f (drop (i + 1) xs)) put ∙ append_assoc now (f x) (flat_map f (drop (i + 1) xs))
+      ∙ ap (λ ys. now ++ flat_map f ys) (sym next) ∙ so_far
 
   pub all_more : (p : X → Bool) → list_all p (drop i xs) ≡ true → list_all p (drop (i + 1) xs) ≡ true
   all_more p h = (and_parts (p x) (list_all p (drop (i + 1) xs)) (sym (ap (list_all p) next) ∙ h)).1

@@ -1,5 +1,6 @@
 -- What an audit lists.
-use Rattle.std.specs.Prelude.{◌-◌, Bool, true, List, [], ◌∷◌, ◌++◌, map, length, Option, Some, None, option_map, slice_get}
+use Rattle.std.specs.Prelude.{◌-◌, Bool, true, List, [], ◌∷◌, ◌++◌, map, length, Option, Some, None, option_map}
+use Rattle.std.specs.Prelude.{slice_get}
 use Rattle.std.specs.Ordering.{is_lt}
 use Rattle.axiom_sets.specs.Sets.{Limited, list_cmp}
 use Rattle.pinpointing_specs.specs.Order.{IsAscending}

@@ -1,5 +1,6 @@
 -- The text of an audit, line by line, and what it stands for. The first line has the number 1.
-use Rattle.std.specs.Prelude.{◌≡◌, ℕ, zero, suc, ◌+◌, ◌-◌, List, [], ◌∷◌, length, take, drop, codes, Option, Some, None, option_map, option_and_then, Result, Ok, Err, if◌then◌else◌}
+use Rattle.std.specs.Prelude.{◌≡◌, ℕ, zero, suc, ◌+◌, ◌-◌, List, [], ◌∷◌, length, take, drop, codes, Option, Some, None}
+use Rattle.std.specs.Prelude.{option_map, option_and_then, Result, Ok, Err, if◌then◌else◌}
 use Rattle.std.specs.Result.{result_map_both}
 use Rattle.std.specs.Str.{bytes_eq}
 use Rattle.axiom_sets.specs.Sets.{Limited}
@@ -15,7 +16,8 @@ use Rattle.finite_model.specs.Malformed.{malformed_model_line}
 use Rattle.refutation_tree.specs.RefutationLists.{RefutationLists}
 use Rattle.refutation_tree.specs.RefutationText.{axiom_set, refutation_of}
 use Rattle.refutation_tree.specs.Malformed.{malformed_refutation_line}
-use Rattle.audit_file.specs.AuditLists.{AuditLists, last_justified, last_repaired, follows, with_justification, with_repair, empty_audit}
+use Rattle.audit_file.specs.AuditLists.{AuditLists, last_justified, last_repaired, follows, with_justification}
+use Rattle.audit_file.specs.AuditLists.{with_repair, empty_audit}
 
 -- ---- reading on
 
@@ -115,12 +117,14 @@ model_read o at = block_read (model_of o) (malformed_model_line o) at
 
 abbrev pub justification_read : Listed → AuditLists → Ahead → Reads AuditLists
 justification_read o a at =
-    read_on (line_read (set_in (length o.axioms) (last_justified a)) at) (λ s from. read_on (refutation_read o from) (λ r next. Ok (with_justification s r a, next)))
+    read_on (line_read (set_in (length o.axioms) (last_justified a)) at)
+    (λ s from. read_on (refutation_read o from) (λ r next. Ok (with_justification s r a, next)))
 
 -- a set and a model, after what was read
 abbrev pub repair_read : Listed → AuditLists → Ahead → Reads AuditLists
 repair_read o a at =
-    read_on (line_read (set_in (length o.axioms) (last_repaired a)) at) (λ s from. read_on (model_read o from) (λ m next. Ok (with_repair s m a, next)))
+    read_on (line_read (set_in (length o.axioms) (last_repaired a)) at)
+    (λ s from. read_on (model_read o from) (λ m next. Ok (with_repair s m a, next)))
 
 -- a line that says how many, and then so many
 abbrev pub counted_read : List ℕ → (AuditLists → Ahead → Reads AuditLists) → AuditLists → Ahead → Reads AuditLists
@@ -147,7 +151,8 @@ closed a at = result_map_both (λ u. a) (λ n. n) (end_read at)
 -- all lines
 abbrev pub audit_read : Listed → AuditLists → Ahead → Result AuditLists ℕ
 audit_read o a at =
-    read_on (line_read (fixed (codes "audit")) at) (λ u first. read_on (justifications_read o a first) (λ b second. read_on (repairs_read o b second) closed))
+    read_on (line_read (fixed (codes "audit")) at)
+    (λ u first. read_on (justifications_read o a first) (λ b second. read_on (repairs_read o b second) closed))
 
 -- the audit that the lines stand for, or the number of the first malformed line
 abbrev pub audit_in : Listed → List (List ℕ) → Result AuditLists ℕ

@@ -39,11 +39,14 @@ repairs_text o rs = count_text (codes "repairs") (length rs) ++ flat_map (repair
 
 -- the line `audit`, the justifications, the repairs, and the line `end audit`
 abbrev pub audit_text : Listed → AuditLists → List ℕ
-audit_text o a = fed (codes "audit") ++ justifications_text o a.justifications ++ repairs_text o a.repairs ++ fed (codes "end audit")
+audit_text o a =
+    fed (codes "audit") ++ justifications_text o a.justifications ++ repairs_text o a.repairs ++ fed (codes "end audit")
 
 -- the names that the refutations and the models use are listed
 abbrev pub audit_is_listed : Listed → AuditLists → Bool
-audit_is_listed o a = list_all (λ j. names_are_listed o j.refutation) a.justifications && list_all (λ r. uses_listed_names o r.model) a.repairs
+audit_is_listed o a =
+    list_all (λ j. names_are_listed o j.refutation) a.justifications
+    && list_all (λ r. uses_listed_names o r.model) a.repairs
 
 -- a set of axioms of the document
 pub record IsSetOf (o : Listed) (s : Limited) : Type 0 where
@@ -63,7 +66,8 @@ pub record IsWritableAudit (o : Listed) (a : AuditLists) : Type 0 where
 
 -- the lines of an audit's text stand for this audit
 abbrev pub AuditsAreReadBack : Type 0
-AuditsAreReadBack = (o : Listed) (a : AuditLists) → AreNames o.classes → AreNames o.roles → AreNames o.individuals → IsWritableAudit o a → audit_in o (lines (audit_text o a)) ≡ Ok a
+AuditsAreReadBack = (o : Listed) (a : AuditLists) → AreNames o.classes → AreNames o.roles → AreNames o.individuals
+    → IsWritableAudit o a → audit_in o (lines (audit_text o a)) ≡ Ok a
 
 -- An audit as it is kept, over listed names: its lists are in order, no set has a number above its limit, and each
 -- model is one that its text is read back to.
@@ -77,5 +81,7 @@ pub record IsKeptAudit (o : Listed) (a : AuditLists) : Type 0 where
 -- is read as that audit, if it has fewer than 2 ^ 32 lines.
 abbrev pub WhatIsWrittenIsRead : Type 0
 WhatIsWrittenIsRead =
-    (o : Listed) (a : AuditLists) → AreNames o.classes → AreNames o.roles → AreNames o.individuals → length o.axioms + 1 < 2 ^ 32 → AreOfAxioms o a → All (λ (j : Justification). IsWritable o j.refutation) a.justifications
+    (o : Listed) (a : AuditLists) → AreNames o.classes → AreNames o.roles → AreNames o.individuals
+    → length o.axioms + 1 < 2 ^ 32 → AreOfAxioms o a
+    → All (λ (j : Justification). IsWritable o j.refutation) a.justifications
     → IsKeptAudit o a → length (lines (audit_text o a)) < 2 ^ 32 → audit_in o (lines (audit_text o a)) ≡ Ok a

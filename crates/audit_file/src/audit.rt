@@ -1,7 +1,8 @@
 // What an audit keeps.
 ghost use Rattle.std.specs.Prelude.{◌≡◌, [], true, OnOk, OnErr, option_map};
 ghost use Rattle.pinpointing_specs.specs.Order.{IsAscending};
-ghost use Rattle.audit_file.specs.AuditLists.{justified_sets, repaired_sets, last_justified, last_repaired, follows, with_justification, with_repair, empty_audit};
+ghost use Rattle.audit_file.specs.AuditLists.{justified_sets, repaired_sets, last_justified, last_repaired, follows};
+ghost use Rattle.audit_file.specs.AuditLists.{with_justification, with_repair, empty_audit};
 
 use crate::entries::{Justification, Repair};
 use axiom_sets::AxiomSet;

@@ -1,8 +1,11 @@
 // Lines that are read one after another.
-ghost use Rattle.std.specs.Prelude.{◌≡◌, ◌≤◌, ◌<◌, ◌+◌, ◌^◌, [], true, length, Ok, IfOk, IfErr, OnOk, IfSome, IfNone, option_map, option_and_then};
+ghost use Rattle.std.specs.Prelude.{◌≡◌, ◌≤◌, ◌<◌, ◌+◌, ◌^◌, [], true, length, Ok, IfOk, IfErr, OnOk, IfSome, IfNone};
+ghost use Rattle.std.specs.Prelude.{option_map, option_and_then};
 ghost use Rattle.certificate_lines.specs.Lines.{bytes_of};
 ghost use Rattle.certificate_lines.specs.Malformed.{clamped_line};
-ghost use Rattle.audit_file.specs.AuditText.{IsNextLine, line_read, block_len, block, behind_block, fixed, count_line, count_in, numbers_set, set_line, later_set, set_in, blank_read, IsShifted, IsFaultBy};
+ghost use Rattle.audit_file.specs.AuditText.{IsNextLine, line_read, block_len, block, behind_block, fixed, count_line};
+ghost use Rattle.audit_file.specs.AuditText.{count_in, numbers_set, set_line, later_set, set_in, blank_read, IsShifted};
+ghost use Rattle.audit_file.specs.AuditText.{IsFaultBy};
 ghost use Rattle.audit_file.specs.AuditLists.{follows};
 ghost use Rattle.finite_model.specs.ModelText.{element_in};
 

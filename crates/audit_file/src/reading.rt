@@ -2,7 +2,9 @@
 ghost use Rattle.std.specs.Prelude.{◌≡◌, ◌≤◌, length, Ok, IfOk, IfErr, OnOk};
 ghost use Rattle.std.specs.Result.{result_map_both};
 ghost use Rattle.certificate_lines.specs.Lines.{bytes_of};
-ghost use Rattle.audit_file.specs.AuditText.{refutation_read, model_read, justification_read, repair_read, justifications_read, repairs_read, end_read, audit_read, audit_in, IsFaultBy};
+ghost use Rattle.audit_file.specs.AuditText.{refutation_read, model_read, justification_read, repair_read};
+ghost use Rattle.audit_file.specs.AuditText.{justifications_read, repairs_read, end_read, audit_read, audit_in};
+ghost use Rattle.audit_file.specs.AuditText.{IsFaultBy};
 ghost use Rattle.audit_file.specs.Fitting.{AreOfAxioms, Fits};
 
 use crate::reader::{Reader, fault_in_block};

@@ -6,7 +6,8 @@ ghost use Rattle.certificate_lines.specs.Written.{spaced};
 ghost use Rattle.finite_model.specs.ReadBack.{IsKept};
 ghost use Rattle.finite_model.specs.Written.{uses_listed_names};
 ghost use Rattle.refutation_tree.specs.Written.{names_are_listed};
-ghost use Rattle.audit_file.specs.Written.{set_text, count_text, justification_text, repair_text, justifications_text, repairs_text, audit_text, audit_is_listed, IsKeptAudit};
+ghost use Rattle.audit_file.specs.Written.{set_text, count_text, justification_text, repair_text, justifications_text};
+ghost use Rattle.audit_file.specs.Written.{repairs_text, audit_text, audit_is_listed, IsKeptAudit};
 
 use crate::{Audit, Justification, Repair};
 use axiom_sets::AxiomSet;
@@ -63,7 +64,8 @@ fn push_justifications(
     ontology: &Ontology,
 ) -> Result<(), NoMemory>
     requires { IsTrue (list_all (λ j. names_are_listed ontology.now j.refutation) justifications.now) }
-    ensures text { OnOk result (text.new.items ≡ text.old.items ++ justifications_text ontology.now justifications.now) }
+    ensures text { OnOk result
+        (text.new.items ≡ text.old.items ++ justifications_text ontology.now justifications.now) }
     ensures within { OnOk result (All (λ j. IsWithin j.set.limit j.set.members) justifications.now) }
 {
     push_count(alloc, text, b"justifications", justifications.len())?;
@@ -77,7 +79,8 @@ fn push_each_justification(
     ontology: &Ontology,
 ) -> Result<(), NoMemory>
     requires { IsTrue (list_all (λ j. names_are_listed ontology.now j.refutation) justifications.now) }
-    ensures text { OnOk result (text.new.items ≡ text.old.items ++ flat_map (justification_text ontology.now) justifications.now) }
+    ensures text { OnOk result
+        (text.new.items ≡ text.old.items ++ flat_map (justification_text ontology.now) justifications.now) }
     ensures within { OnOk result (All (λ j. IsWithin j.set.limit j.set.members) justifications.now) }
 {
     for justification in justifications {

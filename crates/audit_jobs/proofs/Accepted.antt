@@ -1,5 +1,6 @@
 -- What is printed is accepted.
-use Rattle.std.proofs.Common.{◌≡◌, ℕ, ◌+◌, ◌^◌, ◌<◌, ◌≤◌, Bool, true, false, List, Ok, length, get_or, ap, ◌∙◌, subst, arith}
+use Rattle.std.proofs.Common.{◌≡◌, ℕ, ◌+◌, ◌^◌, ◌<◌, ◌≤◌, Bool, true, false, List, Ok, length, get_or, ap, ◌∙◌, subst}
+use Rattle.std.proofs.Common.{arith}
 use Rattle.std.specs.List.{All}
 use Rattle.std.proofs.lemmas.List.Elements.{Contains-get_or}
 use Rattle.axiom_sets.specs.Sets.{Limited, IsWithin}
@@ -24,12 +25,17 @@ use Rattle.pinpointing_jobs.specs.Listings.{end_status}
 use Rattle.audit_jobs.specs.Answers.{IsAuditText, IsEvidenceText}
 use Rattle.audit_jobs.specs.Laws.{IsAcceptedText, EvidenceIsAccepted}
 
-within_sets : (js : List Justification) → All (λ (j : Justification). IsWithin j.set.limit j.set.members) js → All (λ (s : Limited). IsWithin s.limit s.members) (justified_sets js)
+within_sets : (js : List Justification) → All (λ (j : Justification). IsWithin j.set.limit j.set.members) js
+    → All (λ (s : Limited). IsWithin s.limit s.members) (justified_sets js)
 within_sets js all k d lt =
-    let of = from_map (λ (j : Justification). j.set) js (get_or (justified_sets js) k d) (Contains-get_or (justified_sets js) k d lt) in
-    subst (λ (s : Limited). IsWithin s.limit s.members) of.2 (all_has (λ (j : Justification). IsWithin j.set.limit j.set.members) js of.0 all of.1)
+    let of =
+    from_map (λ (j : Justification). j.set) js (get_or (justified_sets js) k d)
+    (Contains-get_or (justified_sets js) k d lt) in
+    subst (λ (s : Limited). IsWithin s.limit s.members) of.2
+    (all_has (λ (j : Justification). IsWithin j.set.limit j.set.members) js of.0 all of.1)
 
-module _ (statement bytes out : List ℕ) (o : Listed) (q : Asked) (is : IsQuestion (follows statement) bytes o q) (t : IsAuditText o q out) (short : length (lines out) ≤ 4294967293) where
+module _ (statement bytes out : List ℕ) (o : Listed) (q : Asked) (is : IsQuestion (follows statement) bytes o q)
+    (t : IsAuditText o q out) (short : length (lines out) ≤ 4294967293) where
   asked : IsReadQuestion is.document is.kept (follows statement) o q
   asked = record { counts = is.counts; is_asked = is.is_asked; both_are = is.both_are }
 
@@ -37,13 +43,22 @@ module _ (statement bytes out : List ℕ) (o : Listed) (q : Asked) (is : IsQuest
   names = question_writable bytes is.document is.kept (follows statement) o q is.is_document asked
 
   few_axioms : length o.axioms + 1 < 2 ^ 32
-  few_axioms = let few = (question_in_limit bytes is.document is.kept (follows statement) o q is.is_document asked).ontology.few_axioms in omega (arith, few)
+  few_axioms =
+      let few =
+      (question_in_limit bytes is.document is.kept (follows statement) o q is.is_document asked).ontology.few_axioms in
+      omega (arith, few)
 
   few_lines : length (lines (audit_text o t.audit)) < 2 ^ 32
-  few_lines = let same : length (lines out) ≡ length (lines (audit_text o t.audit)) = ap (λ (bs : List ℕ). length (lines bs)) t.text in omega (arith, same, short)
+  few_lines =
+      let same : length (lines out) ≡ length (lines (audit_text o t.audit)) =
+      ap (λ (bs : List ℕ). length (lines bs)) t.text in
+      omega (arith, same, short)
 
   pub read_back : audit_in o (lines out) ≡ Ok t.audit
-  read_back = ap (λ (bs : List ℕ). audit_in o (lines bs)) t.text ∙ written_is_read o t.audit names.classes names.roles names.individuals few_axioms t.of_axioms t.refutations t.kept few_lines
+  read_back =
+      ap (λ (bs : List ℕ). audit_in o (lines bs)) t.text
+      ∙ written_is_read o t.audit names.classes names.roles names.individuals few_axioms t.of_axioms t.refutations
+      t.kept few_lines
 
   pub all_listed : ListsAll o q t.audit
   all_listed = lists_all o q t.audit t.of_axioms (within_sets t.audit.justifications t.kept.justified) t.sound
@@ -60,8 +75,10 @@ module _ (statement bytes out : List ℕ) (o : Listed) (q : Asked) (is : IsQuest
   }
 
 pub evidence_accepted : EvidenceIsAccepted
-evidence_accepted statement budget bytes out log is short = by is.answer.finished is.answer.written.text is.answer.written.status
+evidence_accepted statement budget bytes out log is short =
+    by is.answer.finished is.answer.written.text is.answer.written.status
   where
-    by : (b : Bool) → IsEvidenceText is.ontology is.query out b → Done ≡ end_status b → IsAcceptedText statement bytes out
+    by : (b : Bool) → IsEvidenceText is.ontology is.query out b → Done ≡ end_status b
+        → IsAcceptedText statement bytes out
     by true t status = text_accepted statement bytes out is.ontology is.query is.is_question t short
     by false t status = absurd (cc status)

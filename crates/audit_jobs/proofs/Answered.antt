@@ -9,7 +9,9 @@ use Rattle.audit_file.specs.AuditLists.{AuditLists}
 use Rattle.audit_file.specs.Written.{audit_text, IsKeptAudit}
 use Rattle.pinpointing_jobs.specs.TreeFound.{Found}
 use Rattle.job_inputs.specs.declared.status.Status.{Status}
-use Rattle.job_inputs.specs.declared.status.Status.TheVariants.{Done, Rejected, BadWords, BadText, Outside, Limit, ReadFault, WriteFault, Undecided, NoMemory as OutOfMemory}
+use Rattle.job_inputs.specs.declared.status.Status.TheVariants.{Done, Rejected, BadWords, BadText, Outside, Limit}
+use Rattle.job_inputs.specs.declared.status.Status.TheVariants.{ReadFault, WriteFault, Undecided}
+use Rattle.job_inputs.specs.declared.status.Status.TheVariants.{NoMemory as OutOfMemory}
 use Rattle.pinpointing_jobs.specs.Listings.{end_status}
 use Rattle.audit_jobs.specs.declared.evidence.Evidence.{Evidence}
 use Rattle.audit_jobs.specs.declared.searching.Searched.{Searched}
@@ -20,8 +22,10 @@ use Rattle.audit_jobs.proofs.Sound.{is_sound, of_axioms_listed, refutations_writ
 
 -- ---- the text of the audit
 
-pub text_by : {T : Type 0} (o : Listed) (q : Asked) (f : Found) (e : Evidence) → IsWitnessed o q f e.refutations.items e.models.items → f.finished ≡ true → (a : AuditLists) → IsAuditOf f e a
-    → (r : Result T NoMemory) (bytes : T → List ℕ) → IfOk r (λ t. bytes t ≡ audit_text o a) → OnOk r (IsKeptAudit o a) → IfOk r (λ t. IsAuditText o q (bytes t))
+pub text_by : {T : Type 0} (o : Listed) (q : Asked) (f : Found) (e : Evidence)
+    → IsWitnessed o q f e.refutations.items e.models.items → f.finished ≡ true → (a : AuditLists) → IsAuditOf f e a
+    → (r : Result T NoMemory) (bytes : T → List ℕ) → IfOk r (λ t. bytes t ≡ audit_text o a) → OnOk r (IsKeptAudit o a)
+    → IfOk r (λ t. IsAuditText o q (bytes t))
 text_by o q f e w finished a is (Ok t) bytes text kept = record {
   audit = a;
   text = text;
@@ -34,8 +38,11 @@ text_by o q f e w finished a is (Err x) bytes text kept = tt
 
 -- ---- of what a call answers
 
-module _ (o : Listed) (q : Asked) (budget : ℕ) (log : List Entry) (s : Searched) (is : IsSearched o q budget log s) where
-  pub all_answered : {T : Type 0} (r : Result (Status × T) NoMemory) (text : T → List ℕ) → IfOk r (λ a. IsWritten o q s.found.finished a.0 (text a.1)) → IfOk r (λ a. IsEvidenceAnswer o q budget log a.0 (text a.1))
+module _ (o : Listed) (q : Asked) (budget : ℕ) (log : List Entry) (s : Searched)
+    (is : IsSearched o q budget log s) where
+  pub all_answered : {T : Type 0} (r : Result (Status × T) NoMemory) (text : T → List ℕ)
+      → IfOk r (λ a. IsWritten o q s.found.finished a.0 (text a.1))
+      → IfOk r (λ a. IsEvidenceAnswer o q budget log a.0 (text a.1))
   all_answered (Ok a) text w = record { finished = s.found.finished; written = w; honest = is.honest; spent = is.spent }
   all_answered (Err x) text w = tt
 
@@ -50,7 +57,8 @@ no_want : (finished : Bool) → OutOfMemory ≡ end_status finished → ⊥
 no_want true is = cc is
 no_want false is = cc is
 
-pub evidenced_answers : (statement : List ℕ) (budget : ℕ) (bytes out : List ℕ) (s : Status) (log : List Entry) → IsEvidenced statement budget bytes out s log → AnswersEvidence statement budget bytes out s log
+pub evidenced_answers : (statement : List ℕ) (budget : ℕ) (bytes out : List ℕ) (s : Status) (log : List Entry)
+    → IsEvidenced statement budget bytes out s log → AnswersEvidence statement budget bytes out s log
 evidenced_answers statement budget bytes out Done log is = inr is
 evidenced_answers statement budget bytes out Rejected log is = inr is
 evidenced_answers statement budget bytes out BadWords log is = inr is
@@ -60,4 +68,5 @@ evidenced_answers statement budget bytes out Limit log is = inr is
 evidenced_answers statement budget bytes out ReadFault log is = inr is
 evidenced_answers statement budget bytes out WriteFault log is = inr is
 evidenced_answers statement budget bytes out Undecided log is = inr is
-evidenced_answers statement budget bytes out OutOfMemory log is = absurd (no_want is.answer.finished is.answer.written.status)
+evidenced_answers statement budget bytes out OutOfMemory log is =
+    absurd (no_want is.answer.finished is.answer.written.status)

@@ -20,43 +20,55 @@ use Rattle.audit_jobs.specs.Told.{HasTold}
 
 -- ---- evidence
 
-pub evidence_same : (a b : AskerLists) (e : Evidence) → b ≡ a → IsEvidence a.ontology a.query a.gained e → IsEvidence b.ontology b.query b.gained e
+pub evidence_same : (a b : AskerLists) (e : Evidence) → b ≡ a → IsEvidence a.ontology a.query a.gained e
+    → IsEvidence b.ontology b.query b.gained e
 evidence_same a b e same h = subst (λ (x : AskerLists). IsEvidence x.ontology x.query x.gained e) (sym same) h
 
 -- ---- one ask
 
-later : (mid new : AskerLists) (p : Limited) (r : Result Reply NoMemory) → IfOk r (HasTold mid new p) → OnErr r (new ≡ mid) → IsLater mid new
+later : (mid new : AskerLists) (p : Limited) (r : Result Reply NoMemory) → IfOk r (HasTold mid new p)
+    → OnErr r (new ≡ mid) → IsLater mid new
 later mid new p (Ok reply) told same = told.later
 later mid new p (Err x) told same = nothing_later mid new p same
 
-answered : (mid new : AskerLists) (s p : Limited) (known : IsKnown mid mid s (Unknown p)) (r : Result Reply NoMemory) → IfOk r (HasTold mid new p) → IfOk r (Answers (asker_meaning new) s)
-answered mid new s p known (Ok reply) told = lifted new s p reply (local_later mid new s p told.later known.1) told.answer
+answered : (mid new : AskerLists) (s p : Limited) (known : IsKnown mid mid s (Unknown p)) (r : Result Reply NoMemory)
+    → IfOk r (HasTold mid new p) → IfOk r (Answers (asker_meaning new) s)
+answered mid new s p known (Ok reply) told =
+    lifted new s p reply (local_later mid new s p told.later known.1) told.answer
 answered mid new s p known (Err x) told = tt
 
-left_out_of : (mid new : AskerLists) (s p : Limited) (limit : s.limit ≡ length mid.ontology.axioms) (known : IsKnown mid mid s (Unknown p)) (r : Result Reply NoMemory) → IfOk r (HasTold mid new p)
+left_out_of : (mid new : AskerLists) (s p : Limited) (limit : s.limit ≡ length mid.ontology.axioms)
+    (known : IsKnown mid mid s (Unknown p)) (r : Result Reply NoMemory)
+    → IfOk r (HasTold mid new p)
     → IfOk r (IsUnknownIf (asker_meaning new) s)
 left_out_of mid new s p limit known (Ok reply) told =
-    left_out new s (limit ∙ ap (λ (b : AskerLists). length b.ontology.axioms) (sym told.later.is_more)) reply (unknown_whole new s p (local_later mid new s p told.later known.1) reply told.unknown)
+    left_out new s (limit ∙ ap (λ (b : AskerLists). length b.ontology.axioms) (sym told.later.is_more)) reply
+    (unknown_whole new s p (local_later mid new s p told.later known.1) reply told.unknown)
 left_out_of mid new s p limit known (Err x) told = tt
 
-shown : (mid new : AskerLists) (p : Limited) (r : Result Reply NoMemory) → IfOk r (HasTold mid new p) → IfOk r (ShowsNoOther (asker_meaning mid) (asker_meaning new))
+shown : (mid new : AskerLists) (p : Limited) (r : Result Reply NoMemory) → IfOk r (HasTold mid new p)
+    → IfOk r (ShowsNoOther (asker_meaning mid) (asker_meaning new))
 shown mid new p (Ok reply) told = told.shown
 shown mid new p (Err x) told = tt
 
-counted : (mid new : AskerLists) (p : Limited) (r : Result Reply NoMemory) → IfOk r (HasTold mid new p) → OnOk r (new.asks ≡ one_more mid.asks)
+counted : (mid new : AskerLists) (p : Limited) (r : Result Reply NoMemory) → IfOk r (HasTold mid new p)
+    → OnOk r (new.asks ≡ one_more mid.asks)
 counted mid new p (Ok reply) told = told.counted
 counted mid new p (Err x) told = tt
 
-uncounted : (mid new : AskerLists) (p : Limited) (r : Result Reply NoMemory) → OnErr r (new ≡ mid) → OnErr r (new.asks ≡ mid.asks)
+uncounted : (mid new : AskerLists) (p : Limited) (r : Result Reply NoMemory) → OnErr r (new ≡ mid)
+    → OnErr r (new.asks ≡ mid.asks)
 uncounted mid new p (Ok reply) same = tt
 uncounted mid new p (Err x) same = ap (λ (x : AskerLists). x.asks) same
 
-taken : (mid new : AskerLists) (p : Limited) (r : Result Reply NoMemory) → IfOk r (HasTold mid new p) → OnErr r (new ≡ mid) → nodes_of new.gained ≡ nodes_of mid.gained
+taken : (mid new : AskerLists) (p : Limited) (r : Result Reply NoMemory) → IfOk r (HasTold mid new p)
+    → OnErr r (new ≡ mid) → nodes_of new.gained ≡ nodes_of mid.gained
 taken mid new p (Ok reply) told same = told.nodes
 taken mid new p (Err x) told same = ap (λ (x : AskerLists). nodes_of x.gained) same
 
 -- with what was known before
-module _ (old mid new : AskerLists) (s p : Limited) (known : IsKnown old mid s (Unknown p)) (r : Result Reply NoMemory) (told : IfOk r (HasTold mid new p)) (unchanged : OnErr r (new ≡ mid)) where
+module _ (old mid new : AskerLists) (s p : Limited) (known : IsKnown old mid s (Unknown p)) (r : Result Reply NoMemory)
+    (told : IfOk r (HasTold mid new p)) (unchanged : OnErr r (new ≡ mid)) where
   stays : IsKnown mid mid s (Unknown p)
   stays = subst (λ (x : AskerLists). IsKnown x mid s (Unknown p)) (sym known.0) known
 
@@ -64,13 +76,17 @@ module _ (old mid new : AskerLists) (s p : Limited) (known : IsKnown old mid s (
   asked_answer = answered mid new s p stays r told
 
   pub asked_unknown : s.limit ≡ length old.ontology.axioms → IfOk r (IsUnknownIf (asker_meaning new) s)
-  asked_unknown limit = left_out_of mid new s p (limit ∙ ap (λ (x : AskerLists). length x.ontology.axioms) (sym known.0)) stays r told
+  asked_unknown limit =
+      left_out_of mid new s p (limit ∙ ap (λ (x : AskerLists). length x.ontology.axioms) (sym known.0)) stays r told
 
   pub asked_shown : IfOk r (ShowsNoOther (asker_meaning old) (asker_meaning new))
-  asked_shown = subst (λ (x : AskerLists). IfOk r (ShowsNoOther (asker_meaning x) (asker_meaning new))) known.0 (shown mid new p r told)
+  asked_shown =
+      subst (λ (x : AskerLists). IfOk r (ShowsNoOther (asker_meaning x) (asker_meaning new))) known.0
+      (shown mid new p r told)
 
   pub asked_keeps : Keeps (asker_meaning old) (asker_meaning new)
-  asked_keeps = keeps_later old new (subst (λ (x : AskerLists). IsLater x new) known.0 (later mid new p r told unchanged))
+  asked_keeps =
+      keeps_later old new (subst (λ (x : AskerLists). IsLater x new) known.0 (later mid new p r told unchanged))
 
   pub asked_counted : OnOk r (new.asks ≡ one_more old.asks)
   asked_counted = subst (λ (x : AskerLists). OnOk r (new.asks ≡ one_more x.asks)) known.0 (counted mid new p r told)

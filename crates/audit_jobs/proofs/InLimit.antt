@@ -13,13 +13,20 @@ use Rattle.audit_jobs.specs.Audited.{input_with, IsAuditClaim, CanBeJudged}
 use Rattle.audit_jobs.specs.declared.reading.AuditClaim.{AuditClaim}
 use Rattle.audit_jobs.specs.declared.reading.AuditInput.{AuditInput}
 
-module _ (query bytes rest : List ℕ) (o : Listed) (kept : DocumentContext) (end : ℕ) (document : IsDocument bytes o kept end) (both : Listed) where
-  claim_in_limit : (c : AuditClaim) → IsAuditClaim o kept query rest both c → Fits both 4294967294 c.audit → CanBeJudged (input_with both c)
+module _ (query bytes rest : List ℕ) (o : Listed) (kept : DocumentContext) (end : ℕ)
+    (document : IsDocument bytes o kept end) (both : Listed) where
+  claim_in_limit : (c : AuditClaim) → IsAuditClaim o kept query rest both c → Fits both 4294967294 c.audit
+      → CanBeJudged (input_with both c)
   claim_in_limit c claim fits = record {
-    within = subst (λ (l : Listed). IsInLimit l c.asked) (sym claim.both_are) (queries_in_limit bytes o kept end document query claim.counts c.asked claim.is_query);
+    within =
+        subst (λ (l : Listed). IsInLimit l c.asked) (sym claim.both_are)
+        (queries_in_limit bytes o kept end document query claim.counts c.asked claim.is_query);
     fits = fits;
   }
 
-  pub input_in_limit : (r : Result AuditClaim Unread) (out : Result AuditInput Unread) → out ≡ result_map_both (input_with both) (λ u. u) r → IfOk r (IsAuditClaim o kept query rest both) → IfOk r (λ c. Fits both 4294967294 c.audit) → IfOk out CanBeJudged
-  input_in_limit (Ok c) out is claim fits = subst (λ (i : Result AuditInput Unread). IfOk i CanBeJudged) (sym is) (claim_in_limit c claim fits)
+  pub input_in_limit : (r : Result AuditClaim Unread) (out : Result AuditInput Unread)
+      → out ≡ result_map_both (input_with both) (λ u. u) r → IfOk r (IsAuditClaim o kept query rest both)
+      → IfOk r (λ c. Fits both 4294967294 c.audit) → IfOk out CanBeJudged
+  input_in_limit (Ok c) out is claim fits =
+      subst (λ (i : Result AuditInput Unread). IfOk i CanBeJudged) (sym is) (claim_in_limit c claim fits)
   input_in_limit (Err u) out is claim fits = subst (λ (i : Result AuditInput Unread). IfOk i CanBeJudged) (sym is) tt

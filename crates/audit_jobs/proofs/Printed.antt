@@ -1,5 +1,7 @@
 -- What is printed is accepted behind its document.
-use Rattle.std.proofs.Common.{◌≡◌, ◌≢◌, ℕ, ◌+◌, ◌≤◌, Bool, true, false, List, [], ◌∷◌, ◌++◌, length, take, drop, Option, Some, None, Result, Ok, Err, inl, inr, refl, ap, sym, ◌∙◌, subst, arith, append_assoc, length-append, codes}
+use Rattle.std.proofs.Common.{◌≡◌, ◌≢◌, ℕ, ◌+◌, ◌≤◌, Bool, true, false, List, [], ◌∷◌, ◌++◌, length, take, drop, Option}
+use Rattle.std.proofs.Common.{Some, None, Result, Ok, Err, inl, inr, refl, ap, sym, ◌∙◌, subst, arith, append_assoc}
+use Rattle.std.proofs.Common.{length-append, codes}
 use Rattle.std.specs.List.{prefix_len}
 use Rattle.std.proofs.lemmas.List.{drop_at, length-take-le}
 use Rattle.shq_terms.specs.Listed.{Listed}
@@ -48,17 +50,20 @@ no_complaint : (place : Place) (c : Option Complaint) (out : List ℕ) → IsAns
 no_complaint place None out is = let clash : Done ≡ NoMemory = ap (λ (a : Answer). a.0) is in cc
 no_complaint place (Some c) out is = no_sort c.sort (sym (ap (λ (a : Answer). a.0) is))
 
-not_refused : (question : Text) (bytes : List ℕ) (r : Reply) (out : List ℕ) → IsRefusedQuestion question bytes r → IsAnswer (reply_answer r) out Done → ⊥
+not_refused : (question : Text) (bytes : List ℕ) (r : Reply) (out : List ℕ) → IsRefusedQuestion question bytes r
+    → IsAnswer (reply_answer r) out Done → ⊥
 not_refused question bytes _ out (document e why) is = no_complaint P.Document (complaint e) out is
 not_refused question bytes _ out (query o kept e alone why) is = no_complaint P.Query (complaint e) out is
 
 -- ---- what a check answers ends it
 
-audited_end : (statement bytes answer : List ℕ) (s : Status) → Audited statement bytes answer s → s ≢ NoMemory → (end : Result AuditVerdict Unread) × IsAuditEnd statement bytes end × IsAnswer (end_answer end) answer s
+audited_end : (statement bytes answer : List ℕ) (s : Status) → Audited statement bytes answer s → s ≢ NoMemory
+    → (end : Result AuditVerdict Unread) × IsAuditEnd statement bytes end × IsAnswer (end_answer end) answer s
 audited_end statement bytes answer NoMemory told known = absurd (known refl)
 audited_end statement bytes answer s told known = told
 
-known_end : (end : Result AuditVerdict Unread) (answer : List ℕ) (s : Status) → IsAnswer (end_answer end) answer s → s ≢ NoMemory → IsKnown end
+known_end : (end : Result AuditVerdict Unread) (answer : List ℕ) (s : Status) → IsAnswer (end_answer end) answer s
+    → s ≢ NoMemory → IsKnown end
 known_end (Ok v) answer s is known = tt
 known_end (Err (U.Document e)) answer s is known = tt
 known_end (Err (U.Query e)) answer s is known = tt
@@ -69,11 +74,14 @@ abbrev IsAcceptance : List ℕ → Status → Type 0
 IsAcceptance answer s = (s ≡ Done) × (answer ≡ line (codes "accepted audit"))
 
 -- where the audit is accepted, nothing else is answered
-accepted_only : (statement bytes answer : List ℕ) (s : Status) → IsJudgedOn statement bytes verdict.Accepted → Audited statement bytes answer s → s ≢ NoMemory → IsAcceptance answer s
+accepted_only : (statement bytes answer : List ℕ) (s : Status) → IsJudgedOn statement bytes verdict.Accepted
+    → Audited statement bytes answer s → s ≢ NoMemory → IsAcceptance answer s
 accepted_only statement bytes answer s judged told known =
     let ended = audited_end statement bytes answer s told known in
     let same : ◌≡◌ {A = Answer} (s, answer) (Done, line (codes "accepted audit")) =
-    ended.2 ∙ sym (one_end statement bytes (Ok verdict.Accepted) ended.0 tt (known_end ended.0 answer s ended.2 known) judged ended.1) in
+    ended.2 ∙ sym
+    (one_end statement bytes (Ok verdict.Accepted) ended.0 tt (known_end ended.0 answer s ended.2 known) judged
+    ended.1) in
     (ap (λ (a : Answer). a.0) same, ap (λ (a : Answer). a.1) same)
 
 -- ---- the text of an audit behind its document
@@ -86,22 +94,29 @@ begins_with_audit o a =
     let ending = fed (codes "end audit") in
     let grouped : audit_text o a ≡ fed (codes "audit") ++ (js ++ (rs ++ ending)) =
     append_assoc (fed (codes "audit") ++ js) rs ending ∙ append_assoc (fed (codes "audit")) js (rs ++ ending) in
-    let first : lines (audit_text o a) ≡ codes "audit" ∷ lines (js ++ (rs ++ ending)) = ap lines grouped ∙ fed_first (codes "audit") (js ++ (rs ++ ending)) refl in
+    let first : lines (audit_text o a) ≡ codes "audit" ∷ lines (js ++ (rs ++ ending)) =
+    ap lines grouped ∙ fed_first (codes "audit") (js ++ (rs ++ ending)) refl in
     ap (λ (ls : List (List ℕ)). drop (prefix_len is_blank ls) ls) first ∙ sym first
 
-module _ (statement bytes out : List ℕ) (o : Listed) (q : Asked) (is : IsQuestion (follows statement) bytes o q) (t : IsAuditText o q out) (short : length (lines out) ≤ 4294967293) (gap : List ℕ) (g : AreBlankLines gap) where
+module _ (statement bytes out : List ℕ) (o : Listed) (q : Asked) (is : IsQuestion (follows statement) bytes o q)
+    (t : IsAuditText o q out) (short : length (lines out) ≤ 4294967293) (gap : List ℕ) (g : AreBlankLines gap) where
   behind_is : gap ++ out ≡ g.before ++ 10 ∷ out
   behind_is = ap (λ (l : List ℕ). l ++ out) g.made ∙ append_assoc g.before (10 ∷ []) out
 
   lines_are : certificate_lines (gap ++ out) ≡ lines out
   lines_are =
-      ap certificate_lines behind_is ∙ blank_skipped g.before out g.blank ∙ ap certificate_lines t.text ∙ begins_with_audit o t.audit ∙ ap lines (sym t.text)
+      ap certificate_lines behind_is ∙ blank_skipped g.before out g.blank ∙ ap certificate_lines t.text
+      ∙ begins_with_audit o t.audit ∙ ap lines (sym t.text)
 
   is_audit : audit_after o (gap ++ out) ≡ Ok t.audit
   is_audit = ap (audit_in o) lines_are ∙ read_back statement bytes out o q is t short
 
   judged : IsJudged o q t.audit verdict.Accepted
-  judged = record { ordered = t.kept.ordered; verdict_is = t.sound; lists_all = λ accepted. all_listed statement bytes out o q is t short }
+  judged = record {
+    ordered = t.kept.ordered;
+    verdict_is = t.sound;
+    lists_all = λ accepted. all_listed statement bytes out o q is t short;
+  }
 
   asked_on : IsAskedOn statement (take is.is_document.end bytes ++ (gap ++ out)) o q (gap ++ out)
   asked_on =
@@ -119,23 +134,38 @@ module _ (statement bytes out : List ℕ) (o : Listed) (q : Asked) (is : IsQuest
       }
 
   judged_on : IsJudgedOn statement (take is.is_document.end bytes ++ (gap ++ out)) verdict.Accepted
-  judged_on = record { both = o; asked = q; rest = gap ++ out; audit = t.audit; is_asked = asked_on; is_audit = is_audit; judged = judged }
+  judged_on = record {
+    both = o;
+    asked = q;
+    rest = gap ++ out;
+    audit = t.audit;
+    is_asked = asked_on;
+    is_audit = is_audit;
+    judged = judged;
+  }
 
 -- the text has as many lines as can be counted
-lines_counted : (front out gap : List ℕ) → AreBlankLines gap → length (front ++ (gap ++ out)) ≤ 4294967293 → length (lines out) ≤ 4294967293
+lines_counted : (front out gap : List ℕ) → AreBlankLines gap → length (front ++ (gap ++ out)) ≤ 4294967293
+    → length (lines out) ≤ 4294967293
 lines_counted front out gap g short =
     let gap_length : length gap ≡ length g.before + 1 = ap length g.made ∙ length-append g.before (10 ∷ []) in
     omega (arith, few_lines out, length-append front (gap ++ out), length-append gap out, gap_length, short)
 
 pub printed : PrintedEvidenceIsAccepted
-printed statement budget bytes out log (inl refused) o kept end d gap g short answer s told known = absurd (not_refused (follows statement) bytes refused.reply out refused.refused refused.answer)
+printed statement budget bytes out log (inl refused) o kept end d gap g short answer s told known =
+    absurd (not_refused (follows statement) bytes refused.reply out refused.refused refused.answer)
 printed statement budget bytes out log (inr is) o kept end d gap g short answer s told known =
     by is.answer.finished is.answer.written.text is.answer.written.status
   where
-    by : (b : Bool) → IsEvidenceText is.ontology is.query out b → Done ≡ end_status b → (s ≡ Done) × (answer ≡ line (codes "accepted audit"))
+    by : (b : Bool) → IsEvidenceText is.ontology is.query out b → Done ≡ end_status b
+        → (s ≡ Done) × (answer ≡ line (codes "accepted audit"))
     by false t status = absurd (cc status)
     by true t status =
         let alone = is.is_question.is_document in
-        let same : alone.end ≡ end = (documents bytes is.is_question.document o is.is_question.kept kept alone.end end alone.is_document d).2 in
-        let judged = judged_on statement bytes out is.ontology is.query is.is_question t (lines_counted (take end bytes) out gap g short) gap g in
-        accepted_only statement (take end bytes ++ (gap ++ out)) answer s (subst (λ n. IsJudgedOn statement (take n bytes ++ (gap ++ out)) verdict.Accepted) same judged) told known
+        let same : alone.end ≡ end =
+        (documents bytes is.is_question.document o is.is_question.kept kept alone.end end alone.is_document d).2 in
+        let judged =
+        judged_on statement bytes out is.ontology is.query is.is_question t
+        (lines_counted (take end bytes) out gap g short) gap g in
+        accepted_only statement (take end bytes ++ (gap ++ out)) answer s
+        (subst (λ n. IsJudgedOn statement (take n bytes ++ (gap ++ out)) verdict.Accepted) same judged) told known

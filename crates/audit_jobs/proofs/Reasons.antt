@@ -18,24 +18,28 @@ use Rattle.audit_file.specs.AuditLists.{AuditLists}
 use Rattle.audit_file.specs.AuditText.{IsFaultBy}
 use Rattle.audit_file.specs.Fitting.{Fits}
 use Rattle.audit_check.specs.declared.verdict.AuditVerdict.{AuditVerdict}
-use Rattle.audit_jobs.specs.Audited.{audit_after, IsJudged, IsAskedOn, IsJudgedOn, IsAuditEnd, IsUnreadBy, IsAuditClaim, IsUnclaimed, input_with, IsAuditInput}
+use Rattle.audit_jobs.specs.Audited.{audit_after, IsJudged, IsAskedOn, IsJudgedOn, IsAuditEnd, IsUnreadBy, IsAuditClaim}
+use Rattle.audit_jobs.specs.Audited.{IsUnclaimed, input_with, IsAuditInput}
 use Rattle.audit_jobs.specs.declared.reading.AuditClaim.{AuditClaim}
 use Rattle.audit_jobs.specs.declared.reading.AuditInput.{AuditInput}
 
-pub mapped_ok : {T U E : Type 0} (f : T → U) (P : T → Type 0) (Q : U → Type 0) (r : Result T E) (out : Result U E) → out ≡ result_map_both f (λ e. e) r → ((x : T) → P x → Q (f x)) → IfOk r P → IfOk out Q
+pub mapped_ok : {T U E : Type 0} (f : T → U) (P : T → Type 0) (Q : U → Type 0) (r : Result T E) (out : Result U E)
+    → out ≡ result_map_both f (λ e. e) r → ((x : T) → P x → Q (f x)) → IfOk r P → IfOk out Q
 mapped_ok f P Q (Ok x) out is so p = subst (λ o. IfOk o Q) (sym is) (so x p)
 mapped_ok f P Q (Err e) out is so p = subst (λ o. IfOk o Q) (sym is) tt
 
 -- ---- the lines behind the document
 
-pub line_said : (r : Result AuditLists ℕ) (f : LineFault) (u : Unread) → u ≡ line_unread f → IsFaultBy r f → IsUnreadBy r u
+pub line_said : (r : Result AuditLists ℕ) (f : LineFault) (u : Unread) → u ≡ line_unread f → IsFaultBy r f
+    → IsUnreadBy r u
 line_said r (F.Malformed n) u is why = subst (IsUnreadBy r) (sym is) why
 line_said r F.NoMemory u is why = subst (IsUnreadBy r) (sym is) tt
 
 pub fits_more : (o : Listed) (n : ℕ) (a : AuditLists) → n ≤ 4294967294 → Fits o n a → Fits o 4294967294 a
 fits_more o n a le fits = record {
   justified = fits.justified;
-  refutations = λ k d lt. let r = fits.refutations k d lt in record { writable = r.writable; lines = omega (arith, r.lines, le) };
+  refutations =
+      λ k d lt. let r = fits.refutations k d lt in record { writable = r.writable; lines = omega (arith, r.lines, le) };
   repaired = fits.repaired;
 }
 
@@ -47,20 +51,27 @@ undocumented query bytes (Query e) why = absurd why
 undocumented query bytes (Line n) why = absurd why
 undocumented query bytes NoMemory why = tt
 
-pub unasked : (o : Listed) (kept : DocumentContext) (query rest : List ℕ) (u : Unread) → IsUnasked o kept query u → IsUnclaimed o kept query rest u
+pub unasked : (o : Listed) (kept : DocumentContext) (query rest : List ℕ) (u : Unread) → IsUnasked o kept query u
+    → IsUnclaimed o kept query rest u
 unasked o kept query rest (Document e) why = absurd why
 unasked o kept query rest (Query e) why = why
 unasked o kept query rest (Line n) why = absurd why
 unasked o kept query rest NoMemory why = tt
 
-pub unaudited : (o : Listed) (kept : DocumentContext) (query rest : List ℕ) (counts : Counts) (q : Asked) (both : Listed) → IsAsked o kept query counts q → both ≡ with_names o counts → (u : Unread) → IsUnreadBy (audit_after both rest) u → IsUnclaimed o kept query rest u
+pub unaudited : (o : Listed) (kept : DocumentContext) (query rest : List ℕ) (counts : Counts) (q : Asked)
+    (both : Listed)
+    → IsAsked o kept query counts q → both ≡ with_names o counts → (u : Unread) → IsUnreadBy (audit_after both rest) u
+    → IsUnclaimed o kept query rest u
 unaudited o kept query rest counts q both is_query names (Document e) why = absurd why
 unaudited o kept query rest counts q both is_query names (Query e) why = absurd why
-unaudited o kept query rest counts q both is_query names (Line n) why = record { counts = counts; asked = q; both = both; is_query = is_query; both_are = names; is_told = why }
+unaudited o kept query rest counts q both is_query names (Line n) why =
+    record { counts = counts; asked = q; both = both; is_query = is_query; both_are = names; is_told = why }
 unaudited o kept query rest counts q both is_query names NoMemory why = tt
 
-module _ (query bytes : List ℕ) (o : Listed) (kept : DocumentContext) (end : ℕ) (is_document : IsDocument bytes o kept end) where
-  asked_on : (counts : Counts) (q : Asked) (both : Listed) → IsAsked o kept query counts q → both ≡ with_names o counts → IsAskedOn query bytes both q (drop end bytes)
+module _ (query bytes : List ℕ) (o : Listed) (kept : DocumentContext) (end : ℕ)
+    (is_document : IsDocument bytes o kept end) where
+  asked_on : (counts : Counts) (q : Asked) (both : Listed) → IsAsked o kept query counts q → both ≡ with_names o counts
+      → IsAskedOn query bytes both q (drop end bytes)
   asked_on counts q both is_query names = record {
     document = o;
     kept = kept;
@@ -75,12 +86,32 @@ module _ (query bytes : List ℕ) (o : Listed) (kept : DocumentContext) (end : �
   pub unclaimed : (u : Unread) → IsUnclaimed o kept query (drop end bytes) u → IsAuditEnd query bytes (Err u)
   unclaimed (Document e) why = absurd why
   unclaimed (Query e) why = record { document = o; kept = kept; end = end; is_document = is_document; not_asked = why }
-  unclaimed (Line n) why = record { both = why.both; asked = why.asked; rest = drop end bytes; is_asked = asked_on why.counts why.asked why.both why.is_query why.both_are; is_told = why.is_told }
+  unclaimed (Line n) why = record {
+    both = why.both;
+    asked = why.asked;
+    rest = drop end bytes;
+    is_asked = asked_on why.counts why.asked why.both why.is_query why.both_are;
+    is_told = why.is_told;
+  }
   unclaimed NoMemory why = tt
 
-  pub claimed : (both : Listed) (c : AuditClaim) → IsAuditClaim o kept query (drop end bytes) both c → IsAuditInput query bytes (input_with both c)
-  claimed both c claim = record { rest = drop end bytes; is_asked = asked_on claim.counts c.asked both claim.is_query claim.both_are; is_audit = claim.found }
+  pub claimed : (both : Listed) (c : AuditClaim) → IsAuditClaim o kept query (drop end bytes) both c
+      → IsAuditInput query bytes (input_with both c)
+  claimed both c claim = record {
+    rest = drop end bytes;
+    is_asked = asked_on claim.counts c.asked both claim.is_query claim.both_are;
+    is_audit = claim.found;
+  }
 
 -- the verdict on an input that was read is one on the bytes
-pub verdict_said : (query bytes : List ℕ) (x : AuditInput) (v : AuditVerdict) → IsAuditInput query bytes x → IsJudged x.ontology x.asked x.audit v → IsJudgedOn query bytes v
-verdict_said query bytes x v is judged = record { both = x.ontology; asked = x.asked; rest = is.rest; audit = x.audit; is_asked = is.is_asked; is_audit = is.is_audit; judged = judged }
+pub verdict_said : (query bytes : List ℕ) (x : AuditInput) (v : AuditVerdict) → IsAuditInput query bytes x
+    → IsJudged x.ontology x.asked x.audit v → IsJudgedOn query bytes v
+verdict_said query bytes x v is judged = record {
+  both = x.ontology;
+  asked = x.asked;
+  rest = is.rest;
+  audit = x.audit;
+  is_asked = is.is_asked;
+  is_audit = is.is_audit;
+  judged = judged;
+}

@@ -1,5 +1,6 @@
 -- From what an object answered that keeps evidence to what a search found.
-use Rattle.std.proofs.Common.{◌≡◌, ℕ, ◌+◌, ◌*◌, ◌^◌, ◌<◌, ◌≤◌, true, List, [], ◌++◌, length, Result, Ok, Err, ap, sym, ◌∙◌, arith, inr}
+use Rattle.std.proofs.Common.{◌≡◌, ℕ, ◌+◌, ◌*◌, ◌^◌, ◌<◌, ◌≤◌, true, List, [], ◌++◌, length, Result, Ok, Err, ap, sym}
+use Rattle.std.proofs.Common.{◌∙◌, arith, inr}
 use Rattle.std.specs.Prelude.{IfOk, OnErr}
 use Rattle.std.specs.Result.{result_map_both}
 use Rattle.std.specs.List.{Contains}
@@ -24,7 +25,8 @@ use Rattle.run_log.specs.HonestLog.{IsHonestEntry, AreTreeNodes}
 use Rattle.pinpointing_jobs.specs.OracleLists.{OracleLists}
 use Rattle.pinpointing_jobs.specs.AskerLists.{AskerLists, origin_of}
 use Rattle.pinpointing_jobs.specs.Told.{asker_meaning, IsAskerLog}
-use Rattle.pinpointing_jobs.proofs.Searched.{left_at_first, spent_both, budget_kept, few, just, tree, fresh, made_fresh, IsMadeOf, is_made_of, left_is, asks_few, along}
+use Rattle.pinpointing_jobs.proofs.Searched.{left_at_first, spent_both, budget_kept, few, just, tree, fresh, made_fresh}
+use Rattle.pinpointing_jobs.proofs.Searched.{IsMadeOf, is_made_of, left_is, asks_few, along}
 use Rattle.audit_jobs.specs.declared.evidence.Evidence.{Evidence}
 use Rattle.audit_jobs.specs.declared.searching.Searched.{Searched}
 use Rattle.audit_jobs.specs.Kept.{HasRefutation, IsEvidence}
@@ -32,38 +34,61 @@ use Rattle.audit_jobs.specs.Witnessed.{IsEvidenceLog, HasAsked, HasModelOutside,
 
 -- ---- the evidence of what was shown
 
-module _ (a : AskerLists) (f : Found) (e : Evidence) (is_log : IsAskerLog a) (found : IsFound (asker_meaning a) f) (evidence : IsEvidence a.ontology a.query a.gained e) where
+module _ (a : AskerLists) (f : Found) (e : Evidence) (is_log : IsAskerLog a) (found : IsFound (asker_meaning a) f)
+    (evidence : IsEvidence a.ontology a.query a.gained e) where
   refuted : (j : Limited) → Contains f.justifications.items j → HasRefutation e.refutations.items j
   refuted j listed =
       let shown = found.shown_yes j listed in
       let has = evidence.each_yes shown.tested a.query shown.steps shown.enough shown.is_yes in
-      let honest = All-contains (IsHonestEntry a.ontology) a.gained (Test shown.tested a.query shown.steps (E.Yes shown.enough)) is_log.honest shown.is_yes in
-      (has.0, has.1, has.2 ∙ same_limited shown.enough j (honest.1.of_axioms.limit_is ∙ sym (found.just_limits j listed)) shown.is_set)
+      let honest =
+      All-contains (IsHonestEntry a.ontology) a.gained (Test shown.tested a.query shown.steps (E.Yes shown.enough))
+      is_log.honest shown.is_yes in (
+        has.0,
+        has.1,
+        has.2
+            ∙ same_limited shown.enough j (honest.1.of_axioms.limit_is ∙ sym (found.just_limits j listed)) shown.is_set,
+      )
 
-  modelled : a.local_part ≡ numbers_to (length a.ontology.axioms) → (l : Limited) → Contains f.leaves.items l → HasModelOutside e.models.items l
+  modelled : a.local_part ≡ numbers_to (length a.ontology.axioms) → (l : Limited) → Contains f.leaves.items l
+      → HasModelOutside e.models.items l
   modelled whole l listed =
       let shown = found.shown_no l listed in
       let has = evidence.each_no shown.tested a.query shown.steps shown.is_no in (
         has.0,
         has.1,
         λ k h.
-            let inside : set.contains (numbers_to l.limit) k ≡ true = (in_difference (numbers_to l.limit) l.members k h).0 in
-            let in_part : set.contains a.local_part k ≡ true = ap (λ (s : NumberSet). set.contains s k) whole ∙ ap (λ (n : ℕ). set.contains (numbers_to n) k) (sym (found.leaf_limits l listed)) ∙ inside in
+            let inside : set.contains (numbers_to l.limit) k ≡ true =
+            (in_difference (numbers_to l.limit) l.members k h).0 in
+            let in_part : set.contains a.local_part k ≡ true =
+            ap (λ (s : NumberSet). set.contains s k) whole
+            ∙ ap (λ (n : ℕ). set.contains (numbers_to n) k) (sym (found.leaf_limits l listed)) ∙ inside in
             ap (λ (s : Limited). set.contains s.members k) has.2 ∙ shown.has_part k h in_part,
       )
 
 -- ---- the log
 
 module _ (a : AskerLists) (is_log : IsAskerLog a)
-    (asked : a.asks ≤ (length a.ontology.axioms + 1) * length (nodes_of a.gained)) (small : length a.ontology.axioms ≤ 20000) (budget_small : a.budget < 2 ^ 32) where
+    (asked : a.asks ≤ (length a.ontology.axioms + 1) * length (nodes_of a.gained))
+    (small : length a.ontology.axioms ≤ 20000) (budget_small : a.budget < 2 ^ 32) where
   honest_by : AreTreeNodes a.ontology a.query a.gained → IsEvidenceLog a.ontology a.query (left_at_first a) a.gained
-  honest_by nodes = record { budget_kept = budget_kept a is_log; tests = is_log.tests; new = is_log.new; nodes = nodes; few = few a is_log asked small budget_small }
+  honest_by nodes = record {
+    budget_kept = budget_kept a is_log;
+    tests = is_log.tests;
+    new = is_log.new;
+    nodes = nodes;
+    few = few a is_log asked small budget_small;
+  }
 
-module _ (a : AskerLists) (s : Searched) (is_log : IsAskerLog a) (found : IsFound (asker_meaning a) s.found) (evidence : IsEvidence a.ontology a.query a.gained s.evidence)
-    (whole : a.local_part ≡ numbers_to (length a.ontology.axioms)) (asked : a.asks ≤ (length a.ontology.axioms + 1) * length (nodes_of a.gained)) (small : length a.ontology.axioms ≤ 20000) (budget_small : a.budget < 2 ^ 32) where
+module _ (a : AskerLists) (s : Searched) (is_log : IsAskerLog a) (found : IsFound (asker_meaning a) s.found)
+    (evidence : IsEvidence a.ontology a.query a.gained s.evidence)
+    (whole : a.local_part ≡ numbers_to (length a.ontology.axioms))
+    (asked : a.asks ≤ (length a.ontology.axioms + 1) * length (nodes_of a.gained))
+    (small : length a.ontology.axioms ≤ 20000) (budget_small : a.budget < 2 ^ 32) where
   searched : IsSearched a.ontology a.query (left_at_first a) a.gained s
   searched = record {
-    honest = honest_by a is_log asked small budget_small (tree a s.found.justifications.items found.just_limits found.smallest found.nodes);
+    honest =
+        honest_by a is_log asked small budget_small
+        (tree a s.found.justifications.items found.just_limits found.smallest found.nodes);
     witnessed = record {
       order = found.order;
       justifications = just a s.found.justifications.items found.just_limits found.smallest;
@@ -83,14 +108,35 @@ with_evidence e f = record { found = f; evidence = e }
 
 -- one that asks among all axioms
 pub all_fresh : (o : Listed) (q : Asked) (budget : ℕ) (oracle : OracleLists) (log : List Entry) (begun : AskerLists)
-    → begun ≡ record { ontology = oracle.ontology; query = q; budget = oracle.budget; local_part = numbers_to (length oracle.ontology.axioms); before = oracle.log; gained = []; asks = 0 }
-    → oracle ≡ record { ontology = o; budget = budget; log = log } → log ≡ [] → begun ≡ fresh o q budget (numbers_to (length o.axioms)) []
+    → begun ≡ record {
+      ontology = oracle.ontology;
+      query = q;
+      budget = oracle.budget;
+      local_part = numbers_to (length oracle.ontology.axioms);
+      before = oracle.log;
+      gained = [];
+      asks = 0;
+    }
+    → oracle ≡ record { ontology = o; budget = budget; log = log } → log ≡ []
+    → begun ≡ fresh o q budget (numbers_to (length o.axioms)) []
 all_fresh o q budget oracle log begun made is none =
     made_fresh o q budget (numbers_to (length o.axioms)) [] oracle begun
-    (made ∙ ap (λ (x : OracleLists). record { ontology = oracle.ontology; query = q; budget = oracle.budget; local_part = numbers_to (length x.ontology.axioms); before = oracle.log; gained = []; asks = 0 }) is)
+    (made ∙ ap
+    (λ (x : OracleLists). record {
+      ontology = oracle.ontology;
+      query = q;
+      budget = oracle.budget;
+      local_part = numbers_to (length x.ontology.axioms);
+      before = oracle.log;
+      gained = [];
+      asks = 0;
+    })
+    is)
     (is ∙ ap (λ (l : List Entry). record { ontology = o; budget = budget; log = l }) none)
 
-module _ (o : Listed) (q : Asked) (budget : ℕ) (begun ended : AskerLists) (log : List Entry) (made : begun ≡ fresh o q budget (numbers_to (length o.axioms)) []) (same : origin_of ended ≡ origin_of begun) (is_log : IsAskerLog ended)
+module _ (o : Listed) (q : Asked) (budget : ℕ) (begun ended : AskerLists) (log : List Entry)
+    (made : begun ≡ fresh o q budget (numbers_to (length o.axioms)) []) (same : origin_of ended ≡ origin_of begun)
+    (is_log : IsAskerLog ended)
     (log_is : log ≡ ended.before ++ ended.gained) where
   of : IsMadeOf o q budget (numbers_to (length o.axioms)) [] ended
   of = is_made_of o q budget (numbers_to (length o.axioms)) [] ended (same ∙ ap origin_of made)
@@ -101,20 +147,29 @@ module _ (o : Listed) (q : Asked) (budget : ℕ) (begun ended : AskerLists) (log
   left : left_at_first ended ≡ budget
   left = left_is o q budget (numbers_to (length o.axioms)) [] ended of ∙ omega arith
 
-  pub all_begun : length o.axioms ≤ 20000 → budget < 2 ^ 32 → (e : Evidence) (r : Result Found NoMemory) → OnErr r (HasTree (asker_meaning ended)) → AsksFew (length ended.ontology.axioms) (asker_meaning begun) (asker_meaning ended)
+  pub all_begun : length o.axioms ≤ 20000 → budget < 2 ^ 32 → (e : Evidence) (r : Result Found NoMemory)
+      → OnErr r (HasTree (asker_meaning ended))
+      → AsksFew (length ended.ontology.axioms) (asker_meaning begun) (asker_meaning ended)
       → OnErr (result_map_both (with_evidence e) (λ (x : NoMemory). x) r) (HasAsked o q budget log)
   all_begun small budget_small e (Ok f) begun_tree asked = tt
   all_begun small budget_small e (Err x) begun_tree asked =
       let count : length ended.ontology.axioms ≡ length o.axioms = ap (λ (l : Listed). length l.axioms) of.ontology in
-      inr (along IsEvidenceLog ended.ontology o ended.query q (left_at_first ended) budget ended.gained log of.ontology of.query left logged
-      (honest_by ended is_log (asks_few o q budget (numbers_to (length o.axioms)) [] begun ended made asked) (omega (arith, small, count)) (omega (arith, budget_small, of.budget_is))
+      inr (along IsEvidenceLog ended.ontology o ended.query q (left_at_first ended) budget ended.gained log of.ontology
+      of.query left logged
+      (honest_by ended is_log (asks_few o q budget (numbers_to (length o.axioms)) [] begun ended made asked)
+      (omega (arith, small, count)) (omega (arith, budget_small, of.budget_is))
       (tree ended begun_tree.labels begun_tree.limits begun_tree.smallest begun_tree.nodes)))
 
-  pub all_searched : (e : Evidence) → IsEvidence ended.ontology ended.query ended.gained e → length o.axioms ≤ 20000 → budget < 2 ^ 32 → (r : Result Found NoMemory) → IfOk r (IsFound (asker_meaning ended))
-      → AsksFew (length ended.ontology.axioms) (asker_meaning begun) (asker_meaning ended) → IfOk (result_map_both (with_evidence e) (λ (x : NoMemory). x) r) (IsSearched o q budget log)
+  pub all_searched : (e : Evidence) → IsEvidence ended.ontology ended.query ended.gained e → length o.axioms ≤ 20000
+      → budget < 2 ^ 32 → (r : Result Found NoMemory) → IfOk r (IsFound (asker_meaning ended))
+      → AsksFew (length ended.ontology.axioms) (asker_meaning begun) (asker_meaning ended)
+      → IfOk (result_map_both (with_evidence e) (λ (x : NoMemory). x) r) (IsSearched o q budget log)
   all_searched e evidence small budget_small (Err x) found few = tt
   all_searched e evidence small budget_small (Ok f) found few =
       let count : length ended.ontology.axioms ≡ length o.axioms = ap (λ (l : Listed). length l.axioms) of.ontology in
       let s : Searched = with_evidence e f in
-      along (λ l k n es. IsSearched l k n es s) ended.ontology o ended.query q (left_at_first ended) budget ended.gained log of.ontology of.query left logged
-      (searched ended s is_log found evidence (of.local_part ∙ ap numbers_to (sym count)) (asks_few o q budget (numbers_to (length o.axioms)) [] begun ended made few) (omega (arith, small, count)) (omega (arith, budget_small, of.budget_is)))
+      along (λ l k n es. IsSearched l k n es s) ended.ontology o ended.query q (left_at_first ended) budget ended.gained
+      log of.ontology of.query left logged
+      (searched ended s is_log found evidence (of.local_part ∙ ap numbers_to (sym count))
+      (asks_few o q budget (numbers_to (length o.axioms)) [] begun ended made few) (omega (arith, small, count))
+      (omega (arith, budget_small, of.budget_is)))

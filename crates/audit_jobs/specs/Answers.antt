@@ -44,14 +44,16 @@ pub record IsWritten (o : Listed) (q : Asked) (finished : Bool) (s : Status) (ou
 -- ---- what is true of it
 
 -- a query was searched: where the budget did not suffice, all of it is spent
-pub record IsEvidenceAnswer (o : Listed) (q : Asked) (budget : ℕ) (log : List Entry) (s : Status) (out : List ℕ) : Type 0 where
+pub record IsEvidenceAnswer (o : Listed) (q : Asked) (budget : ℕ) (log : List Entry) (s : Status) (out : List ℕ) :
+    Type 0 where
   pub finished : Bool
   pub written : IsWritten o q finished s out
   pub honest : IsEvidenceLog o q budget log
   pub spent : finished ≡ false → spent_of log ≡ budget
 
 -- the statement is a query on the document that the bytes are, and was searched
-pub record IsEvidenced (statement : List ℕ) (budget : ℕ) (bytes out : List ℕ) (s : Status) (log : List Entry) : Type 0 where
+pub record IsEvidenced (statement : List ℕ) (budget : ℕ) (bytes out : List ℕ) (s : Status) (log : List Entry) :
+    Type 0 where
   pub ontology : Listed
   pub query : Asked
   pub is_question : IsQuestion (follows statement) bytes ontology query
@@ -60,4 +62,5 @@ pub record IsEvidenced (statement : List ℕ) (budget : ℕ) (bytes out : List �
 -- the document or the statement is refused, or the statement was searched
 abbrev pub AnswersEvidence : List ℕ → ℕ → List ℕ → List ℕ → Status → List Entry → Type 0
 AnswersEvidence statement budget bytes out s log =
-    UnlessNoMemory s out (HasBegun (follows statement) bytes log (λ o q. IsEvidenceLog o q budget log)) (IsRefused (follows statement) bytes out s log ⊎ IsEvidenced statement budget bytes out s log)
+    UnlessNoMemory s out (HasBegun (follows statement) bytes log (λ o q. IsEvidenceLog o q budget log))
+    (IsRefused (follows statement) bytes out s log ⊎ IsEvidenced statement budget bytes out s log)

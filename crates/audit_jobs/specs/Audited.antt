@@ -101,7 +101,8 @@ end_answer (Err u) = unread_answer u
 -- the answer of a check
 abbrev pub Audited : List ℕ → List ℕ → List ℕ → Status → Type 0
 Audited query bytes out NoMemory = out ≡ no_memory
-Audited query bytes out s = (end : Result AuditVerdict Unread) × IsAuditEnd query bytes end × IsAnswer (end_answer end) out s
+Audited query bytes out s = (end : Result AuditVerdict Unread) × IsAuditEnd query bytes end
+    × IsAnswer (end_answer end) out s
 
 -- ---- while it is read
 
@@ -113,7 +114,8 @@ IsUnreadBy r (U.Query e) = ⊥
 IsUnreadBy r U.NoMemory = Unit {0}
 
 -- the query on a document, and the audit that follows the document, over the names of both
-pub record IsAuditClaim (o : Listed) (kept : DocumentContext) (query rest : List ℕ) (both : Listed) (claim : AuditClaim) : Type 0 where
+pub record IsAuditClaim (o : Listed) (kept : DocumentContext) (query rest : List ℕ) (both : Listed) (claim : AuditClaim)
+    : Type 0 where
   pub counts : Counts
   pub is_query : IsAsked o kept query counts claim.asked
   pub both_are : both ≡ with_names o counts

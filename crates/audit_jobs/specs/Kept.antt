@@ -46,7 +46,8 @@ HasModel ms s = (m : CounterModel) × Contains ms m × (m.set ≡ s)
 -- each yes of the log has a refutation over its axioms, and each no a model of its set
 pub record IsEvidence (o : Listed) (q : Asked) (log : List Entry) (e : Evidence) : Type 0 where
   pub are_shown : AreShown o q e.refutations.items e.models.items
-  pub each_yes : (s : Limited) (p : Asked) (steps : ℕ) (u : Limited) → Contains log (Test s p steps (Yes u)) → HasRefutation e.refutations.items u
+  pub each_yes : (s : Limited) (p : Asked) (steps : ℕ) (u : Limited) → Contains log (Test s p steps (Yes u))
+      → HasRefutation e.refutations.items u
   pub each_no : (s : Limited) (p : Asked) (steps : ℕ) → Contains log (Test s p steps No) → HasModel e.models.items s
 
 -- ---- what is kept of a test
@@ -64,6 +65,9 @@ NamesUpTo n Answered.Undecided = Unit {0}
 
 -- the refutation is kept, or the model with the set; and else nothing more
 abbrev pub KeepsAnswer : Evidence → Evidence → Limited → Answer → Type 0
-KeepsAnswer old new s (Answered.Entailed r) = (new.refutations.items ≡ old.refutations.items ++ r ∷ []) × (new.models.items ≡ old.models.items)
-KeepsAnswer old new s (Answered.NotEntailed m) = (new.refutations.items ≡ old.refutations.items) × (new.models.items ≡ old.models.items ++ record { set = s; model = m } ∷ [])
-KeepsAnswer old new s Answered.Undecided = (new.refutations.items ≡ old.refutations.items) × (new.models.items ≡ old.models.items)
+KeepsAnswer old new s (Answered.Entailed r) = (new.refutations.items ≡ old.refutations.items ++ r ∷ [])
+    × (new.models.items ≡ old.models.items)
+KeepsAnswer old new s (Answered.NotEntailed m) = (new.refutations.items ≡ old.refutations.items)
+    × (new.models.items ≡ old.models.items ++ record { set = s; model = m } ∷ [])
+KeepsAnswer old new s Answered.Undecided = (new.refutations.items ≡ old.refutations.items)
+    × (new.models.items ≡ old.models.items)

@@ -31,7 +31,9 @@ pub record IsAcceptedText (statement bytes out : List ℕ) : Type 0 where
   pub accepted : (v : AuditVerdict) → IsVerdict ontology query audit v → v ≡ verdict.Accepted
 
 abbrev pub EvidenceIsAccepted : Type 0
-EvidenceIsAccepted = (statement : List ℕ) (budget : ℕ) (bytes out : List ℕ) (log : List Entry) → IsEvidenced statement budget bytes out Done log → length (lines out) ≤ 4294967293 → IsAcceptedText statement bytes out
+EvidenceIsAccepted = (statement : List ℕ) (budget : ℕ) (bytes out : List ℕ) (log : List Entry)
+    → IsEvidenced statement budget bytes out Done log → length (lines out) ≤ 4294967293
+    → IsAcceptedText statement bytes out
 
 -- ---- the same of what a check answers
 
@@ -46,7 +48,9 @@ pub record AreBlankLines (gap : List ℕ) : Type 0 where
 -- refused, is that the audit is accepted.
 abbrev pub PrintedEvidenceIsAccepted : Type 0
 PrintedEvidenceIsAccepted =
-    (statement : List ℕ) (budget : ℕ) (bytes out : List ℕ) (log : List Entry) → AnswersEvidence statement budget bytes out Done log
+    (statement : List ℕ) (budget : ℕ) (bytes out : List ℕ) (log : List Entry)
+    → AnswersEvidence statement budget bytes out Done log
     → (o : Listed) (kept : DocumentContext) (end : ℕ) → IsDocument bytes o kept end
     → (gap : List ℕ) → AreBlankLines gap → length (take end bytes ++ (gap ++ out)) ≤ 4294967293
-    → (answer : List ℕ) (s : Status) → Audited statement (take end bytes ++ (gap ++ out)) answer s → s ≢ NoMemory → (s ≡ Done) × (answer ≡ line (codes "accepted audit"))
+    → (answer : List ℕ) (s : Status) → Audited statement (take end bytes ++ (gap ++ out)) answer s → s ≢ NoMemory
+    → (s ≡ Done) × (answer ≡ line (codes "accepted audit"))

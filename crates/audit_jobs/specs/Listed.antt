@@ -50,13 +50,16 @@ pub record PutsRepair (s : Limited) (old new : AuditLists) (ms left : List Count
 -- ---- all are listed
 
 abbrev pub AreFromRefutations : List RefutationLists → List Justification → Type 0
-AreFromRefutations rs js = (j : Justification) → Contains js j → Contains rs j.refutation × (j.refutation.axioms ≡ j.set)
+AreFromRefutations rs js = (j : Justification) → Contains js j
+    → Contains rs j.refutation × (j.refutation.axioms ≡ j.set)
 
 abbrev pub AreFromModels : List CounterModel → List Repair → Type 0
-AreFromModels ms repairs = (r : Repair) → Contains repairs r → Contains ms (record { set = outside r.set; model = r.model })
+AreFromModels ms repairs = (r : Repair) → Contains repairs r
+    → Contains ms (record { set = outside r.set; model = r.model })
 
 -- just these sets are listed, each with one of the refutations over it
-pub record ListsJustifications (sets : List Limited) (rs : List RefutationLists) (js : List Justification) : Type 0 where
+pub record ListsJustifications (sets : List Limited) (rs : List RefutationLists) (js : List Justification) :
+    Type 0 where
   pub sets_are : justified_sets js ≡ sets
   pub from_kept : AreFromRefutations rs js
 

@@ -12,7 +12,8 @@ use Rattle.shq_terms.specs.declared.axioms.Query.{Query as Asked}
 use Rattle.refutation_tree.specs.RefutationLists.{RefutationLists}
 use Rattle.run_log.specs.declared.entry.Entry.{Entry}
 use Rattle.run_log.specs.Entries.{spent_of}
-use Rattle.run_log.specs.HonestLog.{IsJustificationSet, IsHonestWithin, AreTestsOf, AsksNoAnswer, AreTreeNodes, AsksFewPerNode}
+use Rattle.run_log.specs.HonestLog.{IsJustificationSet, IsHonestWithin, AreTestsOf, AsksNoAnswer, AreTreeNodes}
+use Rattle.run_log.specs.HonestLog.{AsksFewPerNode}
 use Rattle.audit_jobs.specs.declared.evidence.CounterModel.{CounterModel}
 use Rattle.audit_jobs.specs.declared.searching.Searched.{Searched}
 use Rattle.audit_jobs.specs.Kept.{AreShown, HasRefutation}
@@ -40,14 +41,16 @@ abbrev pub HasModelOutside : List CounterModel → Limited → Type 0
 HasModelOutside ms l = (m : CounterModel) × Contains ms m × IsPart (rest l) m.set.members
 
 -- justifications and leaves, each with evidence among that of the tests; all of them where the budget sufficed
-pub record IsWitnessed (o : Listed) (q : Asked) (f : Found) (rs : List RefutationLists) (ms : List CounterModel) : Type 0 where
+pub record IsWitnessed (o : Listed) (q : Asked) (f : Found) (rs : List RefutationLists) (ms : List CounterModel) :
+    Type 0 where
   pub order : IsAscending f.justifications.items
   pub justifications : (j : Limited) → Contains f.justifications.items j → IsJustificationSet o q j
   pub limits : HaveOneLimit (f.justifications.items ++ f.leaves.items)
   pub are_shown : AreShown o q rs ms
   pub refuted : (j : Limited) → Contains f.justifications.items j → HasRefutation rs j
   pub modelled : (l : Limited) → Contains f.leaves.items l → HasModelOutside ms l
-  pub explored : f.finished ≡ true → IsExplored (FollowsFrom o.axioms q) (length o.axioms) f.justifications.items f.leaves.items
+  pub explored : f.finished ≡ true
+      → IsExplored (FollowsFrom o.axioms q) (length o.axioms) f.justifications.items f.leaves.items
 
 -- a query was searched, with this log
 pub record IsSearched (o : Listed) (q : Asked) (budget : ℕ) (log : List Entry) (s : Searched) : Type 0 where

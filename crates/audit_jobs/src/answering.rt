@@ -52,7 +52,8 @@ fn evidenced(
     requires small { length bytes.now ≤ 4294967293 }
     requires unlogged { log.old ≡ [] }
     ensures answer { IfOk result (λ a. IsEvidenced statement.now budget bytes.now (text_bytes a.1) a.0 log.new) }
-    ensures unread { IfErr result (IsUnanswered (follows statement.now) bytes.now log.new (λ o q. IsEvidenceLog o q budget log.new)) }
+    ensures unread { IfErr result
+        (IsUnanswered (follows statement.now) bytes.now log.new (λ o q. IsEvidenceLog o q budget log.new)) }
 {
     let input = read_input(alloc, statement, bytes)?;
     let answer = audited(alloc, budget, input, log)?;
@@ -68,7 +69,8 @@ fn audited(
 ) -> Result<(Status, Text), NoMemory>
     requires in_limit { IsInLimit input.ontology input.query }
     requires unlogged { log.old ≡ [] }
-    ensures answer { IfOk result (λ a. IsEvidenceAnswer input.ontology input.query budget log.new a.0 (text_bytes a.1)) }
+    ensures answer { IfOk result
+        (λ a. IsEvidenceAnswer input.ontology input.query budget log.new a.0 (text_bytes a.1)) }
     ensures begun { OnErr result (HasAsked input.ontology input.query budget log.new) }
 {
     let outcome = audit(alloc, &input.ontology, &input.query, budget, log);
@@ -102,7 +104,8 @@ fn answer_of(
     query: &Query,
     searched: &mut Searched,
 ) -> Result<(Status, Text), NoMemory>
-    requires { IsWitnessed ontology.now query.now searched.old.found searched.old.evidence.refutations.items searched.old.evidence.models.items }
+    requires { IsWitnessed ontology.now query.now searched.old.found searched.old.evidence.refutations.items
+        searched.old.evidence.models.items }
     ensures { IfOk result (λ a. IsWritten ontology.now query.now searched.old.found.finished a.0 (text_bytes a.1)) }
 {
     if !searched.found.finished {
@@ -120,7 +123,8 @@ fn text_of(
     searched: &mut Searched,
 ) -> Result<Text, NoMemory>
     requires finished { searched.old.found.finished ≡ true }
-    requires witnessed { IsWitnessed ontology.now query.now searched.old.found searched.old.evidence.refutations.items searched.old.evidence.models.items }
+    requires witnessed { IsWitnessed ontology.now query.now searched.old.found searched.old.evidence.refutations.items
+        searched.old.evidence.models.items }
     ensures { IfOk result (λ text. IsAuditText ontology.now query.now (text_bytes text)) }
 {
     let _query = query;

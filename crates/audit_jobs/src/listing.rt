@@ -4,7 +4,8 @@ ghost use Rattle.std.specs.Result.{result_map_both};
 ghost use Rattle.pinpointing_specs.specs.Order.{IsAscending};
 ghost use Rattle.audit_file.specs.AuditLists.{last_justified, last_repaired, follows, with_repair};
 ghost use Rattle.audit_jobs.specs.Kept.{HasRefutation, HasModel};
-ghost use Rattle.audit_jobs.specs.Listed.{CanBeListed, IsAuditOf, HaveRefutations, HaveModels, outside, PutsJustification, PutsRepair, ListsJustifications, ListsRepairs};
+ghost use Rattle.audit_jobs.specs.Listed.{CanBeListed, IsAuditOf, HaveRefutations, HaveModels, outside};
+ghost use Rattle.audit_jobs.specs.Listed.{PutsJustification, PutsRepair, ListsJustifications, ListsRepairs};
 
 use crate::evidence::{CounterModel, Evidence};
 use crate::taking::{take_model, take_refutation};
@@ -45,7 +46,8 @@ fn audit_with(
     requires repaired { IsAscending repairs.now }
     requires refuted { HaveRefutations evidence.old.refutations.items justifications.now }
     requires modelled { HaveModels evidence.old.models.items repairs.now }
-    ensures justifications { IfOk result (λ a. ListsJustifications justifications.now evidence.old.refutations.items a.justifications) }
+    ensures justifications { IfOk result
+        (λ a. ListsJustifications justifications.now evidence.old.refutations.items a.justifications) }
     ensures repairs { IfOk result (λ a. ListsRepairs repairs.now evidence.old.models.items a.repairs) }
 {
     let mut audit = Audit::new(alloc);
@@ -79,7 +81,8 @@ fn fill(
     requires repaired { IsAscending repairs.now }
     requires refuted { HaveRefutations evidence.old.refutations.items justifications.now }
     requires modelled { HaveModels evidence.old.models.items repairs.now }
-    ensures justifications { OnOk result (ListsJustifications justifications.now evidence.old.refutations.items audit.new.justifications) }
+    ensures justifications { OnOk result
+        (ListsJustifications justifications.now evidence.old.refutations.items audit.new.justifications) }
     ensures repairs { OnOk result (ListsRepairs repairs.now evidence.old.models.items audit.new.repairs) }
 {
     put_justifications(audit, justifications, &mut evidence.refutations)?;

@@ -13,7 +13,9 @@ pub record Limited : Type 0 where
   pub members : NumberSet
 
 abbrev pub limited_code : Coded Limited
-limited_code = code_by (ℕ × NumberSet) (coded× coded_ℕ (set.code coded_ℕ)) (λ s. (s.limit, s.members)) (λ p. record { limit = p.0; members = p.1 }) (λ _. refl)
+limited_code =
+    code_by (ℕ × NumberSet) (coded× coded_ℕ (set.code coded_ℕ)) (λ s. (s.limit, s.members))
+    (λ p. record { limit = p.0; members = p.1 }) (λ _. refl)
 
 -- the members are the numbers from 1 to the limit
 abbrev pub IsFull : ℕ → NumberSet → Type 0

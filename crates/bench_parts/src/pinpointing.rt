@@ -63,7 +63,8 @@ fn report(
             let nodes = oracle.nodes();
             let asks = oracle.asks();
             println!(rt;
-                "{name}: {justifications} justifications, {repairs} repairs, {nodes} nodes, {asks} asks, {micros} us, {end}"
+                "{name}: {justifications} justifications, {repairs} repairs, {nodes} nodes, {asks} asks, {micros} us, \
+                    {end}"
             )
         }
         Err(_) => println!(rt; "{name}: no memory"),

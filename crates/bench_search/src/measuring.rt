@@ -102,7 +102,8 @@ fn print(rt: &impl Print, outcome: &Outcome, seconds: f64) -> io::Result<()> {
     } = effort;
     let pace = nearest_u64_to_f64(steps) / seconds;
     println!(rt;
-        "{end}, {steps} steps, {looks} looks, {scans} scans, {blocks} blocks, {sieves} sieves, {backs} ways back, {lost} choices lost, {stripped} lines taken out, {lines} lines, {seconds:.6} s, {pace:.0} steps a second"
+        "{end}, {steps} steps, {looks} looks, {scans} scans, {blocks} blocks, {sieves} sieves, {backs} ways back, \
+            {lost} choices lost, {stripped} lines taken out, {lines} lines, {seconds:.6} s, {pace:.0} steps a second"
     )
 }
 

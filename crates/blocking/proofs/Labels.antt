@@ -1,5 +1,6 @@
 -- What lists with the same numbers have in common, and the prints of labels.
-use Rattle.std.proofs.Common.{◌≡◌, ℕ, ◌+◌, ◌-◌, ◌/◌, ◌%◌, ◌^◌, ◌<◌, zero, suc, get_or, take, length, ◌||◌, Bool, true, false, eqb, List, [], ◌∷◌, ◌++◌, refl, ap, sym, ◌∙◌, inl, inr, eq-eqb, arith}
+use Rattle.std.proofs.Common.{◌≡◌, ℕ, ◌+◌, ◌-◌, ◌/◌, ◌%◌, ◌^◌, ◌<◌, zero, suc, get_or, take, length, ◌||◌, Bool, true}
+use Rattle.std.proofs.Common.{false, eqb, List, [], ◌∷◌, ◌++◌, refl, ap, sym, ◌∙◌, inl, inr, eq-eqb, arith}
 use Rattle.std.specs.List.{list_any, list_all}
 use Rattle.std.specs.FinSet as set
 use Rattle.std.proofs.lemmas.Bool.{or_cases, and_parts, eqb-true, or_right}
@@ -26,17 +27,21 @@ pub all_at : (p : ℕ → Bool) (c : ℕ) (cs : List ℕ) → list_all p cs ≡ 
 all_at p c [] h m = cc
 all_at p c (d ∷ cs) h m =
     let t = and_parts (p d) (list_all p cs) h in
-    elim (or_cases (eqb d c) (is_in c cs) m) [ inl here ↦ ap p (sym (eqb-true d c here)) ∙ t.0 | inr later ↦ all_at p c cs t.1 later ]
+    elim (or_cases (eqb d c) (is_in c cs) m)
+    [ inl here ↦ ap p (sym (eqb-true d c here)) ∙ t.0 | inr later ↦ all_at p c cs t.1 later ]
 
 pub all_from : (p : ℕ → Bool) (cs : List ℕ) → ((c : ℕ) → is_in c cs ≡ true → p c ≡ true) → list_all p cs ≡ true
 all_from p [] h = refl
-all_from p (d ∷ cs) h = rw (h d (rw (eq-eqb d d refl) refl)) (all_from p cs (λ c m. h c (or_right (eqb d c) (is_in c cs) m)))
+all_from p (d ∷ cs) h =
+    rw (h d (rw (eq-eqb d d refl) refl)) (all_from p cs (λ c m. h c (or_right (eqb d c) (is_in c cs) m)))
 
 -- ---- lists with the same numbers
 
 module _ (cs ds : List ℕ) (same : (c : ℕ) → is_in c cs ≡ is_in c ds) where
   pub same_all : (p : ℕ → Bool) → list_all p cs ≡ list_all p ds
-  same_all p = same_truth (list_all p cs) (list_all p ds) (λ h. all_from p ds (λ c m. all_at p c cs h (same c ∙ m))) (λ h. all_from p cs (λ c m. all_at p c ds h (sym (same c) ∙ m)))
+  same_all p =
+      same_truth (list_all p cs) (list_all p ds) (λ h. all_from p ds (λ c m. all_at p c cs h (same c ∙ m)))
+      (λ h. all_from p cs (λ c m. all_at p c ds h (sym (same c) ∙ m)))
 
 pub any_at : (q : ℕ → Bool) (c : ℕ) (cs : List ℕ) → is_in c cs ≡ true → q c ≡ true → list_any q cs ≡ true
 any_at q c [] m h = cc
@@ -85,14 +90,17 @@ module _ (fs : List (Fact ℕ)) (x : ℕ) (cs : List ℕ) (is : IsLabel fs x cs)
 
   -- what a node has is shown by the print of all of them
   pub shown : (print : List ℕ) → IsPrintOf cs print → ShowsAll fs x print
-  shown print shows c h = shows (c % 256) ∙ any_at (λ d. eqb (d % 256) (c % 256)) c cs (is c ∙ h) (eq-eqb (c % 256) (c % 256) refl)
+  shown print shows c h =
+      shows (c % 256) ∙ any_at (λ d. eqb (d % 256) (c % 256)) c cs (is c ∙ h) (eq-eqb (c % 256) (c % 256) refl)
 
 -- where a list's concepts are all shown by another print, their own print is part of it
-pub all_shown : (p : ℕ → Bool) (cs print other : List ℕ) → IsPrintWithin cs print → list_all p cs ≡ true → ((c : ℕ) → p c ≡ true → set.contains (number_set other) (c % 256) ≡ true)
+pub all_shown : (p : ℕ → Bool) (cs print other : List ℕ) → IsPrintWithin cs print → list_all p cs ≡ true
+    → ((c : ℕ) → p c ≡ true → set.contains (number_set other) (c % 256) ≡ true)
     → (k : ℕ) → set.contains (number_set print) k ≡ true → set.contains (number_set other) k ≡ true
 all_shown p cs print other shows all each k h =
     let one = any_some (λ c. eqb (c % 256) k) cs (shows k h) in
-    ap (set.contains (number_set other)) (sym (eqb-true (one.0 % 256) k one.2)) ∙ each one.0 (all_at p one.0 cs all one.1)
+    ap (set.contains (number_set other)) (sym (eqb-true (one.0 % 256) k one.2))
+    ∙ each one.0 (all_at p one.0 cs all one.1)
 
 -- ---- how a print is made
 
@@ -108,7 +116,8 @@ zero_at (suc (suc (suc (suc i)))) = refl
 
 pub none_shown : (k : ℕ) → set.contains (number_set empty_print) k ≡ false
 none_shown k =
-    contains-number_set empty_print k ∙ has_bit-is empty_print k ∙ ap (λ (w : ℕ). eqb (bit_at w (k % 64)) 1) (zero_at (k / 64)) ∙ ap (λ (b : ℕ). eqb b 1) (bit_at-zero (k % 64))
+    contains-number_set empty_print k ∙ has_bit-is empty_print k
+    ∙ ap (λ (w : ℕ). eqb (bit_at w (k % 64)) 1) (zero_at (k / 64)) ∙ ap (λ (b : ℕ). eqb b 1) (bit_at-zero (k % 64))
 
 -- a print that shows everything
 abbrev pub full_print : List ℕ
@@ -123,14 +132,17 @@ full_at (suc (suc (suc (suc i)))) h = absurd (omega arith)
 
 pub each_shown : (k : ℕ) → k < 256 → set.contains (number_set full_print) k ≡ true
 each_shown k h =
-    contains-number_set full_print k ∙ has_bit-is full_print k ∙ ap (λ (w : ℕ). eqb (bit_at w (k % 64)) 1) (full_at (k / 64) (omega arith))
+    contains-number_set full_print k ∙ has_bit-is full_print k
+    ∙ ap (λ (w : ℕ). eqb (bit_at w (k % 64)) 1) (full_at (k / 64) (omega arith))
     ∙ ap (λ (b : ℕ). eqb b 1) (bit_at_ones 64 (k % 64) (omega arith))
 
-pub one_shown : (before now cs : List ℕ) (i c : ℕ) → i < length cs → get_or cs i 0 ≡ c → number_set now ≡ set.insert (number_set before) (c % 256) → IsPrintOf (take i cs) before
+pub one_shown : (before now cs : List ℕ) (i c : ℕ) → i < length cs → get_or cs i 0 ≡ c
+    → number_set now ≡ set.insert (number_set before) (c % 256) → IsPrintOf (take i cs) before
     → IsPrintOf (take (i + 1) cs) now
 one_shown before now cs i c lt is put shows k =
     let q = λ (d : ℕ). eqb (d % 256) k in
-    ap (λ (s : NumberSet). set.contains s k) put ∙ contains_insert (number_set before) (c % 256) k ∙ ap (λ (b : Bool). eqb k (c % 256) || b) (shows k)
+    ap (λ (s : NumberSet). set.contains s k) put ∙ contains_insert (number_set before) (c % 256) k
+    ∙ ap (λ (b : Bool). eqb k (c % 256) || b) (shows k)
     ∙ ap (λ (b : Bool). b || list_any q (take i cs)) (eqb-comm k (c % 256))
     ∙ or_comm (eqb (c % 256) k) (list_any q (take i cs))
     ∙ sym (ap (list_any q) (take_more cs i 0 lt ∙ ap (λ (d : ℕ). take i cs ++ d ∷ []) is) ∙ any-snoc q (take i cs) c)

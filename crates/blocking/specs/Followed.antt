@@ -1,5 +1,7 @@
--- What is kept of the blocks of a list of facts over so many first nodes: the blocks, and a print of what each node has.
-use Rattle.std.specs.Prelude.{◌≡◌, ℕ, ◌%◌, ◌<◌, ◌≤◌, ◌==◌, true, List, [], ◌∷◌, ◌++◌, length, take, get_or, if◌then◌else◌}
+-- What is kept of the blocks of a list of facts over so many first nodes: the blocks, and a print of what each node
+-- has.
+use Rattle.std.specs.Prelude.{◌≡◌, ℕ, ◌%◌, ◌<◌, ◌≤◌, ◌==◌, true, List, [], ◌∷◌, ◌++◌, length, take, get_or}
+use Rattle.std.specs.Prelude.{if◌then◌else◌}
 use Rattle.std.specs.List.{list_any}
 use Rattle.std.specs.FinSet as set
 use Rattle.lane_sieve.specs.Sets.{number_set}
@@ -37,7 +39,8 @@ IsPrintOf concepts print = (k : ℕ) → set.contains (number_set print) k ≡ l
 
 -- each bit of the print is that of some concept, so that what has all of the concepts has all of the bits
 abbrev pub IsPrintWithin : List ℕ → List ℕ → Type 0
-IsPrintWithin concepts print = (k : ℕ) → set.contains (number_set print) k ≡ true → list_any (λ c. c % 256 == k) concepts ≡ true
+IsPrintWithin concepts print = (k : ℕ) → set.contains (number_set print) k ≡ true
+    → list_any (λ c. c % 256 == k) concepts ≡ true
 
 -- each concept of the node has its bit in the print, and maybe there are more
 abbrev pub ShowsAll : List (Fact ℕ) → ℕ → List ℕ → Type 0

@@ -1,12 +1,15 @@
 // The blocks of a tree's nodes, and prints of what they have.
-ghost use Rattle.std.specs.Prelude.{◌≡◌, ℕ, ◌+◌, ◌^◌, ◌<◌, ◌≤◌, length, take, slice_index, slice_index_or, false, ◌↔◌, IsTrue, OnOk, OnErr};
+ghost use Rattle.std.specs.Prelude.{◌≡◌, ℕ, ◌+◌, ◌^◌, ◌<◌, ◌≤◌, length, take, slice_index, slice_index_or, false, ◌↔◌};
+ghost use Rattle.std.specs.Prelude.{IsTrue, OnOk, OnErr};
 ghost use Rattle.std.specs.List.{list_all};
 ghost use Rattle.lane_sieve.specs.Words.{places};
-ghost use Rattle.calculus_specs.specs.State.{node_count_from, has as has_concept, label as label_of, is_label_part, parent_from};
+ghost use Rattle.calculus_specs.specs.State.{node_count_from, has as has_concept, label as label_of, is_label_part};
+ghost use Rattle.calculus_specs.specs.State.{parent_from};
 ghost use Rattle.tableau_specs.specs.declared.Block.TheVariants.{Clear, By, Under};
 ghost use Rattle.tableau_specs.specs.Blocked.{is_parent_clear, may_block, is_clear as is_clear_of, block_of};
 ghost use Rattle.completion_tree.specs.Trail.{facts_in};
-ghost use Rattle.blocking.specs.Followed.{no_prints, printed_more, printed_first, IsPrintWithin, ShowsAll, IsSound, IsFollowed, AreBlocksBelow, AreFirstBlocks, IsCurrent, blocked_among};
+ghost use Rattle.blocking.specs.Followed.{no_prints, printed_more, printed_first, IsPrintWithin, ShowsAll, IsSound};
+ghost use Rattle.blocking.specs.Followed.{IsFollowed, AreBlocksBelow, AreFirstBlocks, IsCurrent, blocked_among};
 
 use crate::print::{full_print, print_of};
 use crate::{Block, BlockEffort};
@@ -270,7 +273,9 @@ fn is_clear_at(blocks: &[Block], node: u32) -> bool
 // Whether the representative of the node's parent is clear, if there is one.
 fn has_clear_parent<A: Allocator + Copy>(tree: &Tree<A>, blocks: &[Block], node: u32) -> bool
     requires { node < node_count_from tree.now.first (facts_in tree.now.entries) }
-    ensures { result ≡ is_parent_clear (facts_in tree.now.entries) blocks.now (parent_from tree.now.first (facts_in tree.now.entries) node) }
+    ensures { result
+        ≡ is_parent_clear (facts_in tree.now.entries) blocks.now
+        (parent_from tree.now.first (facts_in tree.now.entries) node) }
 {
     match tree.parent(node) {
         None => true,

@@ -17,8 +17,11 @@ use std::alloc::Allocator;
 /// Ask before the facts are taken back, or after they are put.
 pub fn least_changed<A: Allocator + Copy>(tree: &Tree<A>, place: u32) -> u32
     requires { place ≤ length tree.now.entries }
-    ensures leaves { AllLeaveBelow tree.now.first (facts_in (take place tree.now.entries)) (facts_in (drop place tree.now.entries)) result }
-    ensures least { result ≡ least_touched tree.now.first (rep (facts_in tree.now.entries)) (node_count_from tree.now.first (facts_in tree.now.entries)) (facts_in (drop place tree.now.entries)) }
+    ensures leaves { AllLeaveBelow tree.now.first (facts_in (take place tree.now.entries))
+        (facts_in (drop place tree.now.entries)) result }
+    ensures least { result
+        ≡ least_touched tree.now.first (rep (facts_in tree.now.entries))
+        (node_count_from tree.now.first (facts_in tree.now.entries)) (facts_in (drop place tree.now.entries)) }
 {
     let mut least = tree.nodes();
     for at in place..tree.len() {
@@ -32,8 +35,12 @@ pub fn least_changed<A: Allocator + Copy>(tree: &Tree<A>, place: u32) -> u32
 pub fn still_current<A: Allocator + Copy>(tree: &Tree<A>, place: u32, from: u32) -> u32
     requires place { place ≤ length tree.now.entries }
     requires parents { HaveParentsBefore tree.now.first (facts_in tree.now.entries) }
-    ensures stand { (p : Printed) → AreBlocksBelow tree.now.first (facts_in (take place tree.now.entries)) from p → AreBlocksBelow tree.now.first (facts_in tree.now.entries) result p }
-    ensures least { result ≡ min from (least_touched tree.now.first (rep (facts_in tree.now.entries)) (node_count_from tree.now.first (facts_in tree.now.entries)) (facts_in (drop place tree.now.entries))) }
+    ensures stand { (p : Printed) → AreBlocksBelow tree.now.first (facts_in (take place tree.now.entries)) from p
+        → AreBlocksBelow tree.now.first (facts_in tree.now.entries) result p }
+    ensures least { result
+        ≡ min from
+        (least_touched tree.now.first (rep (facts_in tree.now.entries))
+        (node_count_from tree.now.first (facts_in tree.now.entries)) (facts_in (drop place tree.now.entries))) }
 {
     from.min(least_changed(tree, place))
 }
@@ -44,8 +51,12 @@ pub fn current_before<A: Allocator + Copy>(tree: &Tree<A>, place: u32, from: u32
     requires place { place ≤ length tree.now.entries }
     requires parents { HaveParentsBefore tree.now.first (facts_in tree.now.entries) }
     ensures stand { (p : Printed) → AreBlocksBelow tree.now.first (facts_in tree.now.entries) from p
-        → AreBlocksBelow tree.now.first (facts_in (take place tree.now.entries)) (min result (node_count_from tree.now.first (facts_in (take place tree.now.entries)))) p }
-    ensures least { result ≡ min from (least_touched tree.now.first (rep (facts_in tree.now.entries)) (node_count_from tree.now.first (facts_in tree.now.entries)) (facts_in (drop place tree.now.entries))) }
+        → AreBlocksBelow tree.now.first (facts_in (take place tree.now.entries))
+        (min result (node_count_from tree.now.first (facts_in (take place tree.now.entries)))) p }
+    ensures least { result
+        ≡ min from
+        (least_touched tree.now.first (rep (facts_in tree.now.entries))
+        (node_count_from tree.now.first (facts_in tree.now.entries)) (facts_in (drop place tree.now.entries))) }
 {
     from.min(least_changed(tree, place))
 }

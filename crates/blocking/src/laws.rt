@@ -1,5 +1,6 @@
 // What a caller needs to know of blocks that were found earlier.
-ghost use Rattle.blocking.specs.Laws.{GoingOnKeepsBlocks, GoingBackKeepsBlocks, CurrentIsBelow, LessIsBelow, NothingIsBelow};
+ghost use Rattle.blocking.specs.Laws.{GoingOnKeepsBlocks, GoingBackKeepsBlocks, CurrentIsBelow, LessIsBelow};
+ghost use Rattle.blocking.specs.Laws.{NothingIsBelow};
 
 /// Which of the blocks that were found stand when facts are put, and when they are taken back.
 pub fn blocks_stay()

@@ -1,6 +1,8 @@
 -- Links that lead from representatives to lesser ones: the walk from a node along its own links ends where all links
 -- lead it.
-use Rattle.std.proofs.Common.{◌≡◌, ℕ, min, max, ◌<◌, ◌≤◌, Bool, true, false, cond, List, [], ◌∷◌, ◌++◌, length, take, get_or, refl, ap, sym, subst, ◌∙◌, inl, inr, Option, Some, None, arith, length-append, take-take}
+use Rattle.std.proofs.Common.{◌≡◌, ℕ, min, max, ◌<◌, ◌≤◌, Bool, true, false, cond, List, [], ◌∷◌, ◌++◌, length, take}
+use Rattle.std.proofs.Common.{get_or, refl, ap, sym, subst, ◌∙◌, inl, inr, Option, Some, None, arith, length-append}
+use Rattle.std.proofs.Common.{take-take}
 use Rattle.std.specs.Prelude.{◌==◌, nat_eq}
 use Rattle.std.specs.Map.{lookup}
 use Rattle.std.proofs.lemmas.List.{take-append-le, get_or-take, length-take}
@@ -16,7 +18,8 @@ use Rattle.branch_facts.proofs.Reps.{through-snoc, when_equal, unless_equal}
 -- ---- none, the first ones, and one more
 
 is_link_again : {ls ks : List (ℕ × ℕ)} {l k : ℕ × ℕ} → ls ≡ ks → l ≡ k → IsLink ks k → IsLink ls l
-is_link_again {ls} {ks} {l} {k} lists links is = subst (λ us. IsLink us l) (sym lists) (subst (IsLink ks) (sym links) is)
+is_link_again {ls} {ks} {l} {k} lists links is =
+    subst (λ us. IsLink us l) (sym lists) (subst (IsLink ks) (sym links) is)
 
 pub no_links : AreLinks []
 no_links = record { each = λ p d lt. absurd (omega arith) }
@@ -25,16 +28,20 @@ pub first_links : (m : ℕ) (ls : List (ℕ × ℕ)) → AreLinks ls → AreLink
 first_links m ls are = record {
   each = λ p d lt.
       let within : p < m = omega (arith, lt, length-take m ls) in
-      is_link_again (take-take p m ls (omega (arith, within))) (get_or-take m ls p d within) (are.each p d (omega (arith, lt, length-take m ls)));
+      is_link_again (take-take p m ls (omega (arith, within))) (get_or-take m ls p d within)
+      (are.each p d (omega (arith, lt, length-take m ls)));
 }
 
 pub one_more_link : (ls : List (ℕ × ℕ)) (l : ℕ × ℕ) → AreLinks ls → IsLink ls l → AreLinks (ls ++ l ∷ [])
 one_more_link ls l are is = record {
   each = λ p d lt. elim (cases_lt p (length ls)) [
-    | inl before ↦ is_link_again (take-append-le p ls (l ∷ []) (omega (arith, before))) (get_or-append ls (l ∷ []) d p before) (are.each p d before)
+    | inl before ↦
+        is_link_again (take-append-le p ls (l ∷ []) (omega (arith, before))) (get_or-append ls (l ∷ []) d p before)
+        (are.each p d before)
     | inr last ↦
         let at : p ≡ length ls = omega (arith, lt, last, length-append ls (l ∷ [])) in
-        is_link_again (ap (λ n. take n (ls ++ l ∷ [])) at ∙ take-append_seam ls (l ∷ [])) (ap (λ n. get_or (ls ++ l ∷ []) n d) at ∙ get_or-append_seam ls l [] d) is
+        is_link_again (ap (λ n. take n (ls ++ l ∷ [])) at ∙ take-append_seam ls (l ∷ []))
+        (ap (λ n. get_or (ls ++ l ∷ []) n d) at ∙ get_or-append_seam ls l [] d) is
   ];
 }
 
@@ -43,7 +50,9 @@ all_but_last : (ls : List (ℕ × ℕ)) (l : ℕ × ℕ) → AreLinks (ls ++ l �
 all_but_last ls l are = subst AreLinks (take-append_seam ls (l ∷ [])) (first_links (length ls) (ls ++ l ∷ []) are)
 
 last_is_link : (ls : List (ℕ × ℕ)) (l : ℕ × ℕ) → AreLinks (ls ++ l ∷ []) → IsLink ls l
-last_is_link ls l are = is_link_again (sym (take-append_seam ls (l ∷ []))) (sym (get_or-append_seam ls l [] l)) (are.each (length ls) l (omega (arith, length-append ls (l ∷ []))))
+last_is_link ls l are =
+    is_link_again (sym (take-append_seam ls (l ∷ []))) (sym (get_or-append_seam ls l [] l))
+    (are.each (length ls) l (omega (arith, length-append ls (l ∷ []))))
 
 -- ---- one step of the walk
 
@@ -70,16 +79,21 @@ abbrev or_last : Option ℕ → ℕ → ℕ → ℕ → Option ℕ
 or_last None high low x = cond (x == high) (Some low) None
 or_last (Some y) high low x = Some y
 
-lookup-snoc : (ls : List (ℕ × ℕ)) (high low x : ℕ) → lookup (λ y. x == y) (ls ++ (high, low) ∷ []) ≡ or_last (lookup (λ y. x == y) ls) high low x
+lookup-snoc : (ls : List (ℕ × ℕ)) (high low x : ℕ)
+    → lookup (λ y. x == y) (ls ++ (high, low) ∷ []) ≡ or_last (lookup (λ y. x == y) ls) high low x
 lookup-snoc [] high low x = refl
-lookup-snoc (l ∷ ls) high low x = by (x == l.0) (lookup (λ y. x == y) (ls ++ (high, low) ∷ [])) (lookup (λ y. x == y) ls) (lookup-snoc ls high low x)
+lookup-snoc (l ∷ ls) high low x =
+    by (x == l.0) (lookup (λ y. x == y) (ls ++ (high, low) ∷ [])) (lookup (λ y. x == y) ls) (lookup-snoc ls high low x)
   where
-    by : (b : Bool) (o p : Option ℕ) → o ≡ or_last p high low x → cond b (Some l.1) o ≡ or_last (cond b (Some l.1) p) high low x
+    by : (b : Bool) (o p : Option ℕ) → o ≡ or_last p high low x
+        → cond b (Some l.1) o ≡ or_last (cond b (Some l.1) p) high low x
     by true o p e = refl
     by false o p e = e
 
-step_more : (ls : List (ℕ × ℕ)) (high low x : ℕ) → IsLink ls (high, low) → (o : Option ℕ) → IsStep ls x o → IsStep (ls ++ (high, low) ∷ []) x (or_last o high low x)
-step_more ls high low x is (Some y) (falls, same) = (falls, through-snoc ls high low y ∙ ap (renamed high low) same ∙ sym (through-snoc ls high low x))
+step_more : (ls : List (ℕ × ℕ)) (high low x : ℕ) → IsLink ls (high, low) → (o : Option ℕ) → IsStep ls x o
+    → IsStep (ls ++ (high, low) ∷ []) x (or_last o high low x)
+step_more ls high low x is (Some y) (falls, same) =
+    (falls, through-snoc ls high low y ∙ ap (renamed high low) same ∙ sym (through-snoc ls high low x))
 step_more ls high low x is None stays = elim (cases_eq x high) [
   | inl same ↦
       let ends = through-snoc ls high low x ∙ ap (renamed high low) (stays ∙ same) ∙ renamed_high high low in
@@ -88,7 +102,8 @@ step_more ls high low x is None stays = elim (cases_eq x high) [
       subst (IsStep (ls ++ (high, low) ∷ []) x) (sym found) (omega (arith, is.falls, same), again ∙ sym ends)
   | inr differ ↦
       let none : cond (x == high) (Some low) None ≡ None = ap (λ b. cond b (Some low) None) (ne_eqb x high differ) in
-      subst (IsStep (ls ++ (high, low) ∷ []) x) (sym none) (through-snoc ls high low x ∙ ap (renamed high low) stays ∙ renamed_other high low x differ)
+      subst (IsStep (ls ++ (high, low) ∷ []) x) (sym none)
+      (through-snoc ls high low x ∙ ap (renamed high low) stays ∙ renamed_other high low x differ)
 ]
 
 pub step : (ls : List (ℕ × ℕ)) → AreLinks ls → (x : ℕ) → IsStep ls x (lookup (λ y. x == y) ls)
@@ -104,8 +119,12 @@ through-le = by_last {X = ℕ × ℕ} (λ ls. AreLinks ls → (x : ℕ) → thro
     let before = ih (all_but_last ls l are) x in
     let falls = (last_is_link ls l are).falls in
     elim (cases_eq (through ls x) l.0) [
-      | inl same ↦ let ends = through-snoc ls l.0 l.1 x ∙ ap (renamed l.0 l.1) same ∙ renamed_high l.0 l.1 in omega (arith, before, falls, same, ends)
-      | inr differ ↦ let ends = through-snoc ls l.0 l.1 x ∙ renamed_other l.0 l.1 (through ls x) differ in omega (arith, before, ends)
+      | inl same ↦
+          let ends = through-snoc ls l.0 l.1 x ∙ ap (renamed l.0 l.1) same ∙ renamed_high l.0 l.1 in
+          omega (arith, before, falls, same, ends)
+      | inr differ ↦
+          let ends = through-snoc ls l.0 l.1 x ∙ renamed_other l.0 l.1 (through ls x) differ in
+          omega (arith, before, ends)
     ])
 
 -- a representative has no link
@@ -130,6 +149,7 @@ lesser_is ls x y at_x at_y = elim (cases_lt x y) [
 ]
 
 -- what a map of links has after one more is inserted
-pub adds_link : {S : Type 0} (links : IndexMap ℕ ℕ S) (high low : ℕ) → AreLinks links.entries → through links.entries high ≡ high
+pub adds_link : {S : Type 0} (links : IndexMap ℕ ℕ S) (high low : ℕ) → AreLinks links.entries
+    → through links.entries high ≡ high
     → insert_entry nat_eq links.entries high low ≡ links.entries ++ (high, low) ∷ []
 adds_link links high low are stays = insert_entry-new nat_eq links high low (no_link links.entries are high stays)

@@ -29,7 +29,9 @@ unless_equal y z a b differ = ap (λ (t : Bool). if t then a else b) (ne_eqb y z
 
 through_joined : (i : Index) (y z x : ℕ) → through (index_joined i y z).links x ≡ merged y z (through i.links x)
 through_joined i y z x = elim (cases_eq y z) [
-  | inl same ↦ ap (λ (j : Index). through j.links x) (when_equal y z i (index_linked i (max y z) (min y z)) same) ∙ sym (merged_one y z (through i.links x) same)
+  | inl same ↦
+      ap (λ (j : Index). through j.links x) (when_equal y z i (index_linked i (max y z) (min y z)) same)
+      ∙ sym (merged_one y z (through i.links x) same)
   | inr differ ↦
       ap (λ (j : Index). through j.links x) (unless_equal y z i (index_linked i (max y z) (min y z)) differ)
       ∙ through-snoc i.links (max y z) (min y z) x
@@ -46,7 +48,8 @@ pub through_is_rep : (fs : List (Fact ℕ)) (x : ℕ) → through (index_of fs).
 through_is_rep = by_last {X = Fact ℕ} (λ fs. (x : ℕ) → through (index_of fs).links x ≡ rep fs x) (λ x. refl)
     (λ fs f ih x.
     let all : through (index_of fs).links ≡ rep fs = λ i y. ih y i in
-    ap (λ (j : Index). through j.links x) (index_of-snoc fs f) ∙ through_after (index_of fs) f x ∙ ap (λ (m : ℕ → ℕ). rep_after m f x) all ∙ sym (rep-snoc fs f x))
+    ap (λ (j : Index). through j.links x) (index_of-snoc fs f) ∙ through_after (index_of fs) f x
+    ∙ ap (λ (m : ℕ → ℕ). rep_after m f x) all ∙ sym (rep-snoc fs f x))
 
 -- a representative is its own
 pub rep_twice : (fs : List (Fact ℕ)) (x : ℕ) → rep fs (rep fs x) ≡ rep fs x

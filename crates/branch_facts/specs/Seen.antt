@@ -1,7 +1,8 @@
 -- How facts are kept so that each is found by one look: between representatives, and again between those that later
 -- joins leave. The representative of a node is reached by links, each from a node that was one to a lesser one, in
 -- their order.
-use Rattle.std.specs.Prelude.{◌≡◌, ℕ, ◌==◌, ◌<◌, ◌&&◌, ◌||◌, min, max, Bool, false, List, [], ◌∷◌, ◌++◌, map, length, take, get_or, Option, Some, None, if◌then◌else◌}
+use Rattle.std.specs.Prelude.{◌≡◌, ℕ, ◌==◌, ◌<◌, ◌&&◌, ◌||◌, min, max, Bool, false, List, [], ◌∷◌, ◌++◌, map, length}
+use Rattle.std.specs.Prelude.{take, get_or, Option, Some, None, if◌then◌else◌}
 use Rattle.std.specs.List.{list_any}
 use Rattle.calculus_specs.specs.declared.facts.Fact.{Fact}
 use Rattle.calculus_specs.specs.declared.facts.Fact.TheVariants as F
@@ -47,7 +48,9 @@ is_seen seen f = list_any (is_same f) seen
 
 -- the representatives of two nodes are apart, in either order
 abbrev pub are_seen_apart : Index → ℕ → ℕ → Bool
-are_seen_apart i x y = is_seen i.seen (Apart (through i.links x) (through i.links y)) || is_seen i.seen (Apart (through i.links y) (through i.links x))
+are_seen_apart i x y =
+    is_seen i.seen (Apart (through i.links x) (through i.links y))
+    || is_seen i.seen (Apart (through i.links y) (through i.links x))
 
 abbrev pub with_seen : List Seen → Seen → List Seen
 with_seen seen f = if is_seen seen f then seen else seen ++ f ∷ []
@@ -121,5 +124,7 @@ entry_facts es = map (λ e. e.fact) es
 
 -- each entry tells how much was kept before its fact
 pub record AreEntries (es : List Entry) : Type 0 where
-  pub seen_before : (p : ℕ) (d : Entry) → p < length es → (get_or es p d).seen ≡ length (index_of (entry_facts (take p es))).seen
-  pub links_before : (p : ℕ) (d : Entry) → p < length es → (get_or es p d).links ≡ length (index_of (entry_facts (take p es))).links
+  pub seen_before : (p : ℕ) (d : Entry) → p < length es
+      → (get_or es p d).seen ≡ length (index_of (entry_facts (take p es))).seen
+  pub links_before : (p : ℕ) (d : Entry) → p < length es
+      → (get_or es p d).links ≡ length (index_of (entry_facts (take p es))).links

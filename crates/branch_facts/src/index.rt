@@ -1,7 +1,8 @@
 // What is kept of some facts, so that each is found by one look.
 ghost use Rattle.std.specs.Prelude.{◌≡◌, ◌<◌, [], OnOk, OnErr, length, take, slice_get};
 ghost use Rattle.branch_facts.specs.declared.seen.Seen.TheVariants.{Has, Edge};
-ghost use Rattle.branch_facts.specs.Seen.{through, is_seen, are_seen_apart, copied_at, index_copied, index_linked, index_joining, seeing, index_after, Begins};
+ghost use Rattle.branch_facts.specs.Seen.{through, is_seen, are_seen_apart, copied_at, index_copied, index_linked};
+ghost use Rattle.branch_facts.specs.Seen.{index_joining, seeing, index_after, Begins};
 
 use crate::NoMemory;
 use crate::seen::Seen;

@@ -1,8 +1,12 @@
 -- The normal form of a concept is not deeper, and neither is that of its complement.
-use Rattle.std.proofs.Common.{◌≡◌, ℕ, zero, suc, ◌+◌, ◌≤◌, max, not, Bool, true, false, cond, List, [], ◌∷◌, ◌++◌, filter, refl, ap, arith}
+use Rattle.std.proofs.Common.{◌≡◌, ℕ, zero, suc, ◌+◌, ◌≤◌, max, not, Bool, true, false, cond, List, [], ◌∷◌, ◌++◌}
+use Rattle.std.proofs.Common.{filter, refl, ap, arith}
 use Rattle.std.specs.List.{list_any, flat_map}
-use Rattle.shq_base.specs.Concept.{Concept, top, bottom, name, complement, intersection, union, some_of, all_of, at_least, at_most, exactly, Parts, no_parts, part, parts_of, part_list}
-use Rattle.calculus_specs.specs.Normal.{is_top, is_bottom, conjuncts_of, conjuncts, intersected, and_of, disjuncts_of, disjuncts, united, or_of, least_form, fewer_form, most_form, more_form, normal_form, negated_form, normal_forms, negated_forms}
+use Rattle.shq_base.specs.Concept.{Concept, top, bottom, name, complement, intersection, union, some_of, all_of}
+use Rattle.shq_base.specs.Concept.{at_least, at_most, exactly, Parts, no_parts, part, parts_of, part_list}
+use Rattle.calculus_specs.specs.Normal.{is_top, is_bottom, conjuncts_of, conjuncts, intersected, and_of, disjuncts_of}
+use Rattle.calculus_specs.specs.Normal.{disjuncts, united, or_of, least_form, fewer_form, most_form, more_form}
+use Rattle.calculus_specs.specs.Normal.{normal_form, negated_form, normal_forms, negated_forms}
 use Rattle.calculus_specs.specs.Depth.{role_depth, role_depth_parts}
 
 -- the greatest depth
@@ -24,10 +28,11 @@ deepest-append (c ∷ cs) ds = omega (arith, deepest-append cs ds)
 
 deepest-filter : (p : Concept → Bool) (cs : List Concept) → deepest (filter p cs) ≤ deepest cs
 deepest-filter p [] = omega arith
-deepest-filter p (c ∷ cs) = elim (p c) as (λ b. deepest (cond b (c ∷ filter p cs) (filter p cs)) ≤ max (role_depth c) (deepest cs)) [
-  | true ↦ omega (arith, deepest-filter p cs)
-  | false ↦ omega (arith, deepest-filter p cs)
-]
+deepest-filter p (c ∷ cs) =
+    elim (p c) as (λ b. deepest (cond b (c ∷ filter p cs) (filter p cs)) ≤ max (role_depth c) (deepest cs)) [
+      | true ↦ omega (arith, deepest-filter p cs)
+      | false ↦ omega (arith, deepest-filter p cs)
+    ]
 
 deepest-one : (c : Concept) → deepest (c ∷ []) ≤ role_depth c
 deepest-one c = omega arith
@@ -58,7 +63,8 @@ disjuncts_depth (at_least n r c) = omega arith
 disjuncts_depth (at_most n r c) = omega arith
 disjuncts_depth (exactly n r c) = omega arith
 
-opened_depth : (f : Concept → List Concept) → ((c : Concept) → deepest (f c) ≤ role_depth c) → (cs : List Concept) → deepest (flat_map f cs) ≤ deepest cs
+opened_depth : (f : Concept → List Concept) → ((c : Concept) → deepest (f c) ≤ role_depth c) → (cs : List Concept)
+    → deepest (flat_map f cs) ≤ deepest cs
 opened_depth f each [] = omega arith
 opened_depth f each (c ∷ cs) = omega (arith, deepest-append (f c) (flat_map f cs), each c, opened_depth f each cs)
 
@@ -81,21 +87,24 @@ and_depth cs =
     let opened = opened_depth conjuncts_of conjuncts_depth cs in
     let kept = deepest-filter (λ c. not (is_top c)) (flat_map conjuncts_of cs) in
     let made = intersected_depth (conjuncts cs) in
-    either_depth (list_any is_bottom (conjuncts cs)) bottom (intersected (conjuncts cs)) (deepest cs) (omega arith) (omega (arith, made, kept, opened))
+    either_depth (list_any is_bottom (conjuncts cs)) bottom (intersected (conjuncts cs)) (deepest cs) (omega arith)
+    (omega (arith, made, kept, opened))
 
 or_depth : (cs : List Concept) → role_depth (or_of cs) ≤ deepest cs
 or_depth cs =
     let opened = opened_depth disjuncts_of disjuncts_depth cs in
     let kept = deepest-filter (λ c. not (is_bottom c)) (flat_map disjuncts_of cs) in
     let made = united_depth (disjuncts cs) in
-    either_depth (list_any is_top (disjuncts cs)) top (united (disjuncts cs)) (deepest cs) (omega arith) (omega (arith, made, kept, opened))
+    either_depth (list_any is_top (disjuncts cs)) top (united (disjuncts cs)) (deepest cs) (omega arith)
+    (omega (arith, made, kept, opened))
 
 least_depth : (n r : ℕ) (c : Concept) → role_depth (least_form n r c) ≤ role_depth c + 1
 least_depth zero r c = omega arith
 least_depth (suc zero) r c = omega arith
 least_depth (suc (suc n)) r c = omega arith
 
-fewer_depth : (n r k : ℕ) (c d : Concept) → role_depth c ≤ k → role_depth d ≤ k → role_depth (fewer_form n r c d) ≤ k + 1
+fewer_depth : (n r k : ℕ) (c d : Concept) → role_depth c ≤ k → role_depth d ≤ k
+    → role_depth (fewer_form n r c d) ≤ k + 1
 fewer_depth zero r k c d h g = omega arith
 fewer_depth (suc zero) r k c d h g = omega arith
 fewer_depth (suc (suc n)) r k c d h g = omega arith
@@ -119,7 +128,8 @@ mutual
   normal_depth (some_of r c) = omega (arith, normal_depth c)
   normal_depth (all_of r c) = omega (arith, normal_depth c)
   normal_depth (at_least n r c) = omega (arith, least_depth n r (normal_form c), normal_depth c)
-  normal_depth (at_most n r c) = most_depth n r (role_depth c) (normal_form c) (negated_form c) (normal_depth c) (negated_depth c)
+  normal_depth (at_most n r c) =
+      most_depth n r (role_depth c) (normal_form c) (negated_form c) (normal_depth c) (negated_depth c)
   normal_depth (exactly n r c) =
       omega (
         arith,
@@ -138,7 +148,8 @@ mutual
   negated_depth (union cs) = omega (arith, and_depth (negated_forms cs), negateds_depth cs)
   negated_depth (some_of r c) = omega (arith, negated_depth c)
   negated_depth (all_of r c) = omega (arith, negated_depth c)
-  negated_depth (at_least n r c) = fewer_depth n r (role_depth c) (normal_form c) (negated_form c) (normal_depth c) (negated_depth c)
+  negated_depth (at_least n r c) =
+      fewer_depth n r (role_depth c) (normal_form c) (negated_form c) (normal_depth c) (negated_depth c)
   negated_depth (at_most n r c) = omega (arith, more_depth n r (normal_form c), normal_depth c)
   negated_depth (exactly n r c) =
       omega (

@@ -11,7 +11,9 @@ use Rattle.calculus_specs.specs.Valid.{concept_at, IsShut, AreShut, open_after_a
 module _ (q : Question) (concept : ℕ → Option Concept) where
   -- what a line leaves open, once its children are known
   abbrev left_by : List Line → List Known → Option (List Known) → Option (List Known)
-  left_by lines ks o = option_and_then (λ (left : List Known). open_after_all q concept left lines) (option_map (λ (new : List Known). new ++ ks) o)
+  left_by lines ks o =
+      option_and_then (λ (left : List Known). open_after_all q concept left lines)
+      (option_map (λ (new : List Known). new ++ ks) o)
 
   -- ---- from trees to lines
 
@@ -27,7 +29,8 @@ module _ (q : Question) (concept : ℕ → Option Concept) where
     trees_run (Some []) (tree t ts) ks rest h = absurd h
     trees_run (Some (k ∷ new)) no_trees ks rest h = absurd h
     trees_run (Some (k ∷ new)) (tree t ts) ks rest h =
-        ap (λ (lines : List Line). open_after_all q concept (k ∷ new ++ ks) lines) (append_assoc (preorder t) (preorders ts) rest)
+        ap (λ (lines : List Line). open_after_all q concept (k ∷ new ++ ks) lines)
+        (append_assoc (preorder t) (preorders ts) rest)
         ∙ tree_runs k t (new ++ ks) (preorders ts ++ rest) h.0
         ∙ trees_run (Some new) ts ks rest h.1
 
@@ -54,12 +57,15 @@ module _ (q : Question) (concept : ℕ → Option Concept) where
       record {
         front = tree t r.front;
         back = r.back;
-        in_preorder = ap (λ (ls : List Line). preorder t ++ ls) r.in_preorder ∙ sym (append_assoc (preorder t) (preorders r.front) (preorders r.back));
+        in_preorder =
+            ap (λ (ls : List Line). preorder t ++ ls) r.in_preorder
+            ∙ sym (append_assoc (preorder t) (preorders r.front) (preorders r.back));
         front_shut = (h.0, r.front_shut);
         back_shut = r.back_shut;
       }
 
-  grow : (o : Option (List Known)) (line : Line) (lines : List Line) (k : Known) (ks : List Known) → children_of q concept k line ≡ o
+  grow : (o : Option (List Known)) (line : Line) (lines : List Line) (k : Known) (ks : List Known)
+      → children_of q concept k line ≡ o
       → ((left : List Known) → open_after_all q concept left lines ≡ Some [] → Forest left lines)
       → left_by lines ks o ≡ Some [] → Forest (k ∷ ks) (line ∷ lines)
   grow None line lines k ks e rest h = cc
@@ -81,17 +87,22 @@ module _ (q : Question) (concept : ℕ → Option Concept) where
 -- ---- a refutation
 
 module _ (q : Question) (shapes : List Shape) where
-  pub refutation_runs : (lines : List Line) → IsRefutation q shapes lines → open_after_all q (concept_at shapes) (nothing_known ∷ []) lines ≡ Some []
+  pub refutation_runs : (lines : List Line) → IsRefutation q shapes lines
+      → open_after_all q (concept_at shapes) (nothing_known ∷ []) lines ≡ Some []
   refutation_runs lines h =
-      ap (λ (ls : List Line). open_after_all q (concept_at shapes) (nothing_known ∷ []) ls) (sym (append-nil (preorder h.tree) ∙ h.in_preorder))
+      ap (λ (ls : List Line). open_after_all q (concept_at shapes) (nothing_known ∷ []) ls)
+      (sym (append-nil (preorder h.tree) ∙ h.in_preorder))
       ∙ tree_runs q (concept_at shapes) nothing_known h.tree [] [] h.is_shut
 
-  only_tree : (lines : List Line) (ts : Trees) → preorders ts ≡ lines → AreShut q (concept_at shapes) (Some (nothing_known ∷ [])) ts → IsRefutation q shapes lines
+  only_tree : (lines : List Line) (ts : Trees) → preorders ts ≡ lines
+      → AreShut q (concept_at shapes) (Some (nothing_known ∷ [])) ts → IsRefutation q shapes lines
   only_tree lines no_trees e h = absurd h
-  only_tree lines (tree t no_trees) e h = record { tree = t; in_preorder = sym (append-nil (preorder t)) ∙ e; is_shut = h.0 }
+  only_tree lines (tree t no_trees) e h =
+      record { tree = t; in_preorder = sym (append-nil (preorder t)) ∙ e; is_shut = h.0 }
   only_tree lines (tree t (tree u ts)) e h = absurd h.1
 
-  pub run_refutes : (lines : List Line) → open_after_all q (concept_at shapes) (nothing_known ∷ []) lines ≡ Some [] → IsRefutation q shapes lines
+  pub run_refutes : (lines : List Line) → open_after_all q (concept_at shapes) (nothing_known ∷ []) lines ≡ Some []
+      → IsRefutation q shapes lines
   run_refutes lines h =
       let f = forest q (concept_at shapes) lines (nothing_known ∷ []) h in
       only_tree lines f.trees f.in_preorder f.are_shut

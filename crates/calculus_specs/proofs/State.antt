@@ -1,5 +1,6 @@
 -- Labels and nodes that are apart.
-use Rattle.std.proofs.Common.{◌≡◌, ℕ, ◌&&◌, ◌||◌, List, [], ◌∷◌, Bool, true, false, eqb, cond, refl, ap, ◌∙◌, sym, inl, inr, eq-eqb}
+use Rattle.std.proofs.Common.{◌≡◌, ℕ, ◌&&◌, ◌||◌, List, [], ◌∷◌, Bool, true, false, eqb, cond, refl, ap, ◌∙◌, sym, inl}
+use Rattle.std.proofs.Common.{inr, eq-eqb}
 use Rattle.std.specs.List.{list_any}
 use Rattle.std.proofs.lemmas.Bool.{eqb-true, cases_Bool}
 use Rattle.std.proofs.Math.Bool.{or_comm}
@@ -10,10 +11,13 @@ use Rattle.calculus_specs.specs.State.{concepts_at, gives_concept, has, label, g
 
 -- ---- labels
 
-any-concepts_at : (c : ℕ) (m : ℕ → ℕ) (at : ℕ) (fs : List (Fact ℕ)) → list_any (λ d. eqb d c) (concepts_at m at fs) ≡ list_any (gives_concept (λ d. eqb d c) m at) fs
+any-concepts_at : (c : ℕ) (m : ℕ → ℕ) (at : ℕ) (fs : List (Fact ℕ))
+    → list_any (λ d. eqb d c) (concepts_at m at fs) ≡ list_any (gives_concept (λ d. eqb d c) m at) fs
 any-concepts_at c m at [] = refl
 any-concepts_at c m at (Has y d ∷ fs) =
-    elim (eqb (m y) at) as (λ b. list_any (λ e. eqb e c) (cond b (d ∷ concepts_at m at fs) (concepts_at m at fs)) ≡ ((b && eqb d c) || list_any (gives_concept (λ e. eqb e c) m at) fs))
+    elim (eqb (m y) at) as
+    (λ b. list_any (λ e. eqb e c) (cond b (d ∷ concepts_at m at fs) (concepts_at m at fs))
+    ≡ ((b && eqb d c) || list_any (gives_concept (λ e. eqb e c) m at) fs))
     [ true ↦ ap (λ (t : Bool). eqb d c || t) (any-concepts_at c m at fs) | false ↦ any-concepts_at c m at fs ]
 any-concepts_at c m at (Edge r y z ∷ fs) = any-concepts_at c m at fs
 any-concepts_at c m at (Apart y z ∷ fs) = any-concepts_at c m at fs
@@ -39,7 +43,8 @@ gives_apart_back m a b (Has y c) = refl
 gives_apart_back m a b (Edge r y z) = refl
 gives_apart_back m a b (Same y z) = refl
 
-any_back : {C : Type 0} (m : ℕ → ℕ) (a b : ℕ) (fs : List (Fact C)) → list_any (gives_apart m a b) fs ≡ list_any (gives_apart m b a) fs
+any_back : {C : Type 0} (m : ℕ → ℕ) (a b : ℕ) (fs : List (Fact C))
+    → list_any (gives_apart m a b) fs ≡ list_any (gives_apart m b a) fs
 any_back m a b [] = refl
 any_back m a b (f ∷ fs) = rw (gives_apart_back m a b f, any_back m a b fs) refl
 

@@ -1,6 +1,7 @@
 -- How deep the roles of a concept nest.
 use Rattle.std.specs.Prelude.{ℕ, ◌+◌, max}
-use Rattle.shq_base.specs.Concept.{Concept, top, bottom, name, complement, intersection, union, some_of, all_of, at_least, at_most, exactly, Parts, no_parts, part}
+use Rattle.shq_base.specs.Concept.{Concept, top, bottom, name, complement, intersection, union, some_of, all_of}
+use Rattle.shq_base.specs.Concept.{at_least, at_most, exactly, Parts, no_parts, part}
 
 abbrev mutual
   pub role_depth : Concept → ℕ

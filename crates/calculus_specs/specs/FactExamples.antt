@@ -4,7 +4,8 @@ use Rattle.std.specs.Prelude.{◌≡◌, ℕ, ◌==◌, true, false, List, [], �
 use Rattle.calculus_specs.specs.declared.facts.Fact.{Fact}
 use Rattle.calculus_specs.specs.declared.facts.Fact.TheVariants.{Has, Edge, Apart, Same}
 use Rattle.calculus_specs.specs.Joins.{rep}
-use Rattle.calculus_specs.specs.State.{node_count_from, parent_from, has, label, successors_from, are_apart, all_apart, fresh_facts}
+use Rattle.calculus_specs.specs.State.{node_count_from, parent_from, has, label, successors_from, are_apart, all_apart}
+use Rattle.calculus_specs.specs.State.{fresh_facts}
 
 abbrev three_below : List (Fact ℕ)
 three_below = fresh_facts 0 7 5 1 3

@@ -15,7 +15,8 @@ IsOnce cs = IsDistinct (λ y z. y == z) cs
 
 -- the list has the edges that begin at x, each as its role and a node, whose representative is the end
 abbrev pub AreEdges : List (Fact ℕ) → ℕ → List (ℕ × ℕ) → Type 0
-AreEdges fs x edges = (roles : ℕ → Bool) (y : ℕ) → list_any (λ p. roles p.0 && rep fs p.1 == y) edges ≡ is_successor fs roles x y
+AreEdges fs x edges = (roles : ℕ → Bool) (y : ℕ)
+    → list_any (λ p. roles p.0 && rep fs p.1 == y) edges ≡ is_successor fs roles x y
 
 -- the list has those of the first n nodes that are one with x
 abbrev pub AreJoined : List (Fact ℕ) → ℕ → ℕ → List ℕ → Type 0

@@ -2,7 +2,8 @@
 -- alone, and no intersection or union has a part that is top, bottom or of its own kind.
 use Rattle.std.specs.Prelude.{ℕ, zero, suc, Bool, true, false, not, List, [], ◌∷◌, filter, if◌then◌else◌}
 use Rattle.std.specs.List.{list_any, flat_map}
-use Rattle.shq_base.specs.Concept.{Concept, top, bottom, name, complement, intersection, union, some_of, all_of, at_least, at_most, exactly, Parts, no_parts, part, parts_of, part_list}
+use Rattle.shq_base.specs.Concept.{Concept, top, bottom, name, complement, intersection, union, some_of, all_of}
+use Rattle.shq_base.specs.Concept.{at_least, at_most, exactly, Parts, no_parts, part, parts_of, part_list}
 
 abbrev pub is_top : Concept → Bool
 is_top top = true
@@ -89,7 +90,8 @@ abbrev mutual
   normal_form (all_of r c) = all_of r (normal_form c)
   normal_form (at_least n r c) = least_form n r (normal_form c)
   normal_form (at_most n r c) = most_form n r (normal_form c) (negated_form c)
-  normal_form (exactly n r c) = and_of (least_form n r (normal_form c) ∷ most_form n r (normal_form c) (negated_form c) ∷ [])
+  normal_form (exactly n r c) =
+      and_of (least_form n r (normal_form c) ∷ most_form n r (normal_form c) (negated_form c) ∷ [])
 
   -- the normal form of the complement
   pub negated_form : Concept → Concept
@@ -103,7 +105,8 @@ abbrev mutual
   negated_form (all_of r c) = some_of r (negated_form c)
   negated_form (at_least n r c) = fewer_form n r (normal_form c) (negated_form c)
   negated_form (at_most n r c) = more_form n r (normal_form c)
-  negated_form (exactly n r c) = or_of (fewer_form n r (normal_form c) (negated_form c) ∷ more_form n r (normal_form c) ∷ [])
+  negated_form (exactly n r c) =
+      or_of (fewer_form n r (normal_form c) (negated_form c) ∷ more_form n r (normal_form c) ∷ [])
 
   pub normal_forms : Parts → List Concept
   normal_forms no_parts = []

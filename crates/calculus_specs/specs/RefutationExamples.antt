@@ -1,13 +1,18 @@
 -- Worked examples. Class names are numbers from 10. Role 1 is below role 0, which is transitive.
 use Rattle.std.specs.Prelude.{◌≡◌, ◌==◌, ◌||◌, ◌&&◌, List, [], ◌∷◌, ◌++◌, Option, Some, None, if◌then◌else◌, refl}
-use Rattle.shq_base.specs.Concept.{Concept, top, bottom, name, complement, intersection, union, some_of, all_of, at_least, at_most, parts_of}
+use Rattle.shq_base.specs.Concept.{Concept, top, bottom, name, complement, intersection, union, some_of, all_of}
+use Rattle.shq_base.specs.Concept.{at_least, at_most, parts_of}
 use Rattle.calculus_specs.specs.Shape.{Shape}
-use Rattle.calculus_specs.specs.Shape.Shape.{name as name_shape, not_name, intersection as and_shape, union as union_shape, some_of as some_shape, all_of as all_shape, at_least as least_shape, at_most as most_shape}
+use Rattle.calculus_specs.specs.Shape.Shape.{name as name_shape, not_name, intersection as and_shape}
+use Rattle.calculus_specs.specs.Shape.Shape.{union as union_shape, some_of as some_shape, all_of as all_shape}
+use Rattle.calculus_specs.specs.Shape.Shape.{at_least as least_shape, at_most as most_shape}
 use Rattle.calculus_specs.specs.Rows.{Theory, inclusion_of, range_of}
 use Rattle.calculus_specs.specs.declared.facts.Fact.{Fact}
 use Rattle.calculus_specs.specs.declared.facts.Fact.TheVariants.{Has, Edge, Apart, Same}
 use Rattle.calculus_specs.specs.Line.{Line, node, no_trees, tree}
-use Rattle.calculus_specs.specs.Line.Line.{start_line, and_line, or_line, all_line, carry_line, row_line, range_line, some_line, least_line, choose_line, pair_line, bottom_line, clash_line, most_line, fact_line, differ_line}
+use Rattle.calculus_specs.specs.Line.Line.{start_line, and_line, or_line, all_line, carry_line, row_line, range_line}
+use Rattle.calculus_specs.specs.Line.Line.{some_line, least_line, choose_line, pair_line, bottom_line, clash_line}
+use Rattle.calculus_specs.specs.Line.Line.{most_line, fact_line, differ_line}
 use Rattle.calculus_specs.specs.Rules.{Question, on_any, Known, nothing_known}
 use Rattle.calculus_specs.specs.Valid.{concept_at, open_after, open_after_all, IsRefutation}
 
@@ -36,7 +41,10 @@ theory = record {
 -- the shapes from 1 on: a, b, not a, 'some 1 a', 'all 0 b', 'at least 3 1 a', 'at most 2 0 a', 'at most 1 0 a',
 -- 'a or b', c, 'a and c', 'at least 3 1 a and at most 2 0 a'
 abbrev shapes : List Shape
-shapes = name_shape 10 ∷ name_shape 11 ∷ not_name 10 ∷ some_shape 1 1 ∷ all_shape 0 2 ∷ least_shape 3 1 1 ∷ most_shape 2 0 1 ∷ most_shape 1 0 1 ∷ union_shape (1 ∷ 2 ∷ []) ∷ name_shape 12 ∷ and_shape (1 ∷ 10 ∷ []) ∷ and_shape (6 ∷ 7 ∷ []) ∷ []
+shapes =
+    name_shape 10 ∷ name_shape 11 ∷ not_name 10 ∷ some_shape 1 1 ∷ all_shape 0 2 ∷ least_shape 3 1 1 ∷ most_shape 2 0 1
+    ∷ most_shape 1 0 1 ∷ union_shape (1 ∷ 2 ∷ []) ∷ name_shape 12 ∷ and_shape (1 ∷ 10 ∷ []) ∷ and_shape (6 ∷ 7 ∷ [])
+    ∷ []
 
 -- what lines leave open of a refutation that `sub` is in `sup`
 abbrev left_open : Concept → Concept → List Line → Option (List Known)
@@ -58,7 +66,11 @@ by_a_row = start_line ∷ and_line 0 11 ∷ row_line 0 1 1 (1 ∷ 2 ∷ []) ∷ 
 
 pub row_refutes : IsRefutation (on_any theory (both a c) b) shapes by_a_row
 row_refutes = record {
-  tree = node start_line (tree (node (and_line 0 11) (tree (node (row_line 0 1 1 (1 ∷ 2 ∷ [])) (tree (node (clash_line 0 2) no_trees) no_trees)) no_trees)) no_trees);
+  tree =
+      node start_line
+      (tree (node (and_line 0 11)
+      (tree (node (row_line 0 1 1 (1 ∷ 2 ∷ [])) (tree (node (clash_line 0 2) no_trees) no_trees)) no_trees))
+      no_trees);
   in_preorder = refl;
   is_shut = (((tt, tt), tt), tt);
 }
@@ -81,14 +93,20 @@ not_started = refl
 abbrev three_and_two : Concept
 three_and_two = both (at_least 3 1 a) (at_most 2 0 a)
 
-pub counted : left_open three_and_two bottom (start_line ∷ and_line 0 12 ∷ least_line 0 4 6 ∷ most_line 0 7 (4 ∷ 6 ∷ 5 ∷ []) ∷ []) ≡ Some []
+pub counted : left_open three_and_two bottom
+    (start_line ∷ and_line 0 12 ∷ least_line 0 4 6 ∷ most_line 0 7 (4 ∷ 6 ∷ 5 ∷ []) ∷ [])
+    ≡ Some []
 counted = refl
 
 -- not where one is counted twice, or where there are only as many as may be
-pub counted_twice : left_open three_and_two bottom (start_line ∷ and_line 0 12 ∷ least_line 0 4 6 ∷ most_line 0 7 (4 ∷ 5 ∷ 5 ∷ []) ∷ []) ≡ None
+pub counted_twice : left_open three_and_two bottom
+    (start_line ∷ and_line 0 12 ∷ least_line 0 4 6 ∷ most_line 0 7 (4 ∷ 5 ∷ 5 ∷ []) ∷ [])
+    ≡ None
 counted_twice = refl
 
-pub counted_two : left_open three_and_two bottom (start_line ∷ and_line 0 12 ∷ least_line 0 4 6 ∷ most_line 0 7 (4 ∷ 5 ∷ []) ∷ []) ≡ None
+pub counted_two : left_open three_and_two bottom
+    (start_line ∷ and_line 0 12 ∷ least_line 0 4 6 ∷ most_line 0 7 (4 ∷ 5 ∷ []) ∷ [])
+    ≡ None
 counted_two = refl
 
 -- ---- single lines
@@ -105,14 +123,16 @@ pub least_known : left_at (Has 0 (at_least 3 1 a) ∷ []) (least_line 0 2 6) ≡
 least_known = refl
 
 -- an edge of role 1 serves for role 0 above it
-pub all_below : left_at (Has 0 (all_of 0 b) ∷ Edge 1 0 2 ∷ []) (all_line 0 2 5) ≡ Some (known_with (Has 0 (all_of 0 b) ∷ Edge 1 0 2 ∷ Has 2 b ∷ []) ∷ [])
+pub all_below : left_at (Has 0 (all_of 0 b) ∷ Edge 1 0 2 ∷ []) (all_line 0 2 5)
+    ≡ Some (known_with (Has 0 (all_of 0 b) ∷ Edge 1 0 2 ∷ Has 2 b ∷ []) ∷ [])
 all_below = refl
 
 pub all_elsewhere : left_at (Has 0 (all_of 0 b) ∷ Edge 1 1 2 ∷ []) (all_line 0 2 5) ≡ None
 all_elsewhere = refl
 
 -- 'all' goes on along a transitive role, and along no other
-pub carried : left_at (Has 0 (all_of 0 b) ∷ Edge 1 0 2 ∷ []) (carry_line 0 2 0 5) ≡ Some (known_with (Has 0 (all_of 0 b) ∷ Edge 1 0 2 ∷ Has 2 (all_of 0 b) ∷ []) ∷ [])
+pub carried : left_at (Has 0 (all_of 0 b) ∷ Edge 1 0 2 ∷ []) (carry_line 0 2 0 5)
+    ≡ Some (known_with (Has 0 (all_of 0 b) ∷ Edge 1 0 2 ∷ Has 2 (all_of 0 b) ∷ []) ∷ [])
 carried = refl
 
 pub not_carried : left_at (Has 0 (all_of 0 b) ∷ Edge 1 0 2 ∷ []) (carry_line 0 2 1 5) ≡ None
@@ -127,10 +147,12 @@ no_range = refl
 
 -- branches in order
 pub branched : left_at (Has 1 (union (parts_of (a ∷ b ∷ []))) ∷ []) (or_line 1 9)
-    ≡ Some (known_with (Has 1 (union (parts_of (a ∷ b ∷ []))) ∷ Has 1 a ∷ []) ∷ known_with (Has 1 (union (parts_of (a ∷ b ∷ []))) ∷ Has 1 b ∷ []) ∷ [])
+    ≡ Some (known_with (Has 1 (union (parts_of (a ∷ b ∷ []))) ∷ Has 1 a ∷ [])
+    ∷ known_with (Has 1 (union (parts_of (a ∷ b ∷ []))) ∷ Has 1 b ∷ []) ∷ [])
 branched = refl
 
-pub chosen : left_at [] (choose_line 2 4) ≡ Some (known_with (Has 2 (some_of 1 a) ∷ []) ∷ known_with (Has 2 (all_of 1 (complement a)) ∷ []) ∷ [])
+pub chosen : left_at [] (choose_line 2 4)
+    ≡ Some (known_with (Has 2 (some_of 1 a) ∷ []) ∷ known_with (Has 2 (all_of 1 (complement a)) ∷ []) ∷ [])
 chosen = refl
 
 pub paired : left_at [] (pair_line 1 2) ≡ Some (known_with (Same 1 2 ∷ []) ∷ known_with (Apart 1 2 ∷ []) ∷ [])
@@ -185,7 +207,8 @@ started_without_node = refl
 
 -- the end of a given edge is in the range, which clashes at the node in question alone
 pub given_edge : asserted_open (start_line ∷ fact_line 4 1 ∷ range_line 0 1 2 ∷ [])
-    ≡ Some (record { nodes = 0 ∷ 1 ∷ 2 ∷ []; facts = Has 0 top ∷ Has 0 (complement b) ∷ Edge 1 0 1 ∷ Has 1 b ∷ [] } ∷ [])
+    ≡ Some
+    (record { nodes = 0 ∷ 1 ∷ 2 ∷ []; facts = Has 0 top ∷ Has 0 (complement b) ∷ Edge 1 0 1 ∷ Has 1 b ∷ [] } ∷ [])
 given_edge = refl
 
 pub given_edge_elsewhere : asserted_open (start_line ∷ fact_line 4 1 ∷ range_line 0 1 2 ∷ clash_line 1 2 ∷ []) ≡ None

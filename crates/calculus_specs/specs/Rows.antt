@@ -1,5 +1,6 @@
 -- The parts of axioms, over concepts in normal form, and the rows by which a search uses them.
-use Rattle.std.specs.Prelude.{◌≡◌, ℕ, zero, suc, ◌+◌, ◌<◌, ◌==◌, nat_lt, ◌&&◌, Bool, true, false, List, [], ◌∷◌, ◌++◌, map, length, Option, None, Some, slice_index_or, if◌then◌else◌, All, count_by}
+use Rattle.std.specs.Prelude.{◌≡◌, ℕ, zero, suc, ◌+◌, ◌<◌, ◌==◌, nat_lt, ◌&&◌, Bool, true, false, List, [], ◌∷◌, ◌++◌}
+use Rattle.std.specs.Prelude.{map, length, Option, None, Some, slice_index_or, if◌then◌else◌, All, count_by}
 use Rattle.std.specs.List.{list_any, list_all, find}
 use Rattle.std.specs.Option.{option_map}
 use Rattle.shq_base.specs.Concept.{Concept, top, name, intersection, some_of, part_list}
@@ -40,7 +41,8 @@ is_among positions i = list_any (λ k. k == i) positions
 -- the conjuncts whose positions, counted from `first`, are not in the list
 abbrev pub others_from : ℕ → List ℕ → List Concept → List Concept
 others_from first positions [] = []
-others_from first positions (c ∷ cs) = if is_among positions first then others_from (first + 1) positions cs else c ∷ others_from (first + 1) positions cs
+others_from first positions (c ∷ cs) =
+    if is_among positions first then others_from (first + 1) positions cs else c ∷ others_from (first + 1) positions cs
 
 -- what an element is in that is in the conjuncts at these positions: the complement of another conjunct, or the right
 -- side
@@ -65,7 +67,8 @@ is_ascending (i ∷ k ∷ ks) = nat_lt i k && is_ascending (k ∷ ks)
 
 -- whether these are positions of conjuncts that are names, strictly ascending
 abbrev pub are_name_positions : List Concept → List ℕ → Bool
-are_name_positions conjuncts positions = is_ascending positions && list_all (λ i. is_name (conjunct_at conjuncts i)) positions
+are_name_positions conjuncts positions =
+    is_ascending positions && list_all (λ i. is_name (conjunct_at conjuncts i)) positions
 
 abbrev pub is_some_of : ℕ → Concept → Bool
 is_some_of s (some_of r c) = r == s
@@ -82,7 +85,8 @@ pub data Trigger : Type 0 where
 -- the concept of the part's row with this trigger; none where the part has no such row
 abbrev pub row_of : Part → Trigger → Option Concept
 row_of (inclusion cs d) always = Some (row_concept cs d [])
-row_of (inclusion cs d) (names positions) = if are_name_positions cs positions then Some (row_concept cs d positions) else None
+row_of (inclusion cs d) (names positions) =
+    if are_name_positions cs positions then Some (row_concept cs d positions) else None
 row_of (inclusion cs d) (edge s) = if list_any (is_some_of s) cs then Some (row_concept cs d []) else None
 row_of (inclusion cs d) (end_of s) = None
 row_of (range r d) (end_of s) = if s == r then Some d else None

@@ -1,8 +1,10 @@
 -- What a rule line adds to what is known in its branch, where its premises hold. Facts are read through the nodes that
 -- are joined, and every node has top. A line whose number of a concept stands for none has no premises that hold.
-use Rattle.std.specs.Prelude.{ℕ, ◌+◌, ◌^◌, ◌==◌, nat_lt, nat_le, ◌&&◌, not, Bool, List, [], ◌∷◌, ◌++◌, map, length, Option, Some, None, if◌then◌else◌}
+use Rattle.std.specs.Prelude.{ℕ, ◌+◌, ◌^◌, ◌==◌, nat_lt, nat_le, ◌&&◌, not, Bool, List, [], ◌∷◌, ◌++◌, map, length}
+use Rattle.std.specs.Prelude.{Option, Some, None, if◌then◌else◌}
 use Rattle.std.specs.List.{list_any, list_all, range_with_len}
-use Rattle.shq_base.specs.Concept.{Concept, bottom, name, complement, intersection, union, some_of, all_of, at_least, at_most, part_list}
+use Rattle.shq_base.specs.Concept.{Concept, bottom, name, complement, intersection, union, some_of, all_of, at_least}
+use Rattle.shq_base.specs.Concept.{at_most, part_list}
 use Rattle.calculus_specs.specs.Normal.{normal_form, negated_form}
 use Rattle.calculus_specs.specs.Rows.{Part, Theory, part_at, conjunct_at, are_name_positions, row_concept}
 use Rattle.calculus_specs.specs.Rows.Part.{inclusion, range}
@@ -11,7 +13,9 @@ use Rattle.calculus_specs.specs.declared.facts.Fact.TheVariants.{Has, Apart, Sam
 use Rattle.calculus_specs.specs.Joins.{rep}
 use Rattle.calculus_specs.specs.State.{has_tree, has_edge, are_apart, all_apart, fresh_facts}
 use Rattle.calculus_specs.specs.Line.{Line}
-use Rattle.calculus_specs.specs.Line.Line.{start_line, and_line, or_line, all_line, carry_line, row_line, range_line, some_line, least_line, choose_line, pair_line, bottom_line, clash_line, most_line, fact_line, differ_line}
+use Rattle.calculus_specs.specs.Line.Line.{start_line, and_line, or_line, all_line, carry_line, row_line, range_line}
+use Rattle.calculus_specs.specs.Line.Line.{some_line, least_line, choose_line, pair_line, bottom_line, clash_line}
+use Rattle.calculus_specs.specs.Line.Line.{most_line, fact_line, differ_line}
 
 -- What a refutation is of: that something is in `sub` and not in `sup`, over the axioms of a theory. The first nodes
 -- are those below `first`: one for each individual, and one for an element without a name. Node `at` is the one in
@@ -79,13 +83,15 @@ carry_children theory k x y t _ = None
 
 abbrev pub row_children : Known → ℕ → List ℕ → Option Part → Option (List Known)
 row_children k x positions (Some (inclusion cs d)) =
-    when (are_name_positions cs positions && knows k x && list_all (λ i. has_tree k.facts x (conjunct_at cs i)) positions)
+    when
+    (are_name_positions cs positions && knows k x && list_all (λ i. has_tree k.facts x (conjunct_at cs i)) positions)
     (Some (with_facts k (Has x (row_concept cs d positions) ∷ []) ∷ []))
 row_children k x positions _ = None
 
 abbrev pub range_children : Theory → Known → ℕ → ℕ → Option Part → Option (List Known)
 range_children theory k x y (Some (range s d)) =
-    when (knows k x && knows k y && has_edge k.facts (λ r. theory.below r s) x y) (Some (with_facts k (Has y d ∷ []) ∷ []))
+    when (knows k x && knows k y && has_edge k.facts (λ r. theory.below r s) x y)
+    (Some (with_facts k (Has y d ∷ []) ∷ []))
 range_children theory k x y _ = None
 
 abbrev pub some_children : Known → ℕ → ℕ → Concept → Option (List Known)
@@ -93,11 +99,13 @@ some_children k x y (some_of s e) = when (not (knows k y)) (Some (with_nodes k x
 some_children k x y _ = None
 
 abbrev pub least_children : Known → ℕ → ℕ → Concept → Option (List Known)
-least_children k x y (at_least n s e) = when (nat_le (y + n) (2 ^ 32) && not (knows_some_from k y n)) (Some (with_nodes k x s e y n ∷ []))
+least_children k x y (at_least n s e) =
+    when (nat_le (y + n) (2 ^ 32) && not (knows_some_from k y n)) (Some (with_nodes k x s e y n ∷ []))
 least_children k x y _ = None
 
 abbrev pub choose_children : Known → ℕ → Option Concept → Option (List Known)
-choose_children k y (Some c) = when (knows k y) (Some (with_facts k (Has y c ∷ []) ∷ with_facts k (Has y (negated_form c) ∷ []) ∷ []))
+choose_children k y (Some c) =
+    when (knows k y) (Some (with_facts k (Has y c ∷ []) ∷ with_facts k (Has y (negated_form c) ∷ []) ∷ []))
 choose_children k y None = None
 
 abbrev pub clash_children : Known → ℕ → Concept → Option (List Known)
@@ -106,10 +114,12 @@ clash_children k x _ = None
 
 -- whether each of the known nodes is the end of an edge below s from x and has e
 abbrev pub are_fillers : Theory → Known → ℕ → ℕ → Concept → List ℕ → Bool
-are_fillers theory k x s e ys = list_all (λ y. knows k y && has_edge k.facts (λ r. theory.below r s) x y && has_tree k.facts y e) ys
+are_fillers theory k x s e ys =
+    list_all (λ y. knows k y && has_edge k.facts (λ r. theory.below r s) x y && has_tree k.facts y e) ys
 
 abbrev pub most_children : Theory → Known → ℕ → List ℕ → Concept → Option (List Known)
-most_children theory k x ys (at_most n s e) = when (length ys == n + 1 && are_fillers theory k x s e ys && all_apart k.facts ys) (Some [])
+most_children theory k x ys (at_most n s e) =
+    when (length ys == n + 1 && are_fillers theory k x s e ys && all_apart k.facts ys) (Some [])
 most_children theory k x ys _ = None
 
 -- ---- lines without a concept

@@ -1,6 +1,7 @@
 -- A test whether two class expressions are the same tree.
 use Rattle.std.specs.Prelude.{◌==◌, ◌&&◌, Bool, true, false}
-use Rattle.shq_base.specs.Concept.{Concept, top, bottom, name, complement, intersection, union, some_of, all_of, at_least, at_most, exactly, Parts, no_parts, part}
+use Rattle.shq_base.specs.Concept.{Concept, top, bottom, name, complement, intersection, union, some_of, all_of}
+use Rattle.shq_base.specs.Concept.{at_least, at_most, exactly, Parts, no_parts, part}
 
 abbrev mutual
   pub is_same : Concept → Concept → Bool

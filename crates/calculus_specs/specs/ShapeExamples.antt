@@ -1,10 +1,13 @@
 -- Worked examples. Names are numbers from 10, roles from 0.
 use Rattle.std.specs.Prelude.{◌≡◌, [], ◌∷◌, None, Some, zero, suc, ◌<◌, true, false, refl, ℕ, List}
 use Rattle.std.proofs.Common.{lit<, arith}
-use Rattle.shq_base.specs.Concept.{Concept, top, bottom, name, complement, intersection, union, some_of, all_of, at_least, at_most, exactly, parts_of}
+use Rattle.shq_base.specs.Concept.{Concept, top, bottom, name, complement, intersection, union, some_of, all_of}
+use Rattle.shq_base.specs.Concept.{at_least, at_most, exactly, parts_of}
 use Rattle.calculus_specs.specs.Normal.{normal_form, negated_form}
 use Rattle.calculus_specs.specs.Shape.{Shape, shape_of, has_parts_below, is_normal, IsTable}
-use Rattle.calculus_specs.specs.Shape.Shape.{top as top_shape, bottom as bottom_shape, name as name_shape, not_name, intersection as and_shape, union as union_shape, some_of as some_shape, at_least as least_shape, at_most as most_shape}
+use Rattle.calculus_specs.specs.Shape.Shape.{top as top_shape, bottom as bottom_shape, name as name_shape, not_name}
+use Rattle.calculus_specs.specs.Shape.Shape.{intersection as and_shape, union as union_shape, some_of as some_shape}
+use Rattle.calculus_specs.specs.Shape.Shape.{at_least as least_shape, at_most as most_shape}
 use Rattle.calculus_specs.specs.Tree.{tree_of}
 use Rattle.calculus_specs.specs.Rows.{Part, inclusion_of, row_of}
 use Rattle.calculus_specs.specs.Rows.Part.{inclusion}
@@ -20,7 +23,8 @@ abbrev c : Concept
 c = name 12
 
 -- inner intersections are opened and top is dropped; a part that is bottom makes the whole bottom
-pub opened : normal_form (intersection (parts_of (a ∷ top ∷ intersection (parts_of (b ∷ c ∷ [])) ∷ []))) ≡ intersection (parts_of (a ∷ b ∷ c ∷ []))
+pub opened : normal_form (intersection (parts_of (a ∷ top ∷ intersection (parts_of (b ∷ c ∷ [])) ∷ [])))
+    ≡ intersection (parts_of (a ∷ b ∷ c ∷ []))
 opened = refl
 
 pub one_left : normal_form (intersection (parts_of (a ∷ top ∷ []))) ≡ a
@@ -30,7 +34,8 @@ pub empty : normal_form (intersection (parts_of (a ∷ complement top ∷ []))) 
 empty = refl
 
 -- a complement goes inward
-pub inward : normal_form (complement (union (parts_of (a ∷ some_of 0 b ∷ [])))) ≡ intersection (parts_of (complement a ∷ all_of 0 (complement b) ∷ []))
+pub inward : normal_form (complement (union (parts_of (a ∷ some_of 0 b ∷ []))))
+    ≡ intersection (parts_of (complement a ∷ all_of 0 (complement b) ∷ []))
 inward = refl
 
 -- cardinalities
@@ -53,7 +58,8 @@ pub not_exactly_one : negated_form (exactly 1 0 a) ≡ union (parts_of (all_of 0
 not_exactly_one = refl
 
 -- the numbers 0 to 4 of a table
-pub tree_of_four : tree_of (top_shape ∷ name_shape 10 ∷ not_name 11 ∷ union_shape (1 ∷ 2 ∷ []) ∷ some_shape 0 3 ∷ []) 4 ≡ some_of 0 (union (parts_of (a ∷ complement b ∷ [])))
+pub tree_of_four : tree_of (top_shape ∷ name_shape 10 ∷ not_name 11 ∷ union_shape (1 ∷ 2 ∷ []) ∷ some_shape 0 3 ∷ []) 4
+    ≡ some_of 0 (union (parts_of (a ∷ complement b ∷ [])))
 tree_of_four = refl
 
 -- the rows of the part 'a and some 0 b in c'
@@ -146,4 +152,10 @@ three_distinct (suc (suc (suc c))) d lt mt e = absurd (omega arith)
 three_distinct c (suc (suc (suc d))) lt mt e = absurd (omega arith)
 
 pub three_is_table : IsTable three
-three_is_table = record { has_top = lit< tt; begins_with_top = refl; parts_below = three_below; are_normal = three_normal; are_distinct = three_distinct }
+three_is_table = record {
+  has_top = lit< tt;
+  begins_with_top = refl;
+  parts_below = three_below;
+  are_normal = three_normal;
+  are_distinct = three_distinct;
+}

@@ -1,5 +1,6 @@
 -- When a refutation is valid: its lines are in preorder a tree in which every branch ends in a line without children.
-use Rattle.std.specs.Prelude.{◌≡◌, ℕ, ◌+◌, ◌≤◌, nat_lt, ◌&&◌, List, [], ◌∷◌, ◌++◌, length, take, drop, Option, Some, None, if◌then◌else◌}
+use Rattle.std.specs.Prelude.{◌≡◌, ℕ, ◌+◌, ◌≤◌, nat_lt, ◌&&◌, List, [], ◌∷◌, ◌++◌, length, take, drop, Option, Some}
+use Rattle.std.specs.Prelude.{None, if◌then◌else◌}
 use Rattle.std.specs.Option.{option_and_then, option_map}
 use Rattle.shq_base.specs.Concept.{Concept}
 use Rattle.calculus_specs.specs.Shape.{Shape}
@@ -34,7 +35,8 @@ module _ (q : Question) (concept : ℕ → Option Concept) where
   -- and those that several lines leave
   abbrev pub open_after_all : List Known → List Line → Option (List Known)
   open_after_all ks [] = Some ks
-  open_after_all ks (line ∷ lines) = option_and_then (λ (left : List Known). open_after_all left lines) (open_after ks line)
+  open_after_all ks (line ∷ lines) =
+      option_and_then (λ (left : List Known). open_after_all left lines) (open_after ks line)
 
   -- whether what follows the lines read breaks the rules: a line whose premises do not hold, or an end that leaves a
   -- branch open

@@ -5,7 +5,8 @@
 //! Logics", 1999). There two nodes are merged by moving what is said of one to the other. Here a fact joins them,
 //! nothing is moved, and everything is read through representatives: the least node of those that are joined. So facts
 //! are only ever added, and taking the last ones away again leaves exactly what was said before.
-ghost use Rattle.calculus_specs.specs.FactLaws.{RepsAreLeast, LabelIsHeld, ApartIsSymmetric, ReadingKeepsState, NumbersReadAsTrees};
+ghost use Rattle.calculus_specs.specs.FactLaws.{RepsAreLeast, LabelIsHeld, ApartIsSymmetric, ReadingKeepsState};
+ghost use Rattle.calculus_specs.specs.FactLaws.{NumbersReadAsTrees};
 
 /// A fact on nodes, over concepts of a kind: numbers of a table in a search.
 #[derive(Clone, Copy, Debug, PartialEq, Eq)]

@@ -11,7 +11,8 @@
 //!   (absorption; Horrocks and Tobies, "Reasoning with Axioms: Theory and Practice", 2000). Here any choice of names on
 //!   the left may trigger a row, and the axiom itself is never rewritten.
 //! - **Role inclusion and simple roles** are those of the OWL 2 Structural Specification, section 11.
-ghost use Rattle.calculus_specs.specs.ShapeLaws.{NormalFormsAreNotDeeper, TestIsEquality, TableGrows, TreesFollowShapes, NumbersAreUnique};
+ghost use Rattle.calculus_specs.specs.ShapeLaws.{NormalFormsAreNotDeeper, TestIsEquality, TableGrows};
+ghost use Rattle.calculus_specs.specs.ShapeLaws.{TreesFollowShapes, NumbersAreUnique};
 
 /// The roles of a normal form, or of that of the complement, nest no deeper than those of the concept.
 pub fn normal_forms_are_not_deeper()

@@ -10,7 +10,8 @@ use Rattle.certificate_lines.specs.Lines.{lines, is_blank}
 pub use Rattle.certificate_lines.proofs.Borrowed.{lines_drop}
 use denote.Ref.{Bor}
 
-pub blank_front : (ls : List (Bor (List ℕ))) → prefix_len is_blank (map (λ l. l.now) ls) ≡ prefix_len (λ l. is_blank l.now) ls
+pub blank_front : (ls : List (Bor (List ℕ)))
+    → prefix_len is_blank (map (λ l. l.now) ls) ≡ prefix_len (λ l. is_blank l.now) ls
 blank_front [] = refl
 blank_front (l ∷ ls) = ap (λ n. cond (is_blank l.now) (1 + n) 0) (blank_front ls)
 
@@ -18,4 +19,9 @@ blank_front (l ∷ ls) = ap (λ n. cond (is_blank l.now) (1 + n) 0) (blank_front
 pub few_lines : (text : List ℕ) → length (lines text) ≤ length text + 1
 few_lines text =
     let cut : ℕ → Bool = λ b. nat_eq b 10 in
-    omega (arith, length-map (slice_split cut text) strip_carriage_return, length-slice_split cut text, count_by-le-length cut text)
+    omega (
+      arith,
+      length-map (slice_split cut text) strip_carriage_return,
+      length-slice_split cut text,
+      count_by-le-length cut text,
+    )

@@ -1,5 +1,6 @@
 -- The certificate that follows a document.
-use Rattle.std.specs.Prelude.{◌≡◌, ℕ, Bool, ◌||◌, ◌≤◌, List, [], ◌∷◌, drop, codes, length, Option, Some, None, option_map, Result, Ok, Err, if◌then◌else◌}
+use Rattle.std.specs.Prelude.{◌≡◌, ℕ, Bool, ◌||◌, ◌≤◌, List, [], ◌∷◌, drop, codes, length, Option, Some, None}
+use Rattle.std.specs.Prelude.{option_map, Result, Ok, Err, if◌then◌else◌}
 use Rattle.std.specs.List.{prefix_len}
 use Rattle.std.specs.Str.{bytes_eq}
 use Rattle.certificate_lines.specs.Lines.{lines, is_blank}
@@ -35,16 +36,19 @@ or_no_line (Some n) = n
 -- What lines after a verdict are: the text of a model, or that of a refutation; or none, with the number of the first
 -- malformed line. Lines of which none is malformed are a text.
 abbrev pub model_after : Listed → List (List ℕ) → Result Certificate ℕ
-model_after o ls = elim (model_of o ls) [ None ↦ Err (or_no_line (option_map clamped_line (malformed_model_line o ls))) | Some k ↦ Ok (Model k) ]
+model_after o ls = elim (model_of o ls)
+    [ None ↦ Err (or_no_line (option_map clamped_line (malformed_model_line o ls))) | Some k ↦ Ok (Model k) ]
 
 abbrev pub refutation_after : Listed → List (List ℕ) → Result Certificate ℕ
-refutation_after o ls = elim (refutation_of o ls) [ None ↦ Err (or_no_line (option_map clamped_line (malformed_refutation_line o ls))) | Some k ↦ Ok (Refutation k) ]
+refutation_after o ls = elim (refutation_of o ls)
+    [ None ↦ Err (or_no_line (option_map clamped_line (malformed_refutation_line o ls))) | Some k ↦ Ok (Refutation k) ]
 
 -- What lines are that begin with a verdict: a certificate, or none, with the number of the first malformed line, from
 -- 1.
 abbrev pub certificate_in : Listed → List (List ℕ) → Result Certificate ℕ
 certificate_in o [] = Err 1
-certificate_in o (l ∷ ls) = if is_model_verdict l then model_after o ls else if is_refutation_verdict l then refutation_after o ls else Err 1
+certificate_in o (l ∷ ls) =
+    if is_model_verdict l then model_after o ls else if is_refutation_verdict l then refutation_after o ls else Err 1
 
 -- what the text after a document is, over the names that are listed
 abbrev pub certificate : Listed → List ℕ → Result Certificate ℕ

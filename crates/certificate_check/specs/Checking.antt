@@ -31,7 +31,8 @@ use Rattle.job_inputs.specs.declared.unread.Unread.{Unread}
 use Rattle.job_inputs.specs.declared.unread.Unread.TheVariants as U
 
 -- the query on a document, and the certificate that follows the document, over the names of both
-pub record IsClaim (o : Listed) (kept : DocumentContext) (query rest : List ℕ) (both : Listed) (claim : Claim) : Type 0 where
+pub record IsClaim (o : Listed) (kept : DocumentContext) (query rest : List ℕ) (both : Listed) (claim : Claim) :
+    Type 0 where
   pub counts : Counts
   pub is_query : IsAsked o kept query counts claim.asked
   pub listed : both ≡ with_names o counts
@@ -47,7 +48,8 @@ pub record IsInput (query bytes : List ℕ) (input : Input) : Type 0 where
   pub kept : DocumentContext
   pub end : ℕ
   pub is_document : IsDocument bytes document kept end
-  pub is_claim : IsClaim document kept query (drop end bytes) input.ontology (record { asked = input.asked; certificate = input.certificate })
+  pub is_claim : IsClaim document kept query (drop end bytes) input.ontology
+      (record { asked = input.asked; certificate = input.certificate })
 
 -- ontology and query are in limit, and the certificate fits them
 pub record CanBeJudged (input : Input) : Type 0 where
@@ -63,9 +65,11 @@ first_unmet i k (a ∷ as_) = if meets i a.axiom then first_unmet i (k + 1) as_ 
 -- then the query does not follow; or some axiom is the first that it does not meet; or it meets each and has no
 -- counter-element.
 abbrev pub IsOfModel : Listed → Asked → Model → Verdict → Type 0
-IsOfModel o q m NotEntailed = (first_unmet (meaning m) 1 o.axioms ≡ None) × ((x : ℕ) × IsFirstBelow m.size (refutes_at (meaning m) q) (Some x)) × PlacesIndividuals (meaning m)
+IsOfModel o q m NotEntailed = (first_unmet (meaning m) 1 o.axioms ≡ None)
+    × ((x : ℕ) × IsFirstBelow m.size (refutes_at (meaning m) q) (Some x)) × PlacesIndividuals (meaning m)
 IsOfModel o q m (Axiom k) = first_unmet (meaning m) 1 o.axioms ≡ Some k
-IsOfModel o q m Query = (first_unmet (meaning m) 1 o.axioms ≡ None) × IsFirstBelow m.size (refutes_at (meaning m) q) None
+IsOfModel o q m Query = (first_unmet (meaning m) 1 o.axioms ≡ None)
+    × IsFirstBelow m.size (refutes_at (meaning m) q) None
 IsOfModel o q m v = ⊥
 
 -- The line of the certificate on which the rule line of a place stands, from 1, and after the last one the line `end`:
@@ -77,7 +81,8 @@ line_of_place r place = 3 + length r.shapes + place
 -- they break the rules first at some place.
 abbrev pub IsOfRefutation : Listed → Asked → Refutation → Verdict → Type 0
 IsOfRefutation o q r Entailed = IsRefutation (named_question o q r) r.shapes r.lines
-IsOfRefutation o q r (Line n) = (place : ℕ) × IsBrokenAt (named_question o q r) (concept_at r.shapes) r.lines place × (n ≡ line_of_place r place)
+IsOfRefutation o q r (Line n) = (place : ℕ) × IsBrokenAt (named_question o q r) (concept_at r.shapes) r.lines place
+    × (n ≡ line_of_place r place)
 IsOfRefutation o q r v = ⊥
 
 -- the verdict on a certificate that is a refutation, from that of the checker
@@ -105,8 +110,10 @@ Shows o asked rest (refused_query e) = ⊥
 -- shows that follows the document.
 pub data IsReply (query bytes : List ℕ) : Reply → Type 0 where
   no_document : (e : Refusal) → IsNoDocument bytes e → IsReply query bytes (refused_document e)
-  no_query : (o : Listed) (kept : DocumentContext) (end : ℕ) (e : Refusal) → IsDocument bytes o kept end → IsNotAsked o kept query e → IsReply query bytes (refused_query e)
-  shown : (o : Listed) (kept : DocumentContext) (end : ℕ) (counts : Counts) (asked : Asked) (r : Reply) → IsDocument bytes o kept end → IsAsked o kept query counts asked
+  no_query : (o : Listed) (kept : DocumentContext) (end : ℕ) (e : Refusal) → IsDocument bytes o kept end
+      → IsNotAsked o kept query e → IsReply query bytes (refused_query e)
+  shown : (o : Listed) (kept : DocumentContext) (end : ℕ) (counts : Counts) (asked : Asked) (r : Reply)
+      → IsDocument bytes o kept end → IsAsked o kept query counts asked
       → Shows (with_names o counts) asked (drop end bytes) r → IsReply query bytes r
 
 -- why there is nothing to verify, unless memory was refused

@@ -10,4 +10,5 @@ use Rattle.job_inputs.specs.declared.verdict.Verdict.TheVariants.{NotEntailed, E
 -- a query whose refutation is accepted follows from the axioms; one whose counter-model is accepted does not
 abbrev pub VerdictsAreTrue : Type 0
 VerdictsAreTrue = (o : Listed) (q : Asked) (c : Certificate)
-    → (IsVerdictOn o q c Entailed → Entails (map (λ n. n.axiom) o.axioms) q) × (IsVerdictOn o q c NotEntailed → ¬ Entails (map (λ n. n.axiom) o.axioms) q)
+    → (IsVerdictOn o q c Entailed → Entails (map (λ n. n.axiom) o.axioms) q)
+    × (IsVerdictOn o q c NotEntailed → ¬ Entails (map (λ n. n.axiom) o.axioms) q)

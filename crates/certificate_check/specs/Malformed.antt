@@ -15,4 +15,5 @@ certificate_read o ls = result_ok (certificate_in o ls)
 -- begins with all lines.
 abbrev pub MalformedIsFirst : Type 0
 MalformedIsFirst =
-    (o : Listed) (text : List ℕ) (n : ℕ) → length text ≤ 4294967293 → certificate o text ≡ Err n → IsFirstMalformed 1 (certificate_read o) (certificate_lines text) n
+    (o : Listed) (text : List ℕ) (n : ℕ) → length text ≤ 4294967293 → certificate o text ≡ Err n
+    → IsFirstMalformed 1 (certificate_read o) (certificate_lines text) n

@@ -2,7 +2,8 @@
 ghost use Rattle.std.specs.Prelude.{◌≡◌, ◌≤◌, map, length, Ok, IfOk, IfErr};
 ghost use Rattle.std.specs.List.{prefix_len};
 ghost use Rattle.certificate_lines.specs.Lines.{is_blank};
-ghost use Rattle.certificate_check.specs.Certificates.{is_model_verdict, is_refutation_verdict, model_after, refutation_after, certificate_in, certificate, IsUnreadBy, Fits};
+ghost use Rattle.certificate_check.specs.Certificates.{is_model_verdict, is_refutation_verdict, model_after};
+ghost use Rattle.certificate_check.specs.Certificates.{refutation_after, certificate_in, certificate, IsUnreadBy, Fits};
 
 use certificate_lines::{is_blank, lines};
 use finite_model::Interp;

@@ -3,7 +3,8 @@ ghost use Rattle.std.specs.Prelude.{◌≡◌, ◌≤◌, IfOk, length};
 ghost use Rattle.refutation_check.specs.Limits.{IsInLimit};
 ghost use Rattle.refutation_tree.specs.ReadBack.{IsWritable};
 ghost use Rattle.finite_model.specs.ModelLists.{meaning};
-ghost use Rattle.certificate_check.specs.Checking.{CanBeJudged, IsVerdict, IsOfModel, IsOfRefutation, first_unmet, line_of_place, verdict_of};
+ghost use Rattle.certificate_check.specs.Checking.{CanBeJudged, IsVerdict, IsOfModel, IsOfRefutation, first_unmet};
+ghost use Rattle.certificate_check.specs.Checking.{line_of_place, verdict_of};
 
 use crate::certificate::Certificate;
 use crate::checking::Input;

@@ -1,6 +1,7 @@
 -- Texts that are read line by line: a first line, and then the text that follows it; or lines that each add to what was
 -- read, the line `end`, and blank lines. Beside each reading stands the number of the first malformed line.
-use Rattle.std.specs.Prelude.{ℕ, ◌+◌, Bool, true, false, List, [], ◌∷◌, codes, Option, Some, None, option_and_then, if◌then◌else◌}
+use Rattle.std.specs.Prelude.{ℕ, ◌+◌, Bool, true, false, List, [], ◌∷◌, codes, Option, Some, None, option_and_then}
+use Rattle.std.specs.Prelude.{if◌then◌else◌}
 use Rattle.std.specs.List.{list_all}
 use Rattle.std.specs.Str.{bytes_eq}
 use Rattle.certificate_lines.specs.Lines.{is_blank}
@@ -14,7 +15,8 @@ after_line first rest [] = None
 after_line first rest (l ∷ ls) = option_and_then (λ a. rest a ls) (first l)
 
 -- the first malformed line, where the first of all has the number n, from that of the lines after it
-abbrev pub malformed_after_line : {A : Type 0} → ℕ → (List ℕ → Option A) → (A → List (List ℕ) → Option ℕ) → List (List ℕ) → Option ℕ
+abbrev pub malformed_after_line : {A : Type 0} → ℕ → (List ℕ → Option A) → (A → List (List ℕ) → Option ℕ)
+    → List (List ℕ) → Option ℕ
 malformed_after_line n first rest [] = Some n
 malformed_after_line n first rest (l ∷ ls) = elim (first l) [ None ↦ Some n | Some a ↦ rest a ls ]
 

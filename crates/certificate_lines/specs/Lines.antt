@@ -1,5 +1,6 @@
 -- A text as lines, a line as words, and what a word stands for.
-use Rattle.std.specs.Prelude.{ℕ, ◌-◌, ◌^◌, Bool, not, ◌&&◌, ◌||◌, List, length, take, drop, map, nat_eq, nat_lt, Option, Some, None, if◌then◌else◌, slice_index}
+use Rattle.std.specs.Prelude.{ℕ, ◌-◌, ◌^◌, Bool, not, ◌&&◌, ◌||◌, List, length, take, drop, map, nat_eq, nat_lt, Option}
+use Rattle.std.specs.Prelude.{Some, None, if◌then◌else◌, slice_index}
 use Rattle.std.specs.List.{list_all, slice_split}
 use Rattle.std.specs.Char.{is_ascii_digit}
 use Rattle.std.specs.Str.Lines.{strip_carriage_return}
@@ -28,7 +29,9 @@ words line = slice_split (λ b. nat_eq b 32) line
 
 -- decimal digits, at least one, without a leading zero
 abbrev pub is_numeral : List ℕ → Bool
-is_numeral word = list_all is_ascii_digit word && nat_lt 0 (length word) && (nat_eq (length word) 1 || not (nat_eq (slice_index word 0) 48))
+is_numeral word =
+    list_all is_ascii_digit word && nat_lt 0 (length word)
+    && (nat_eq (length word) 1 || not (nat_eq (slice_index word 0) 48))
 
 -- the number of a numeral, where it is below 2 ^ 32
 abbrev pub small_value : List ℕ → Option ℕ
@@ -39,7 +42,8 @@ number_in word = if is_numeral word then small_value word else None
 
 -- the bytes between `<` and `>`
 abbrev pub is_bracketed : List ℕ → Bool
-is_bracketed word = nat_lt 1 (length word) && nat_eq (slice_index word 0) 60 && nat_eq (slice_index word (length word - 1)) 62
+is_bracketed word =
+    nat_lt 1 (length word) && nat_eq (slice_index word 0) 60 && nat_eq (slice_index word (length word - 1)) 62
 
 abbrev pub iri_in : List ℕ → Option (List ℕ)
 iri_in word = if is_bracketed word then Some (take (length word - 2) (drop 1 word)) else None

@@ -1,5 +1,6 @@
 -- The first malformed line of what is to be a text of lines.
-use Rattle.std.specs.Prelude.{◌≡◌, ℕ, true, false, suc, ◌+◌, ◌-◌, ◌^◌, ◌<◌, ◌≤◌, List, [], ◌∷◌, ◌++◌, length, take, min, Option, Some, None, option_map, if◌then◌else◌}
+use Rattle.std.specs.Prelude.{◌≡◌, ℕ, true, false, suc, ◌+◌, ◌-◌, ◌^◌, ◌<◌, ◌≤◌, List, [], ◌∷◌, ◌++◌, length, take, min}
+use Rattle.std.specs.Prelude.{Option, Some, None, option_map, if◌then◌else◌}
 use Rattle.std.specs.List.{list_all}
 use Rattle.certificate_lines.specs.Lines.{is_blank}
 use Rattle.certificate_lines.specs.declared.fault.LineFault.{LineFault}
@@ -32,7 +33,8 @@ abbrev pub IsFirstMalformed : {K : Type 0} → ℕ → (List (List ℕ) → Opti
 IsFirstMalformed first reading lines n = (k : ℕ) × (n ≡ first + k) × StopsAfter reading lines k
 
 -- The malformed line that is told is the first, and lines of which none is told are a text.
-pub record TellsMalformed {K : Type 0} (first : ℕ) (reading : List (List ℕ) → Option K) (malformed : List (List ℕ) → Option ℕ) : Type 0 where
+pub record TellsMalformed {K : Type 0} (first : ℕ) (reading : List (List ℕ) → Option K)
+    (malformed : List (List ℕ) → Option ℕ) : Type 0 where
   pub is_first : (lines : List (List ℕ)) (n : ℕ) → malformed lines ≡ Some n → IsFirstMalformed first reading lines n
   pub unless : (lines : List (List ℕ)) → malformed lines ≡ None → (k : K) × (reading lines ≡ Some k)
 

@@ -1,5 +1,6 @@
 -- Lines and words as they are written, and what is read of them.
-use Rattle.std.specs.Prelude.{◌≡◌, ℕ, ◌-◌, ◌^◌, ◌<◌, Bool, not, ◌&&◌, nat_eq, IsTrue, List, [], ◌∷◌, ◌++◌, length, decimal, Some, slice_index}
+use Rattle.std.specs.Prelude.{◌≡◌, ℕ, ◌-◌, ◌^◌, ◌<◌, Bool, not, ◌&&◌, nat_eq, IsTrue, List, [], ◌∷◌, ◌++◌, length}
+use Rattle.std.specs.Prelude.{decimal, Some, slice_index}
 use Rattle.std.specs.List.{list_all, flat_map}
 use Rattle.certificate_lines.specs.Lines.{lines, words, number_in, iri_in}
 
@@ -28,7 +29,8 @@ abbrev pub is_line : List ℕ → Bool
 is_line line = list_all (λ b. not (nat_eq b 10)) line && not (nat_eq (slice_index line (length line - 1)) 13)
 
 abbrev pub WordsAreReadBack : Type 0
-WordsAreReadBack = (word : List ℕ) (more : List (List ℕ)) → IsTrue (list_all is_word (word ∷ more)) → words (line_of word more) ≡ word ∷ more
+WordsAreReadBack = (word : List ℕ) (more : List (List ℕ)) → IsTrue (list_all is_word (word ∷ more))
+    → words (line_of word more) ≡ word ∷ more
 
 -- after the last line feed there is an empty line more
 abbrev pub LinesAreReadBack : Type 0

@@ -1,5 +1,6 @@
 // What is written is read back.
-ghost use Rattle.certificate_lines.specs.Written.{WordsAreReadBack, LinesAreReadBack, NumbersAreReadBack, IrisAreReadBack};
+ghost use Rattle.certificate_lines.specs.Written.{WordsAreReadBack, LinesAreReadBack, NumbersAreReadBack};
+ghost use Rattle.certificate_lines.specs.Written.{IrisAreReadBack};
 
 /// Words without blanks, with a blank between them, are the words of that line.
 pub fn words_are_read_back()

@@ -13,7 +13,8 @@ ghost use Rattle.std.specs.Prelude.{◌≡◌, map, true, IfOk, option_map, nat_
 ghost use Rattle.std.specs.Char.{is_ascii_digit};
 ghost use Rattle.std.specs.List.{list_all, slice_split};
 ghost use Rattle.std.specs.Str.Lines.{strip_carriage_return};
-ghost use Rattle.certificate_lines.specs.Lines.{lines, is_space, is_blank, words, is_numeral, small_value, number_in, iri_in};
+ghost use Rattle.certificate_lines.specs.Lines.{lines, is_space, is_blank, words, is_numeral, small_value, number_in};
+ghost use Rattle.certificate_lines.specs.Lines.{iri_in};
 
 mod fault;
 mod laws;

@@ -5,4 +5,6 @@ use Rattle.std.proofs.lemmas.Bool.{and_from, lt-ltb}
 
 pub all_small : (ns : List ℕ) → ((i : ℕ) → get_or ns i 0 < 2 ^ 32) → list_all (λ n. nat_lt n (2 ^ 32)) ns ≡ true
 all_small [] h = refl
-all_small (n ∷ ns) h = and_from (nat_lt n (2 ^ 32)) (list_all (λ m. nat_lt m (2 ^ 32)) ns) (lt-ltb n (2 ^ 32) (h 0)) (all_small ns (λ i. h (suc i)))
+all_small (n ∷ ns) h =
+    and_from (nat_lt n (2 ^ 32)) (list_all (λ m. nat_lt m (2 ^ 32)) ns) (lt-ltb n (2 ^ 32) (h 0))
+    (all_small ns (λ i. h (suc i)))

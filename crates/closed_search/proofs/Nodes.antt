@@ -1,12 +1,16 @@
 -- Lines that close name a node where one must stand.
-use Rattle.std.proofs.Common.{◌≡◌, ℕ, ◌+◌, eqb, Bool, true, false, cond, List, [], ◌∷◌, ◌++◌, map, Option, Some, None, refl, ap, sym, ◌∙◌, arith}
+use Rattle.std.proofs.Common.{◌≡◌, ℕ, ◌+◌, eqb, Bool, true, false, cond, List, [], ◌∷◌, ◌++◌, map, Option, Some, None}
+use Rattle.std.proofs.Common.{refl, ap, sym, ◌∙◌, arith}
 use Rattle.std.specs.List.{list_all}
 use Rattle.std.specs.Option.{option_and_then, option_map}
 use Rattle.std.proofs.lemmas.Bool.{ne_eqb, and_from, and_parts}
-use Rattle.shq_terms.specs.Concept.{Concept, top, bottom, name, complement, intersection, union, some_of, all_of, at_least, at_most, exactly}
+use Rattle.shq_terms.specs.Concept.{Concept, top, bottom, name, complement, intersection, union, some_of, all_of}
+use Rattle.shq_terms.specs.Concept.{at_least, at_most, exactly}
 use Rattle.calculus_specs.specs.Rules.{Question}
 use Rattle.calculus_specs.specs.Line.{Line}
-use Rattle.calculus_specs.specs.Line.Line.{start_line, and_line, or_line, all_line, carry_line, row_line, range_line, some_line, least_line, choose_line, pair_line, bottom_line, clash_line, most_line, fact_line, differ_line}
+use Rattle.calculus_specs.specs.Line.Line.{start_line, and_line, or_line, all_line, carry_line, row_line, range_line}
+use Rattle.calculus_specs.specs.Line.Line.{some_line, least_line, choose_line, pair_line, bottom_line, clash_line}
+use Rattle.calculus_specs.specs.Line.Line.{most_line, fact_line, differ_line}
 use Rattle.refutation_tree.specs.ReadBack.{has_nodes}
 use Rattle.search_trace.specs.Premises.{most_rule, rule_of}
 use Rattle.search_trace.specs.Leaves.{leaves}
@@ -53,22 +57,30 @@ module _ (q : Question) (concept : ℕ → Option Concept) where
   abbrev step : Noted → NotedLine → Option (List Noted)
   step = noted_children q concept
 
-  has_rule : (k : Noted) (l : NotedLine) (kids : List Noted) → step k l ≡ Some kids → ¬ (rule_of q concept l.line ≡ None)
+  has_rule : (k : Noted) (l : NotedLine) (kids : List Noted) → step k l ≡ Some kids
+      → ¬ (rule_of q concept l.line ≡ None)
   has_rule k l kids h none = let e : None ≡ Some kids = sym (ap (noted_by q concept k l) none) ∙ h in cc
 
   abbrev lines_in : List NotedLine → List Line
   lines_in ls = map (λ l. l.line) ls
 
-  after : (l : NotedLine) (ls : List NotedLine) (k : Noted) (ks outs : List Noted) (made : Option (List Noted)) → step k l ≡ made
+  after : (l : NotedLine) (ls : List NotedLine) (k : Noted) (ks outs : List Noted) (made : Option (List Noted))
+      → step k l ≡ made
       → ((now : List Noted) → leaves step now ls ≡ Some outs → list_all has_nodes (lines_in ls) ≡ true)
-      → option_and_then (λ (left : List Noted). leaves step left ls) (option_map (λ (new : List Noted). new ++ ks) made) ≡ Some outs → list_all has_nodes (lines_in (l ∷ ls)) ≡ true
+      → option_and_then (λ (left : List Noted). leaves step left ls) (option_map (λ (new : List Noted). new ++ ks) made)
+      ≡ Some outs
+      → list_all has_nodes (lines_in (l ∷ ls)) ≡ true
   after l ls k ks outs None e rest h = cc
-  after l ls k ks outs (Some kids) e rest h = and_from (has_nodes l.line) (list_all has_nodes (lines_in ls)) (line_has_nodes l.line (has_rule k l kids e)) (rest (kids ++ ks) h)
+  after l ls k ks outs (Some kids) e rest h =
+      and_from (has_nodes l.line) (list_all has_nodes (lines_in ls)) (line_has_nodes l.line (has_rule k l kids e))
+      (rest (kids ++ ks) h)
 
-  pub closing_has_nodes : (ls : List NotedLine) (ks outs : List Noted) → leaves step ks ls ≡ Some outs → list_all has_nodes (lines_in ls) ≡ true
+  pub closing_has_nodes : (ls : List NotedLine) (ks outs : List Noted) → leaves step ks ls ≡ Some outs
+      → list_all has_nodes (lines_in ls) ≡ true
   closing_has_nodes [] ks outs h = refl
   closing_has_nodes (l ∷ ls) [] outs h = cc
-  closing_has_nodes (l ∷ ls) (k ∷ ks) outs h = after l ls k ks outs (step k l) refl (λ now. closing_has_nodes ls now outs) h
+  closing_has_nodes (l ∷ ls) (k ∷ ks) outs h =
+      after l ls k ks outs (step k l) refl (λ now. closing_has_nodes ls now outs) h
 
 same_nodes : (f : ℕ → ℕ) (l : Line) → has_nodes (renumbered f l) ≡ has_nodes l
 same_nodes f start_line = refl
@@ -89,8 +101,10 @@ same_nodes f (most_line x c (y ∷ ys)) = refl
 same_nodes f (fact_line a p) = refl
 same_nodes f (differ_line y z) = refl
 
-pub have_nodes : (f : ℕ → ℕ) (ls : List Line) → list_all has_nodes ls ≡ true → list_all has_nodes (map (renumbered f) ls) ≡ true
+pub have_nodes : (f : ℕ → ℕ) (ls : List Line) → list_all has_nodes ls ≡ true
+    → list_all has_nodes (map (renumbered f) ls) ≡ true
 have_nodes f [] h = refl
 have_nodes f (l ∷ ls) h =
     let both = and_parts (has_nodes l) (list_all has_nodes ls) h in
-    and_from (has_nodes (renumbered f l)) (list_all has_nodes (map (renumbered f) ls)) (same_nodes f l ∙ both.0) (have_nodes f ls both.1)
+    and_from (has_nodes (renumbered f l)) (list_all has_nodes (map (renumbered f) ls)) (same_nodes f l ∙ both.0)
+    (have_nodes f ls both.1)

@@ -1,5 +1,6 @@
 -- Numbers that are put in a set.
-use Rattle.std.proofs.Common.{◌≡◌, ℕ, ◌+◌, leb, ltb, ◌<◌, ◌≤◌, ◌&&◌, ◌||◌, ◌⊎◌, eqb, nat_eq, Bool, true, false, List, [], ◌∷◌, refl, ap, sym, ◌∙◌, inl, inr, arith}
+use Rattle.std.proofs.Common.{◌≡◌, ℕ, ◌+◌, leb, ltb, ◌<◌, ◌≤◌, ◌&&◌, ◌||◌, ◌⊎◌, eqb, nat_eq, Bool, true, false, List}
+use Rattle.std.proofs.Common.{[], ◌∷◌, refl, ap, sym, ◌∙◌, inl, inr, arith}
 use Rattle.std.specs.List.{list_any}
 use Rattle.std.specs.Ordering.{nat_cmp}
 use Rattle.std.specs.Cmp.{nat_cmp_total, nat_eq_equiv, unsigned_tied}
@@ -13,10 +14,12 @@ use Rattle.shq_terms.specs.declared.axioms.Numbered.{Numbered}
 use Rattle.calculus_specs.specs.Line.{Line}
 use Rattle.closed_search.specs.Named.{uses_axiom, is_role_number, names_axiom, takes_role, IsPut, ArePut, IsPutting}
 
-pub outside : (s : Limited) (k : ℕ) → IsWithin s.limit s.members → (k < 1) ⊎ (s.limit < k) → false ≡ sets.contains s.members k
+pub outside : (s : Limited) (k : ℕ) → IsWithin s.limit s.members → (k < 1) ⊎ (s.limit < k)
+    → false ≡ sets.contains s.members k
 outside s k within out = elim (cases_Bool (sets.contains s.members k)) [
   | inr f ↦ sym f
-  | inl t ↦ elim out [ inl lt ↦ absurd (omega (arith, (within k t).0)) | inr gt ↦ absurd (omega (arith, (within k t).1)) ]
+  | inl t ↦
+      elim out [ inl lt ↦ absurd (omega (arith, (within k t).0)) | inr gt ↦ absurd (omega (arith, (within k t).1)) ]
 ]
 
 or_false : (a b : Bool) → b ≡ false → a ≡ (a || b)
@@ -24,30 +27,40 @@ or_false true b h = refl
 or_false false b h = sym h
 
 -- a member is put in
-pub put_in : (members old : NumberSet) (n : ℕ) → sets.contains members n ≡ true → IsPut members (λ k. eqb n k) old (sets.insert old n)
+pub put_in : (members old : NumberSet) (n : ℕ) → sets.contains members n ≡ true
+    → IsPut members (λ k. eqb n k) old (sets.insert old n)
 put_in members old n member k =
-    sets.contains-insert nat_cmp_total old n k ∙ ap (λ (b : Bool). b || sets.contains old k) (unsigned_tied k n ∙ nat_eq_equiv.symm k n) ∙ or_comm (eqb n k) (sets.contains old k)
+    sets.contains-insert nat_cmp_total old n k
+    ∙ ap (λ (b : Bool). b || sets.contains old k) (unsigned_tied k n ∙ nat_eq_equiv.symm k n)
+    ∙ or_comm (eqb n k) (sets.contains old k)
     ∙ ap (λ (b : Bool). sets.contains old k || b) (same (cases_Bool (eqb n k)))
   where
     same : (eqb n k ≡ true) ⊎ (eqb n k ≡ false) → eqb n k ≡ (sets.contains members k && eqb n k)
-    same (inl e) = e ∙ sym (ap (λ (b : Bool). b && eqb n k) (ap (sets.contains members) (sym (eqb-true n k e)) ∙ member) ∙ e)
+    same (inl e) =
+        e ∙ sym (ap (λ (b : Bool). b && eqb n k) (ap (sets.contains members) (sym (eqb-true n k e)) ∙ member) ∙ e)
     same (inr e) = e ∙ sym (and_right (sets.contains members k) (eqb n k) e)
 
 -- what is no member changes nothing
 pub not_put : (members old : NumberSet) (n : ℕ) → sets.contains members n ≡ false → IsPut members (λ k. eqb n k) old old
-not_put members old n none k = or_false (sets.contains old k) (sets.contains members k && eqb n k) (no (cases_Bool (eqb n k)))
+not_put members old n none k =
+    or_false (sets.contains old k) (sets.contains members k && eqb n k) (no (cases_Bool (eqb n k)))
   where
     no : (eqb n k ≡ true) ⊎ (eqb n k ≡ false) → (sets.contains members k && eqb n k) ≡ false
     no (inl e) = ap (λ (b : Bool). b && eqb n k) (ap (sets.contains members) (sym (eqb-true n k e)) ∙ none)
     no (inr e) = and_right (sets.contains members k) (eqb n k) e
 
 -- where the test fails, nothing changes
-pub none_put : (members : NumberSet) (test : ℕ → Bool) (old : NumberSet) → ((k : ℕ) → test k ≡ false) → IsPut members test old old
-none_put members test old none k = or_false (sets.contains old k) (sets.contains members k && test k) (and_right (sets.contains members k) (test k) (none k))
+pub none_put : (members : NumberSet) (test : ℕ → Bool) (old : NumberSet) → ((k : ℕ) → test k ≡ false)
+    → IsPut members test old old
+none_put members test old none k =
+    or_false (sets.contains old k) (sets.contains members k && test k)
+    (and_right (sets.contains members k) (test k) (none k))
 
 -- the same test
-pub put_by : (members : NumberSet) (test other : ℕ → Bool) (old new : NumberSet) → ((k : ℕ) → test k ≡ other k) → IsPut members test old new → IsPut members other old new
-put_by members test other old new same h k = h k ∙ ap (λ (b : Bool). sets.contains old k || (sets.contains members k && b)) (same k)
+pub put_by : (members : NumberSet) (test other : ℕ → Bool) (old new : NumberSet) → ((k : ℕ) → test k ≡ other k)
+    → IsPut members test old new → IsPut members other old new
+put_by members test other old new same h k =
+    h k ∙ ap (λ (b : Bool). sets.contains old k || (sets.contains members k && b)) (same k)
 
 -- ---- item by item
 
@@ -57,7 +70,10 @@ with_next false true true r = refl
 with_next false true false r = refl
 with_next false false t r = refl
 
-pub putting_more : {X : Type 0} → (members : NumberSet) (asks : ℕ → X → Bool) (items : List X) (old now next : NumberSet) (rest : List X) (x : X) (rest' : List X) → IsPutting members asks items old now rest → rest ≡ x ∷ rest'
+pub putting_more : {X : Type 0}
+    → (members : NumberSet) (asks : ℕ → X → Bool) (items : List X) (old now next : NumberSet) (rest : List X) (x : X)
+    (rest' : List X)
+    → IsPutting members asks items old now rest → rest ≡ x ∷ rest'
     → IsPut members (λ k. asks k x) now next → IsPutting members asks items old next rest'
 putting_more members asks items old now next rest x rest' h e put k =
     let s = sets.contains members k in
@@ -65,17 +81,22 @@ putting_more members asks items old now next rest x rest' h e put k =
     ∙ with_next (sets.contains now k) s (asks k x) (list_any (asks k) rest')
     ∙ ap (λ (l : List _). sets.contains now k || (s && list_any (asks k) l)) (sym e) ∙ h k
 
-pub put_all : {X : Type 0} → (members : NumberSet) (asks : ℕ → X → Bool) (items : List X) (old now : NumberSet) (rest : List X) → IsPutting members asks items old now rest → rest ≡ [] → ArePut members asks items old now
+pub put_all : {X : Type 0}
+    → (members : NumberSet) (asks : ℕ → X → Bool) (items : List X) (old now : NumberSet) (rest : List X)
+    → IsPutting members asks items old now rest → rest ≡ [] → ArePut members asks items old now
 put_all members asks items old now rest h e k =
     let s = sets.contains members k in
-    or_false (sets.contains now k) (s && list_any (asks k) rest) (and_right s (list_any (asks k) rest) (ap (list_any (asks k)) e)) ∙ h k
+    or_false (sets.contains now k) (s && list_any (asks k) rest)
+    (and_right s (list_any (asks k) rest) (ap (list_any (asks k)) e))
+    ∙ h k
 
 -- ---- all of them
 
 any_and : (r : Bool) (k : ℕ) (ns : List ℕ) → list_any (λ n. nat_eq n k && r) ns ≡ (list_any (λ n. nat_eq n k) ns && r)
 any_and true k [] = refl
 any_and false k [] = refl
-any_and r k (n ∷ ns) = ap (λ (b : Bool). (nat_eq n k && r) || b) (any_and r k ns) ∙ out (nat_eq n k) (list_any (λ m. nat_eq m k) ns) r
+any_and r k (n ∷ ns) =
+    ap (λ (b : Bool). (nat_eq n k && r) || b) (any_and r k ns) ∙ out (nat_eq n k) (list_any (λ m. nat_eq m k) ns) r
   where
     out : (a b s : Bool) → ((a && s) || (b && s)) ≡ ((a || b) && s)
     out true true true = refl
@@ -85,24 +106,29 @@ any_and r k (n ∷ ns) = ap (λ (b : Bool). (nat_eq n k && r) || b) (any_and r k
     out false b s = refl
 
 -- a member's axiom is among those that are looked at
-role_found : (axioms : List Numbered) (s : Limited) (k : ℕ) → k ≤ s.limit → sets.contains s.members k ≡ true → list_any (takes_role axioms k) (member_list s) ≡ is_role_number axioms k
+role_found : (axioms : List Numbered) (s : Limited) (k : ℕ) → k ≤ s.limit → sets.contains s.members k ≡ true
+    → list_any (takes_role axioms k) (member_list s) ≡ is_role_number axioms k
 role_found axioms s k high member =
     let p = sets.contains s.members in
-    let within : (leb 0 k && ltb k (0 + (s.limit + 1))) ≡ true = rw (le-leb 0 k (omega arith), lt-ltb k (0 + (s.limit + 1)) (omega arith)) refl in
+    let within : (leb 0 k && ltb k (0 + (s.limit + 1))) ≡ true =
+    rw (le-leb 0 k (omega arith), lt-ltb k (0 + (s.limit + 1)) (omega arith)) refl in
     any_and (is_role_number axioms k) k (member_list s)
-    ∙ ap (λ (b : Bool). b && is_role_number axioms k) (any-passing p 0 (s.limit + 1) k ∙ and_from (p k) (leb 0 k && ltb k (0 + (s.limit + 1))) member within)
+    ∙ ap (λ (b : Bool). b && is_role_number axioms k)
+    (any-passing p 0 (s.limit + 1) k ∙ and_from (p k) (leb 0 k && ltb k (0 + (s.limit + 1))) member within)
 
 all_together : (e s a r b : Bool) → e ≡ false → (s ≡ true → a ≡ r) → ((e || (s && a)) || (s && b)) ≡ (s && (r || b))
 all_together true s a r b none same = cc
 all_together false true a r b none same = ap (λ (x : Bool). x || b) (same refl)
 all_together false false a r b none same = refl
 
-pub names_all : (axioms : List Numbered) (s : Limited) (lines : List Line) (begin roles now : NumberSet) → IsWithin s.limit s.members → begin ≡ sets.empty → ArePut s.members (takes_role axioms) (member_list s) begin roles
+pub names_all : (axioms : List Numbered) (s : Limited) (lines : List Line) (begin roles now : NumberSet)
+    → IsWithin s.limit s.members → begin ≡ sets.empty → ArePut s.members (takes_role axioms) (member_list s) begin roles
     → ArePut s.members uses_axiom lines roles now → (k : ℕ) → sets.contains now k ≡ names_axiom axioms s.members lines k
 names_all axioms s lines begin roles now within none by_roles by_lines k =
     let m = sets.contains s.members k in
     let used = list_any (uses_axiom k) lines in
     by_lines k
     ∙ ap (λ (b : Bool). b || (m && used)) (by_roles k)
-    ∙ all_together (sets.contains begin k) m (list_any (takes_role axioms k) (member_list s)) (is_role_number axioms k) used (ap (λ (t : NumberSet). sets.contains t k) none ∙ sets.contains-empty nat_cmp k)
+    ∙ all_together (sets.contains begin k) m (list_any (takes_role axioms k) (member_list s)) (is_role_number axioms k)
+    used (ap (λ (t : NumberSet). sets.contains t k) none ∙ sets.contains-empty nat_cmp k)
     (λ member. role_found axioms s k (within k member).1 member)

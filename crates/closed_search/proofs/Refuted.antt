@@ -1,5 +1,6 @@
 -- What is made of lines that close everything.
-use Rattle.std.proofs.Common.{◌≡◌, ℕ, ◌&&◌, ◌||◌, ◌<◌, ◌^◌, arith, Bool, true, List, [], ◌∷◌, map, length, refl, ap, sym, ◌∙◌, subst}
+use Rattle.std.proofs.Common.{◌≡◌, ℕ, ◌&&◌, ◌||◌, ◌<◌, ◌^◌, arith, Bool, true, List, [], ◌∷◌, map, length, refl, ap}
+use Rattle.std.proofs.Common.{sym, ◌∙◌, subst}
 use Rattle.std.specs.List.{list_any, list_all}
 use Rattle.std.specs.FinSet as sets
 use Rattle.std.proofs.lemmas.Bool.{and_parts, and_from}
@@ -11,7 +12,9 @@ use Rattle.shq_terms.specs.declared.axioms.Query.{Query}
 use Rattle.shq_terms.specs.Listed.{Listed}
 use Rattle.calculus_specs.specs.Shape.{Shape, IsTable}
 use Rattle.calculus_specs.specs.Line.{Line}
-use Rattle.calculus_specs.specs.Line.Line.{start_line, and_line, or_line, all_line, carry_line, row_line, range_line, some_line, least_line, choose_line, pair_line, bottom_line, clash_line, most_line, fact_line, differ_line}
+use Rattle.calculus_specs.specs.Line.Line.{start_line, and_line, or_line, all_line, carry_line, row_line, range_line}
+use Rattle.calculus_specs.specs.Line.Line.{some_line, least_line, choose_line, pair_line, bottom_line, clash_line}
+use Rattle.calculus_specs.specs.Line.Line.{most_line, fact_line, differ_line}
 use Rattle.calculus_specs.specs.Rules.{nothing_known}
 use Rattle.calculus_specs.specs.Valid.{concept_at, IsRefutation}
 use Rattle.calculus_specs.proofs.Stack.{refutation_runs, run_refutes}
@@ -52,50 +55,69 @@ same_axiom f k (most_line x c ys) = refl
 same_axiom f k (fact_line a p) = refl
 same_axiom f k (differ_line y z) = refl
 
-same_axioms : (f : ℕ → ℕ) (k : ℕ) (ls : List Line) → list_any (uses_axiom k) (map (renumbered f) ls) ≡ list_any (uses_axiom k) ls
+same_axioms : (f : ℕ → ℕ) (k : ℕ) (ls : List Line)
+    → list_any (uses_axiom k) (map (renumbered f) ls) ≡ list_any (uses_axiom k) ls
 same_axioms f k [] = refl
 same_axioms f k (l ∷ ls) = λ i. same_axiom f k l i || same_axioms f k ls i
 
 -- the refutation names the axioms that its own lines use
-pub numbered_names : (axioms : List Numbered) (set named : Limited) (table : List Shape) (lines : List Line) (r : RefutationLists) → NamesAxioms axioms set lines named → IsNumbered table named lines r
+pub numbered_names : (axioms : List Numbered) (set named : Limited) (table : List Shape) (lines : List Line)
+    (r : RefutationLists)
+    → NamesAxioms axioms set lines named → IsNumbered table named lines r
     → NamesAxioms axioms set r.lines r.axioms
 numbered_names axioms set named table lines r h is =
     let same : (k : ℕ) → names_axiom axioms set.members lines k ≡ names_axiom axioms set.members r.lines k =
-    λ k. ap (λ (b : Bool). sets.contains set.members k && (is_role_number axioms k || b)) (sym (ap (list_any (uses_axiom k)) is.lines_are ∙ same_axioms is.number' k lines)) in
-    subst (NamesAxioms axioms set r.lines) (sym is.axioms_are) (record { limit = h.limit; members = λ k. h.members k ∙ same k })
+    λ k. ap (λ (b : Bool). sets.contains set.members k && (is_role_number axioms k || b))
+    (sym (ap (list_any (uses_axiom k)) is.lines_are ∙ same_axioms is.number' k lines)) in
+    subst (NamesAxioms axioms set r.lines) (sym is.axioms_are)
+    (record { limit = h.limit; members = λ k. h.members k ∙ same k })
 
-pub named_are_part : (axioms : List Numbered) (set : Limited) (lines : List Line) (named : Limited) → NamesAxioms axioms set lines named → IsPart named.members set.members
+pub named_are_part : (axioms : List Numbered) (set : Limited) (lines : List Line) (named : Limited)
+    → NamesAxioms axioms set lines named → IsPart named.members set.members
 named_are_part axioms set lines named h k member =
-    (and_parts (sets.contains set.members k) (is_role_number axioms k || list_any (uses_axiom k) lines) (sym (h.members k) ∙ member)).0
+    (and_parts (sets.contains set.members k) (is_role_number axioms k || list_any (uses_axiom k) lines)
+    (sym (h.members k) ∙ member)).0
 
 -- ---- validity
 
-pub closed_refutes : (o : Listed) (query : Query) (set : Limited) (table : List Shape) (named : Limited) (ls : List NotedLine) (r : RefutationLists) → set.limit ≡ length o.axioms
-    → IsNumbered table named (start_line ∷ map (λ l. l.line) ls) r → NamesAxioms o.axioms set r.lines r.axioms → CloseAll o set table query ls
+pub closed_refutes : (o : Listed) (query : Query) (set : Limited) (table : List Shape) (named : Limited)
+    (ls : List NotedLine) (r : RefutationLists)
+    → set.limit ≡ length o.axioms
+    → IsNumbered table named (start_line ∷ map (λ l. l.line) ls) r → NamesAxioms o.axioms set r.lines r.axioms
+    → CloseAll o set table query ls
     → IsRefutation (question_in o (member_list r.axioms) query) r.shapes r.lines
 closed_refutes o query set table named ls r limit is names close =
     let one = question_in o (member_list set) query in
     let other = question_in o (member_list r.axioms) query in
-    let reads = All-tail (Reads (concept_in table) (concept_at r.shapes) is.number') start_line (map (λ l. l.line) ls) is.reads in
-    let whole : IsRefutation one r.shapes r.lines = subst (IsRefutation one r.shapes) (sym is.lines_are) (refutes one close.at_first (concept_in table) r.shapes is.number' ls reads close.closes) in
+    let reads =
+    All-tail (Reads (concept_in table) (concept_at r.shapes) is.number') start_line (map (λ l. l.line) ls) is.reads in
+    let whole : IsRefutation one r.shapes r.lines =
+    subst (IsRefutation one r.shapes) (sym is.lines_are)
+    (refutes one close.at_first (concept_in table) r.shapes is.number' ls reads close.closes) in
     run_refutes other r.shapes r.lines
-    (sym (same_run one other (concept_at r.shapes) (ask_the_same o query set r.lines r.axioms limit names) r.lines (have_same_parts o query set r.lines r.axioms limit names) (nothing_known ∷ []))
+    (sym (same_run one other (concept_at r.shapes) (ask_the_same o query set r.lines r.axioms limit names) r.lines
+    (have_same_parts o query set r.lines r.axioms limit names) (nothing_known ∷ []))
     ∙ refutation_runs one r.shapes r.lines whole)
 
 -- ---- names
 
-module _ (o : Listed) (set named : Limited) (table : List Shape) (trace : TraceLists) (lines : List Line) (r : RefutationLists) (begins : lines ≡ start_line ∷ lines_in trace) (is : IsNumbered table named lines r)
-    (uses : list_all (uses_names o table) (lines_in trace) ≡ true) (is_table : IsTable table) (kept : IsKept r.shapes r.lines) where
+module _ (o : Listed) (set named : Limited) (table : List Shape) (trace : TraceLists) (lines : List Line)
+    (r : RefutationLists) (begins : lines ≡ start_line ∷ lines_in trace) (is : IsNumbered table named lines r)
+    (uses : list_all (uses_names o table) (lines_in trace) ≡ true) (is_table : IsTable table)
+    (kept : IsKept r.shapes r.lines) where
   all_use : list_all (uses_names o table) lines ≡ true
   all_use = ap (list_all (uses_names o table)) begins ∙ uses
 
   pub names_listed : names_are_listed o r ≡ true
   names_listed =
       and_from (list_all (shape_is_listed o) r.shapes) (list_all (line_is_listed o) r.lines)
-      (shapes_listed o table r.shapes kept.are_shapes (is.kinds (concept_is_listed o table) (have_parts o table is_table) (concepts_listed o table lines all_use)))
+      (shapes_listed o table r.shapes kept.are_shapes
+      (is.kinds (concept_is_listed o table) (have_parts o table is_table) (concepts_listed o table lines all_use)))
       (ap (list_all (line_is_listed o)) is.lines_are ∙ lines_listed o table is.number' lines all_use)
 
-  pub written : set.limit ≡ length o.axioms → NamesAxioms o.axioms set r.lines r.axioms → IsWithin r.axioms.limit r.axioms.members → r.axioms.limit < 2 ^ 32 → list_all is_small r.lines ≡ true → (query : Query)
+  pub written : set.limit ≡ length o.axioms → NamesAxioms o.axioms set r.lines r.axioms
+      → IsWithin r.axioms.limit r.axioms.members → r.axioms.limit < 2 ^ 32 → list_all is_small r.lines ≡ true
+      → (query : Query)
       → CloseAll o set table query trace.lines → IsWrittenRefutation o query r
   written limit names within few small query close =
       let asked = question_in o (member_list set) query in
@@ -109,7 +131,9 @@ module _ (o : Listed) (set named : Limited) (table : List Shape) (trace : TraceL
           within = within;
           few_axioms = omega (arith, names.limit, few);
           listed = names_listed;
-          have_nodes = ap (list_all has_nodes) is.lines_are ∙ have_nodes is.number' lines (ap (list_all has_nodes) begins ∙ nodes);
+          have_nodes =
+              ap (list_all has_nodes) is.lines_are
+              ∙ have_nodes is.number' lines (ap (list_all has_nodes) begins ∙ nodes);
           are_small = small;
         };
       }

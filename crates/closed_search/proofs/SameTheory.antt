@@ -1,5 +1,6 @@
 -- The axioms that a refutation names say the same to its lines as those of the set.
-use Rattle.std.proofs.Common.{◌≡◌, ℕ, zero, suc, ◌+◌, ◌-◌, ◌&&◌, ◌||◌, ◌⊎◌, leb, ltb, Bool, true, false, cond, List, [], ◌∷◌, ◌++◌, length, Option, Some, None, refl, ap, sym, ◌∙◌, inl, inr, eq-eqb}
+use Rattle.std.proofs.Common.{◌≡◌, ℕ, zero, suc, ◌+◌, ◌-◌, ◌&&◌, ◌||◌, ◌⊎◌, leb, ltb, Bool, true, false, cond, List, []}
+use Rattle.std.proofs.Common.{◌∷◌, ◌++◌, length, Option, Some, None, refl, ap, sym, ◌∙◌, inl, inr, eq-eqb}
 use Rattle.std.specs.Prelude.{slice_get}
 use Rattle.std.specs.List.{list_any, All}
 use Rattle.std.specs.FinSet as sets
@@ -9,7 +10,9 @@ use Rattle.lane_sieve.specs.Sets.{passing}
 use Rattle.lane_sieve.proofs.Ranges.{any-passing}
 use Rattle.axiom_sets.specs.Sets.{Limited, member_list}
 use Rattle.shq_terms.specs.declared.axioms.Axiom.{Axiom}
-use Rattle.shq_terms.specs.declared.axioms.Axiom.TheVariants.{SubClassOf, EquivalentClasses, DisjointClasses, DisjointUnion, SubRole, EquivalentRoles, Domain, Range, Functional, Transitive, Member, Pair, SameAll, Different}
+use Rattle.shq_terms.specs.declared.axioms.Axiom.TheVariants.{SubClassOf, EquivalentClasses, DisjointClasses}
+use Rattle.shq_terms.specs.declared.axioms.Axiom.TheVariants.{DisjointUnion, SubRole, EquivalentRoles, Domain, Range}
+use Rattle.shq_terms.specs.declared.axioms.Axiom.TheVariants.{Functional, Transitive, Member, Pair, SameAll, Different}
 use Rattle.shq_terms.specs.declared.axioms.Numbered.{Numbered}
 use Rattle.shq_terms.specs.declared.axioms.Query.{Query}
 use Rattle.shq_terms.specs.Listed.{Listed}
@@ -24,7 +27,9 @@ use Rattle.role_box.specs.Paths.{is_below}
 use Rattle.refutation_truth.specs.Theory.{parts_at, listed_fact, fact_in, question_in}
 use Rattle.refutation_truth.proofs.Numbered.{numbered}
 use Rattle.calculus_specs.specs.Line.{Line}
-use Rattle.calculus_specs.specs.Line.Line.{start_line, and_line, or_line, all_line, carry_line, row_line, range_line, some_line, least_line, choose_line, pair_line, bottom_line, clash_line, most_line, fact_line, differ_line}
+use Rattle.calculus_specs.specs.Line.Line.{start_line, and_line, or_line, all_line, carry_line, row_line, range_line}
+use Rattle.calculus_specs.specs.Line.Line.{some_line, least_line, choose_line, pair_line, bottom_line, clash_line}
+use Rattle.calculus_specs.specs.Line.Line.{most_line, fact_line, differ_line}
 use Rattle.search_trace.specs.Named.{AskTheSame, HaveSamePart}
 use Rattle.closed_search.specs.Named.{says_of_roles, is_role_number, uses_axiom, NamesAxioms}
 
@@ -53,7 +58,8 @@ no_roles_at (Some n) h = no_roles n.axiom h
 abbrev here : List Numbered → ℕ → List RoleAxiom
 here axioms k = role_part_at (slice_get axioms (k - 1))
 
-first_role : (axioms : List Numbered) (k : ℕ) (b : Bool) (ks : List ℕ) → role_axioms axioms (cond b (k ∷ ks) ks) ≡ cond b (here axioms k) [] ++ role_axioms axioms ks
+first_role : (axioms : List Numbered) (k : ℕ) (b : Bool) (ks : List ℕ)
+    → role_axioms axioms (cond b (k ∷ ks) ks) ≡ cond b (here axioms k) [] ++ role_axioms axioms ks
 first_role axioms k true ks = refl
 first_role axioms k false ks = refl
 
@@ -61,7 +67,8 @@ none_by : (b : Bool) (xs : List RoleAxiom) → xs ≡ [] → cond b xs [] ≡ []
 none_by true xs h = h
 none_by false xs h = refl
 
-roles_same : (axioms : List Numbered) (p q : ℕ → Bool) → ((k : ℕ) → (p k ≡ q k) ⊎ (here axioms k ≡ [])) → (first n : ℕ) → role_axioms axioms (passing p first n) ≡ role_axioms axioms (passing q first n)
+roles_same : (axioms : List Numbered) (p q : ℕ → Bool) → ((k : ℕ) → (p k ≡ q k) ⊎ (here axioms k ≡ [])) → (first n : ℕ)
+    → role_axioms axioms (passing p first n) ≡ role_axioms axioms (passing q first n)
 unfolding passing
 roles_same axioms p q h first zero = refl
 roles_same axioms p q h first (suc n) =
@@ -79,15 +86,19 @@ named_by : (s r u : Bool) → (r || u) ≡ true → (s && (r || u)) ≡ s
 named_by true r u h = h
 named_by false r u h = refl
 
-module _ (o : Listed) (query : Query) (set : Limited) (lines : List Line) (named : Limited) (limit : set.limit ≡ length o.axioms) (h : NamesAxioms o.axioms set lines named) where
+module _ (o : Listed) (query : Query) (set : Limited) (lines : List Line) (named : Limited)
+    (limit : set.limit ≡ length o.axioms) (h : NamesAxioms o.axioms set lines named) where
   abbrev axioms : List Numbered
   axioms = o.axioms
 
   same_limit : set.limit ≡ named.limit
   same_limit = limit ∙ sym h.limit
 
-  member : (k : ℕ) → (is_role_number axioms k || list_any (uses_axiom k) lines) ≡ true → sets.contains set.members k ≡ sets.contains named.members k
-  member k is = sym (h.members k ∙ named_by (sets.contains set.members k) (is_role_number axioms k) (list_any (uses_axiom k) lines) is)
+  member : (k : ℕ) → (is_role_number axioms k || list_any (uses_axiom k) lines) ≡ true
+      → sets.contains set.members k ≡ sets.contains named.members k
+  member k is =
+      sym (h.members k
+      ∙ named_by (sets.contains set.members k) (is_role_number axioms k) (list_any (uses_axiom k) lines) is)
 
   same_roles : role_axioms axioms (member_list set) ≡ role_axioms axioms (member_list named)
   same_roles =
@@ -116,7 +127,8 @@ module _ (o : Listed) (query : Query) (set : Limited) (lines : List Line) (named
     at = refl;
   }
 
-  same_among : (a : ℕ) → list_any (uses_axiom a) lines ≡ true → is_among (member_list set) a ≡ is_among (member_list named) a
+  same_among : (a : ℕ) → list_any (uses_axiom a) lines ≡ true
+      → is_among (member_list set) a ≡ is_among (member_list named) a
   same_among a used =
       let e = member a (or_right (is_role_number axioms a) (list_any (uses_axiom a) lines) used) in
       any-passing (sets.contains set.members) 0 (set.limit + 1) a
@@ -126,11 +138,15 @@ module _ (o : Listed) (query : Query) (set : Limited) (lines : List Line) (named
   same_part : (a p : ℕ) → list_any (uses_axiom a) lines ≡ true → part_at one.theory a p ≡ part_at other.theory a p
   same_part a p used =
       numbered axioms (member_list set) a p
-      ∙ ap (λ (b : Bool). cond ((b && leb 1 p) && leb p (length (parts_at axioms a))) (Some (part_in (parts_at axioms a) (p - 1))) None) (same_among a used)
+      ∙ ap (λ (b : Bool). cond ((b && leb 1 p) && leb p (length (parts_at axioms a)))
+      (Some (part_in (parts_at axioms a) (p - 1))) None)
+      (same_among a used)
       ∙ sym (numbered axioms (member_list named) a p)
 
   same_fact : (a p : ℕ) → list_any (uses_axiom a) lines ≡ true → one.fact_of a p ≡ other.fact_of a p
-  same_fact a p used = ap (λ (b : Bool). cond b (listed_fact (length o.individuals) (fact_in (slice_get axioms (a - 1)) p)) None) (same_among a used)
+  same_fact a p used =
+      ap (λ (b : Bool). cond b (listed_fact (length o.individuals) (fact_in (slice_get axioms (a - 1)) p)) None)
+      (same_among a used)
 
   -- an axiom says the same to both
   record SaysTheSame (a : ℕ) : Type 0 where
@@ -155,10 +171,12 @@ module _ (o : Listed) (query : Query) (set : Limited) (lines : List Line) (named
   in_line (fact_line a p) same = (same a (eq-eqb a a refl)).fact p
   in_line (differ_line y z) same = tt
 
-  in_lines : (ls : List Line) → ((a : ℕ) → list_any (uses_axiom a) ls ≡ true → SaysTheSame a) → All (HaveSamePart one other) ls
+  in_lines : (ls : List Line) → ((a : ℕ) → list_any (uses_axiom a) ls ≡ true → SaysTheSame a)
+      → All (HaveSamePart one other) ls
   in_lines [] same = All-nil (HaveSamePart one other)
   in_lines (l ∷ ls) same =
-      All-cons (HaveSamePart one other) l ls (in_line l (λ a u. same a (or_left (uses_axiom a l) (list_any (uses_axiom a) ls) u)))
+      All-cons (HaveSamePart one other) l ls
+      (in_line l (λ a u. same a (or_left (uses_axiom a l) (list_any (uses_axiom a) ls) u)))
       (in_lines ls (λ a u. same a (or_right (uses_axiom a l) (list_any (uses_axiom a) ls) u)))
 
   pub have_same_parts : All (HaveSamePart one other) lines

@@ -41,7 +41,8 @@ pub record IsNumbered (table : List Shape) (axioms : Limited) (lines : List Line
   pub lines_are : r.lines ≡ map (renumbered number') lines
   pub reads : All (Reads (concept_in table) (concept_at r.shapes) number') lines
   -- it names nothing but parts of what the lines name
-  pub kinds : (p : ℕ → Bool) → HasParts table p → are_of_kind p lines ≡ true → (k : ℕ) → k < length r.shapes → IsOfKind table p r.shapes (k + 1)
+  pub kinds : (p : ℕ → Bool) → HasParts table p → are_of_kind p lines ≡ true → (k : ℕ) → k < length r.shapes
+      → IsOfKind table p r.shapes (k + 1)
 
 -- ---- while it is made
 
@@ -60,7 +61,8 @@ pub record IsLine (table : List Shape) (old new : Naming) (line made : Line) : T
 pub record AreLines (table : List Shape) (old new : Naming) (lines made : List Line) : Type 0 where
   pub naming : IsNaming table new
   pub grown : Grows old new (length table)
-  pub kinds : (p : ℕ → Bool) → HasParts table p → are_of_kind p lines ≡ true → list_all p old.used.keys ≡ true → list_all p new.used.keys ≡ true
+  pub kinds : (p : ℕ → Bool) → HasParts table p → are_of_kind p lines ≡ true → list_all p old.used.keys ≡ true
+      → list_all p new.used.keys ≡ true
   pub used : lines_used new.used.keys lines ≡ true
   pub are : made ≡ map (renumbered (number_in new.used.keys)) lines
 

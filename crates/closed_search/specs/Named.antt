@@ -7,7 +7,9 @@ use Rattle.axiom_sets.specs.Sets.{Limited}
 use Rattle.shq_terms.specs.declared.axioms.Numbered.{Numbered}
 use Rattle.shq_nnf.specs.Meeting.{is_role_axiom}
 use Rattle.calculus_specs.specs.Line.{Line}
-use Rattle.calculus_specs.specs.Line.Line.{start_line, and_line, or_line, all_line, carry_line, row_line, range_line, some_line, least_line, choose_line, pair_line, bottom_line, clash_line, most_line, fact_line, differ_line}
+use Rattle.calculus_specs.specs.Line.Line.{start_line, and_line, or_line, all_line, carry_line, row_line, range_line}
+use Rattle.calculus_specs.specs.Line.Line.{some_line, least_line, choose_line, pair_line, bottom_line, clash_line}
+use Rattle.calculus_specs.specs.Line.Line.{most_line, fact_line, differ_line}
 
 -- the axiom that stands in a line
 abbrev pub axiom_of : Line → Option ℕ
@@ -46,7 +48,8 @@ is_role_number axioms k = says_of_roles (slice_get axioms (k - 1))
 
 -- whether a refutation over the set that has these lines names the axiom
 abbrev pub names_axiom : List Numbered → NumberSet → List Line → ℕ → Bool
-names_axiom axioms members lines k = sets.contains members k && (is_role_number axioms k || list_any (uses_axiom k) lines)
+names_axiom axioms members lines k =
+    sets.contains members k && (is_role_number axioms k || list_any (uses_axiom k) lines)
 
 pub record NamesAxioms (axioms : List Numbered) (set : Limited) (lines : List Line) (named : Limited) : Type 0 where
   pub limit : named.limit ≡ length axioms
@@ -60,7 +63,8 @@ takes_role axioms k number = number == k && is_role_number axioms k
 
 -- of the members of the set, those that pass the test are put in
 abbrev pub IsPut : NumberSet → (ℕ → Bool) → NumberSet → NumberSet → Type 0
-IsPut members test old new = (k : ℕ) → sets.contains new k ≡ (sets.contains old k || (sets.contains members k && test k))
+IsPut members test old new = (k : ℕ)
+    → sets.contains new k ≡ (sets.contains old k || (sets.contains members k && test k))
 
 -- those that some of the items ask for are put in
 abbrev pub ArePut : {X : Type 0} → NumberSet → (ℕ → X → Bool) → List X → NumberSet → NumberSet → Type 0
@@ -68,4 +72,6 @@ ArePut members asks items old new = IsPut members (λ k. list_any (asks k) items
 
 -- of the items, the rest are left, and they make of the set what all make of the old one
 abbrev pub IsPutting : {X : Type 0} → NumberSet → (ℕ → X → Bool) → List X → NumberSet → NumberSet → List X → Type 0
-IsPutting members asks items old now rest = (k : ℕ) → (sets.contains now k || (sets.contains members k && list_any (asks k) rest)) ≡ (sets.contains old k || (sets.contains members k && list_any (asks k) items))
+IsPutting members asks items old now rest = (k : ℕ)
+    → (sets.contains now k || (sets.contains members k && list_any (asks k) rest))
+    ≡ (sets.contains old k || (sets.contains members k && list_any (asks k) items))

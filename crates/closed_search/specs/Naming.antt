@@ -16,7 +16,8 @@ HasParts table p = (c : ℕ) → c < length table → p c ≡ true → list_all 
 pub record IsNaming (table : List Shape) (n : Naming) : Type 0 where
   pub same_length : length n.refutation.shapes ≡ length n.used.keys
   pub listed : All (λ c. c < length table) n.used.keys
-  pub reads : (k : ℕ) → k < length n.used.keys → tree_of (top ∷ n.refutation.shapes) (k + 1) ≡ tree_of table (get_or n.used.keys k 0)
+  pub reads : (k : ℕ) → k < length n.used.keys
+      → tree_of (top ∷ n.refutation.shapes) (k + 1) ≡ tree_of table (get_or n.used.keys k 0)
   pub are_shapes : AreShapes n.refutation.shapes
   pub no_lines : n.refutation.lines ≡ []
 
@@ -29,7 +30,8 @@ pub record Grows (old new : Naming) (bound : ℕ) : Type 0 where
 
 -- what comes to be named is part of what is asked for: of each kind that has the parts of its own
 abbrev pub KeepsKinds : List Shape → Naming → Naming → List ℕ → Type 0
-KeepsKinds table old new asked = (p : ℕ → Bool) → HasParts table p → list_all p asked ≡ true → list_all p old.used.keys ≡ true → list_all p new.used.keys ≡ true
+KeepsKinds table old new asked = (p : ℕ → Bool) → HasParts table p → list_all p asked ≡ true
+    → list_all p old.used.keys ≡ true → list_all p new.used.keys ≡ true
 
 -- the concept has the number
 pub record IsNumberOf (n : Naming) (c number : ℕ) : Type 0 where

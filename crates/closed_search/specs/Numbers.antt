@@ -1,7 +1,8 @@
 -- The numbers that a refutation gives to concepts of a table: each by its place among those that are used.
 use Rattle.std.specs.Prelude.{ℕ, ◌+◌, ◌==◌, Bool, List, map}
 use Rattle.std.specs.List.{list_any, list_all, position_or_len}
-use Rattle.calculus_specs.specs.Shape.{Shape, top, bottom, name, not_name, intersection, union, some_of, all_of, at_least, at_most}
+use Rattle.calculus_specs.specs.Shape.{Shape, top, bottom, name, not_name, intersection, union, some_of, all_of}
+use Rattle.calculus_specs.specs.Shape.{at_least, at_most}
 
 -- whether the concept is among those that are used
 abbrev pub is_used : List ℕ → ℕ → Bool

@@ -28,9 +28,12 @@ uses_names o table line = list_all (concept_is_listed o table) (concept_numbers 
 
 -- from the start of a search for what refutes the query, over a set of axioms, the lines close everything; the node in
 -- question is one of the first
-pub record CloseAll (o : Listed) (set : Limited) (table : List Shape) (query : Query) (lines : List NotedLine) : Type 0 where
+pub record CloseAll (o : Listed) (set : Limited) (table : List Shape) (query : Query) (lines : List NotedLine) :
+    Type 0 where
   pub at_first : node_in_question (length o.individuals) query.on < length o.individuals + 1
-  pub closes : leaves (step_of (question_in o (member_list set) query) table) (start_of (question_in o (member_list set) query) ∷ []) lines ≡ Some []
+  pub closes : leaves (step_of (question_in o (member_list set) query) table)
+      (start_of (question_in o (member_list set) query) ∷ []) lines
+      ≡ Some []
 
 -- the refutation is valid over the axioms that it names, and can be written
 pub record IsWrittenRefutation (o : Listed) (query : Query) (r : RefutationLists) : Type 0 where

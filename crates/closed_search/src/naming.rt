@@ -4,7 +4,8 @@ ghost use Rattle.std.specs.FinSet as sets;
 ghost use Rattle.axiom_sets.specs.Sets.{member_list};
 ghost use Rattle.shq_nnf.specs.Meeting.{is_role_axiom as says_of_roles_alone};
 ghost use Rattle.refutation_tree.specs.RuleLine.{line_of};
-ghost use Rattle.closed_search.specs.Named.{axiom_of, uses_axiom, is_role_number, takes_role, IsPut, ArePut, NamesAxioms};
+ghost use Rattle.closed_search.specs.Named.{axiom_of, uses_axiom, is_role_number, takes_role, IsPut, ArePut};
+ghost use Rattle.closed_search.specs.Named.{NamesAxioms};
 
 use crate::NoMemory;
 use axiom_sets::AxiomSet;
@@ -32,7 +33,8 @@ pub(crate) fn axioms_named(
 fn put_role_axioms(named: &mut AxiomSet, set: &AxiomSet, axioms: &[Numbered])
     requires { named.old.limit ≡ set.now.limit }
     ensures limit { named.new.limit ≡ named.old.limit }
-    ensures members { ArePut set.now.members (takes_role axioms.now) (member_list set.now) named.old.members named.new.members }
+    ensures members { ArePut set.now.members (takes_role axioms.now) (member_list set.now) named.old.members
+        named.new.members }
 {
     for number in set.numbers() {
         put_role_axiom(named, set, axioms, number);

@@ -71,4 +71,5 @@ marks_at (Mark c) = set.empty
 
 -- where the fact at a place among the facts passes a test, some fact does that rests on these marks alone
 abbrev pub IsGroundedBy : List Entry → ℕ → NumberSet → Type 0
-IsGroundedBy es i u = (q : Fact ℕ → Bool) → q (get_or (facts_in es) i (Has 0 0)) ≡ true → list_any q (facts_within u es) ≡ true
+IsGroundedBy es i u = (q : Fact ℕ → Bool) → q (get_or (facts_in es) i (Has 0 0)) ≡ true
+    → list_any q (facts_within u es) ≡ true

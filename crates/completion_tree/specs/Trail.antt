@@ -35,7 +35,9 @@ grounded by fs = map (λ f. Grounded f by) fs
 
 -- the entries with those of new nodes behind them, as many as `count`
 abbrev pub with_fresh : TreeEntries → ℕ → ℕ → ℕ → ℕ → By → TreeEntries
-with_fresh t x s e count by = record t { entries = t.entries ++ grounded by (fresh_facts x s e (node_count_from t.first (facts_in t.entries)) count) }
+with_fresh t x s e count by = record t {
+  entries = t.entries ++ grounded by (fresh_facts x s e (node_count_from t.first (facts_in t.entries)) count);
+}
 
 -- at this place stands a fact that rests on `by`
 pub record RestsOn (es : List Entry) (place : ℕ) (by : By) : Type 0 where

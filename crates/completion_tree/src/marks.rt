@@ -5,7 +5,8 @@ ghost use Rattle.calculus_specs.specs.Joins.{rep};
 ghost use Rattle.calculus_specs.specs.State.{is_so};
 ghost use Rattle.fact_tree.specs.Told.{gives, IsGround};
 ghost use Rattle.completion_tree.specs.Trail.{facts_in, is_same, places};
-ghost use Rattle.completion_tree.specs.Marks.{facts_within, is_top, is_joining, first_node, second_node, is_join, passes, marks_at, AreWithin, SomeWithin, IsGroundedBy};
+ghost use Rattle.completion_tree.specs.Marks.{facts_within, is_top, is_joining, first_node, second_node, is_join};
+ghost use Rattle.completion_tree.specs.Marks.{passes, marks_at, AreWithin, SomeWithin, IsGroundedBy};
 
 use crate::trail::{Trail, copied_marks};
 use crate::tree::Entry;

@@ -1,5 +1,6 @@
 // The entries of a trail, with the places of its facts and of its joins, so that none is looked for.
-ghost use Rattle.std.specs.Prelude.{◌≡◌, ℕ, ◌+◌, ◌<◌, ◌≤◌, ◌^◌, [], ◌∷◌, ◌++◌, OnOk, OnErr, IfOk, length, take, slice_get, get_or, Some, count_by, filter, if◌then◌else◌};
+ghost use Rattle.std.specs.Prelude.{◌≡◌, ℕ, ◌+◌, ◌<◌, ◌≤◌, ◌^◌, [], ◌∷◌, ◌++◌, OnOk, OnErr, IfOk, length, take};
+ghost use Rattle.std.specs.Prelude.{slice_get, get_or, Some, count_by, filter, if◌then◌else◌};
 ghost use Rattle.std.specs.FinSet as set;
 ghost use Rattle.calculus_specs.specs.Joins.{rep};
 ghost use Rattle.completion_tree.specs.Trail.{facts_in, is_fact, is_same, places};
@@ -36,7 +37,8 @@ impl<A: Allocator> Model for Trail<A> {
 
     ghost view = { λ t. t.entries.items };
 
-    ghost invariant = { λ t. (t.facts.items ≡ places is_fact 0 t.entries.items) × (t.joins.items ≡ places is_same 0 t.entries.items) × (length t.entries.items < 2 ^ 32) };
+    ghost invariant = { λ t. (t.facts.items ≡ places is_fact 0 t.entries.items)
+        × (t.joins.items ≡ places is_same 0 t.entries.items) × (length t.entries.items < 2 ^ 32) };
 }
 
 impl<A: Allocator + Copy> Trail<A> {
@@ -140,8 +142,12 @@ fn push_all<A: Allocator + Copy>(
     entry: Entry,
 ) -> Result<(), NoMemory>
     ensures entries { OnOk result (entries.new.items ≡ entries.old.items ++ entry ∷ []) }
-    ensures facts { OnOk result (facts.new.items ≡ if is_fact entry then facts.old.items ++ length entries.old.items ∷ [] else facts.old.items) }
-    ensures joins { OnOk result (joins.new.items ≡ if is_same entry then joins.old.items ++ length entries.old.items ∷ [] else joins.old.items) }
+    ensures facts { OnOk result
+        (facts.new.items ≡ if is_fact entry then facts.old.items ++ length entries.old.items ∷ []
+        else facts.old.items) }
+    ensures joins { OnOk result
+        (joins.new.items ≡ if is_same entry then joins.old.items ++ length entries.old.items ∷ []
+        else joins.old.items) }
     ensures small { OnOk result (length entries.new.items < 2 ^ 32) }
     ensures kept { OnErr result (entries.new.items ≡ entries.old.items) }
     ensures first_facts { OnErr result (take (length facts.old.items) facts.new.items ≡ facts.old.items) }
@@ -170,7 +176,8 @@ fn put_place<A: Allocator + Copy>(
     belongs: bool,
     place: u32,
 ) -> Result<(), NoMemory>
-    ensures put { OnOk result (places.new.items ≡ if belongs then places.old.items ++ place ∷ [] else places.old.items) }
+    ensures put { OnOk result
+        (places.new.items ≡ if belongs then places.old.items ++ place ∷ [] else places.old.items) }
     ensures unchanged { OnErr result (places.new.items ≡ places.old.items) }
 {
     if belongs {

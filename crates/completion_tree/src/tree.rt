@@ -1,7 +1,9 @@
 // The trail, and what its facts say.
-ghost use Rattle.std.specs.Prelude.{◌≡◌, ℕ, ◌+◌, ◌<◌, ◌≤◌, ◌^◌, [], ◌∷◌, ◌++◌, OnOk, OnErr, IfOk, length, take, drop, slice_get, Some, ◌==◌, true, IfSome, IfNone, IsNone};
+ghost use Rattle.std.specs.Prelude.{◌≡◌, ℕ, ◌+◌, ◌<◌, ◌≤◌, ◌^◌, [], ◌∷◌, ◌++◌, OnOk, OnErr, IfOk, length, take, drop};
+ghost use Rattle.std.specs.Prelude.{slice_get, Some, ◌==◌, true, IfSome, IfNone, IsNone};
 ghost use Rattle.calculus_specs.specs.Joins.{rep};
-ghost use Rattle.calculus_specs.specs.State.{node_count_from, has, has_edge, are_apart, parent_from, HaveParentsBefore, is_so};
+ghost use Rattle.calculus_specs.specs.State.{node_count_from, has, has_edge, are_apart, parent_from, HaveParentsBefore};
+ghost use Rattle.calculus_specs.specs.State.{is_so};
 ghost use Rattle.fact_tree.specs.Entries.{IsFit};
 ghost use Rattle.calculus_specs.specs.Listed.{IsLabel, IsOnce, AreEdges, AreJoined};
 ghost use Rattle.calculus_specs.specs.declared.facts.Fact.TheVariants.{Same};
@@ -160,7 +162,9 @@ impl<A: Allocator + Copy> Tree<A> {
     pub fn origin(&self, node: u32) -> Option<(u32, u32)>
         requires { node < node_count_from self.now.first (facts_in self.now.entries) }
         ensures none { IsNone result → node < self.now.first }
-        ensures some { IfSome result (λ o. (self.now.first ≤ node) × (has_edge (facts_in self.now.entries) (λ s. s == o.0) o.1 node ≡ true) × (parent_from self.now.first (facts_in self.now.entries) node ≡ Some o.1)) }
+        ensures some { IfSome result
+            (λ o. (self.now.first ≤ node) × (has_edge (facts_in self.now.entries) (λ s. s == o.0) o.1 node ≡ true)
+            × (parent_from self.now.first (facts_in self.now.entries) node ≡ Some o.1)) }
     {
         let _ = &self.trail;
         self.facts.origin(node)
@@ -195,7 +199,8 @@ impl<A: Allocator + Copy> Tree<A> {
     /// The nodes that are one with a node, in some order.
     pub fn members(&self, node: u32) -> &[u32]
         requires { node < node_count_from self.now.first (facts_in self.now.entries) }
-        ensures { AreJoined (facts_in self.now.entries) (node_count_from self.now.first (facts_in self.now.entries)) node result.now }
+        ensures { AreJoined (facts_in self.now.entries) (node_count_from self.now.first (facts_in self.now.entries))
+            node result.now }
     {
         let _ = &self.trail;
         self.facts.members(node)
@@ -223,14 +228,15 @@ impl<A: Allocator + Copy> Tree<A> {
         marks_behind(alloc, &self.trail, &self.facts, fact)
     }
 
-    /// Puts a fact last, with what it rests on. Its nodes are there, or it is an edge to the next new node. An edge whose
-    /// end is there makes no node.
+    /// Puts a fact last, with what it rests on. Its nodes are there, or it is an edge to the next new node. An edge
+    /// whose end is there makes no node.
     ///
     /// # Errors
     /// Memory may be refused; nothing has changed then.
     pub fn add(&mut self, fact: Fact<u32>, by: By) -> Result<(), NoMemory>
         requires { IsFit (node_count_from self.old.first (facts_in self.old.entries)) fact }
-        ensures added { OnOk result (self.new ≡ record self.old { entries = self.old.entries ++ Grounded fact by ∷ [] }) }
+        ensures added { OnOk result
+            (self.new ≡ record self.old { entries = self.old.entries ++ Grounded fact by ∷ [] }) }
         ensures unchanged { OnErr result (self.new ≡ self.old) }
     {
         let len = self.facts.len();
@@ -251,7 +257,8 @@ impl<A: Allocator + Copy> Tree<A> {
     pub fn join(&mut self, first: u32, second: u32, by: By) -> Result<(), NoMemory>
         requires first { first < node_count_from self.old.first (facts_in self.old.entries) }
         requires second { second < node_count_from self.old.first (facts_in self.old.entries) }
-        ensures joined { OnOk result (self.new ≡ record self.old { entries = self.old.entries ++ Grounded (Same first second) by ∷ [] }) }
+        ensures joined { OnOk result
+            (self.new ≡ record self.old { entries = self.old.entries ++ Grounded (Same first second) by ∷ [] }) }
         ensures unchanged { OnErr result (self.new ≡ self.old) }
     {
         self.add(Fact::Same(first, second), by)

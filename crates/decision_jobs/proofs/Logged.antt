@@ -1,5 +1,6 @@
 -- The log of one question is honest.
-use Rattle.std.proofs.Common.{◌≡◌, ℕ, zero, suc, ◌+◌, ◌≤◌, true, false, List, [], ◌∷◌, ◌++◌, length, Some, refl, ap, sym, ◌∙◌, subst, arith}
+use Rattle.std.proofs.Common.{◌≡◌, ℕ, zero, suc, ◌+◌, ◌≤◌, true, false, List, [], ◌∷◌, ◌++◌, length, Some, refl, ap}
+use Rattle.std.proofs.Common.{sym, ◌∙◌, subst, arith}
 use Rattle.std.specs.Prelude.{slice_get}
 use Rattle.std.specs.List.{list_any}
 use Rattle.std.proofs.lemmas.List.Elements.{All-cons}
@@ -23,7 +24,8 @@ use Rattle.decision_jobs.specs.Deciding.{IsDecision}
 use Rattle.decision_jobs.specs.Decisions.{IsLogged}
 
 -- where the test spent the budget, nothing is left
-nothing_left : (l : OracleLists) (d : Decision) (e : TestEnd) → Matches d e → LeavesNothing l d → ended_spent e ≡ true → spent_of l.log ≡ l.budget
+nothing_left : (l : OracleLists) (d : Decision) (e : TestEnd) → Matches d e → LeavesNothing l d → ended_spent e ≡ true
+    → spent_of l.log ≡ l.budget
 nothing_left l Answered.Undecided (E.Spent t) m left is = left
 nothing_left l Answered.Undecided (E.Yes u) m left is = absurd m
 nothing_left l Answered.Undecided E.No m left is = absurd m
@@ -40,18 +42,28 @@ only_last x e (suc place) found = absurd (cc found)
 
 module _ (o : Listed) (s : Limited) (q : Asked) (budget : ℕ) (d : Decision) where
   -- one test of all axioms, behind nothing
-  pub whole_logged : (log more : List Entry) → log ≡ [] → IsWhole o s → AppendsTest o s q log more d → spent_of more ≤ budget → LeavesNothing (record { ontology = o; budget = budget; log = more }) d → IsLogged o q budget d more
+  pub whole_logged : (log more : List Entry) → log ≡ [] → IsWhole o s → AppendsTest o s q log more d
+      → spent_of more ≤ budget → LeavesNothing (record { ontology = o; budget = budget; log = more }) d
+      → IsLogged o q budget d more
   whole_logged log more none whole test within left =
       let x : Entry = Test s q test.steps test.ended in
       let is : more ≡ x ∷ [] = test.is_log ∙ ap (λ (l : List Entry). l ++ x ∷ []) none in
-      let each : EachIsHonest o (x ∷ []) = All-cons (IsHonestEntry o) x [] test.honest (λ k e less. absurd (omega (arith, less))) in
+      let each : EachIsHonest o (x ∷ []) =
+      All-cons (IsHonestEntry o) x [] test.honest (λ k e less. absurd (omega (arith, less))) in
       let ends : EndsWhenSpent budget (x ∷ []) = record {
         is_last = λ place e found spent. only_last x e place found;
-        is_whole = λ some. sym (ap spent_of is) ∙ nothing_left (record { ontology = o; budget = budget; log = more }) d test.ended test.matches left (or_only (ended_spent test.ended) some);
+        is_whole =
+            λ some. sym (ap spent_of is)
+            ∙ nothing_left (record { ontology = o; budget = budget; log = more }) d test.ended test.matches left
+            (or_only (ended_spent test.ended) some);
       } in
       record {
         honest = record {
-          budget_kept = record { within = within; honest = subst (EachIsHonest o) (sym is) each; ends = subst (EndsWhenSpent budget) (sym is) ends };
+          budget_kept = record {
+            within = within;
+            honest = subst (EachIsHonest o) (sym is) each;
+            ends = subst (EndsWhenSpent budget) (sym is) ends;
+          };
           one = record { asked = s; steps = test.steps; ended = test.ended; is_whole = whole; is_log = is };
         };
         asked = s;
@@ -74,7 +86,9 @@ module _ (o : Listed) (s : Limited) (q : Asked) (before after : OracleLists) (r 
       by (Ok d) answer = decided_whole o s q before.budget d whole answer
       by (Err e) answer = tt
 
-  pub asked_logged : before.ontology ≡ o → after.ontology ≡ before.ontology → after.budget ≡ before.budget → before.log ≡ [] → IsWhole o s → spent_of after.log ≤ after.budget → IfOk r (AppendsTest o s q before.log after.log)
+  pub asked_logged : before.ontology ≡ o → after.ontology ≡ before.ontology → after.budget ≡ before.budget
+      → before.log ≡ [] → IsWhole o s → spent_of after.log ≤ after.budget
+      → IfOk r (AppendsTest o s q before.log after.log)
       → IfOk r (LeavesNothing after) → IfOk r (λ d. IsLogged o q before.budget d after.log)
   asked_logged same stays budget none whole within test left = by r test left
     where
@@ -84,13 +98,17 @@ module _ (o : Listed) (s : Limited) (q : Asked) (before after : OracleLists) (r 
       spent : spent_of after.log ≤ before.budget
       spent = omega (arith, within, budget)
 
-      by : (r : Result Decision NoMemory) → IfOk r (AppendsTest o s q before.log after.log) → IfOk r (LeavesNothing after) → IfOk r (λ d. IsLogged o q before.budget d after.log)
-      by (Ok d) test left = whole_logged o s q before.budget d before.log after.log none whole test spent (subst (λ (l : OracleLists). LeavesNothing l d) is left)
+      by : (r : Result Decision NoMemory) → IfOk r (AppendsTest o s q before.log after.log)
+          → IfOk r (LeavesNothing after) → IfOk r (λ d. IsLogged o q before.budget d after.log)
+      by (Ok d) test left =
+          whole_logged o s q before.budget d before.log after.log none whole test spent
+          (subst (λ (l : OracleLists). LeavesNothing l d) is left)
       by (Err e) test left = tt
 
 -- the set of all numbers up to the count of the axioms
 pub is_whole : (o : Listed) (s : Limited) (n : ℕ) → n ≡ length o.axioms → s.limit ≡ n → IsFull n s.members → IsWhole o s
-is_whole o s n count limit full = record { limit_is = limit ∙ count; is_full = subst (λ k. IsFull k s.members) count full }
+is_whole o s n count limit full =
+    record { limit_is = limit ∙ count; is_full = subst (λ k. IsFull k s.members) count full }
 
 -- an empty log has no test that spent the budget, and answers nothing
 pub none_spent : (log : List Entry) → log ≡ [] → list_any is_spent log ≡ false

@@ -14,7 +14,8 @@ use Rattle.decision_jobs.specs.Deciding.{IsDecision, IsKeptModel}
 use Rattle.decision_jobs.specs.Decisions.{decision_text, decision_status, IsLogged, IsDecided}
 
 -- the query was decided, or the budget spent, and this is the text of it
-pub record IsDecidedBy (question : Text) (budget : ℕ) (o : Listed) (q : Asked) (log : List Entry) (s : Status) (out : List ℕ) : Type 0 where
+pub record IsDecidedBy (question : Text) (budget : ℕ) (o : Listed) (q : Asked) (log : List Entry) (s : Status)
+    (out : List ℕ) : Type 0 where
   pub decision : Decision
   pub text : out ≡ decision_text o question decision
   pub status : s ≡ decision_status decision
@@ -31,7 +32,8 @@ IsBegun o q budget log = (log ≡ []) ⊎ IsDecisionLog o q budget log
 
 -- the same of a question on a document
 abbrev pub IsBegunOn : Listed → DocumentContext → Text → ℕ → List Entry → Type 0
-IsBegunOn o kept question budget log = (log ≡ []) ⊎ ((both : Listed) × (q : Asked) × IsReadQuestion o kept question both q × IsDecisionLog both q budget log)
+IsBegunOn o kept question budget log = (log ≡ [])
+    ⊎ ((both : Listed) × (q : Asked) × IsReadQuestion o kept question both q × IsDecisionLog both q budget log)
 
 -- why a question on a document is not answered, and then nothing was asked; or memory was refused
 abbrev pub IsUnansweredOn : Listed → DocumentContext → Text → ℕ → List Entry → Unread → Type 0

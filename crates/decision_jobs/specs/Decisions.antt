@@ -49,8 +49,10 @@ decision_status Answered.Undecided = Undecided
 
 -- what is written is a certificate for the query that is accepted: it is read back, and shows the verdict
 abbrev pub IsAccepted : Listed → Asked → List ℕ → Decision → Type 0
-IsAccepted o q out (Answered.Entailed r) = (certificate o out ≡ Ok (C.Refutation r)) × IsVerdictOn o q (C.Refutation r) Entailed
-IsAccepted o q out (Answered.NotEntailed m) = (certificate o out ≡ Ok (C.Model m)) × IsVerdictOn o q (C.Model m) NotEntailed
+IsAccepted o q out (Answered.Entailed r) = (certificate o out ≡ Ok (C.Refutation r))
+    × IsVerdictOn o q (C.Refutation r) Entailed
+IsAccepted o q out (Answered.NotEntailed m) = (certificate o out ≡ Ok (C.Model m))
+    × IsVerdictOn o q (C.Model m) NotEntailed
 IsAccepted o q out Answered.Undecided = Unit {0}
 
 -- the log of a decision: one honest test of all axioms, which ended as it was decided
@@ -82,4 +84,5 @@ BeginsQuestion question budget bytes log = HasBegun question bytes log (λ o q. 
 -- the answer, unless memory was refused
 abbrev pub AnswersQuestion : Text → ℕ → List ℕ → List ℕ → Status → List Entry → Type 0
 AnswersQuestion question budget bytes out NoMemory log = IsOutOfMemory out (BeginsQuestion question budget bytes log)
-AnswersQuestion question budget bytes out s log = IsRefused question bytes out s log ⊎ IsDecided question budget bytes out s log
+AnswersQuestion question budget bytes out s log = IsRefused question bytes out s log
+    ⊎ IsDecided question budget bytes out s log

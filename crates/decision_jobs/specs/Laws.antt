@@ -32,11 +32,14 @@ pub record HaveAsked (holds : List Axiom → Asked → Type 0) (question : Text)
   pub what_holds : holds (map (λ n. n.axiom) ontology.axioms) query
 
 abbrev pub YesFollows : Type 0
-YesFollows = (question : Text) (budget : ℕ) (bytes out : List ℕ) (log : List Entry) → SaysYes question budget bytes out log → HaveAsked Entails question bytes
+YesFollows = (question : Text) (budget : ℕ) (bytes out : List ℕ) (log : List Entry)
+    → SaysYes question budget bytes out log → HaveAsked Entails question bytes
 
 abbrev pub NoDoesNotFollow : Type 0
-NoDoesNotFollow = (question : Text) (budget : ℕ) (bytes out : List ℕ) (log : List Entry) → SaysNo question budget bytes out log → HaveAsked (λ axioms q. Entails axioms q → ⊥) question bytes
+NoDoesNotFollow = (question : Text) (budget : ℕ) (bytes out : List ℕ) (log : List Entry)
+    → SaysNo question budget bytes out log → HaveAsked (λ axioms q. Entails axioms q → ⊥) question bytes
 
 -- whatever the budgets
 abbrev pub VerdictsExclude : Type 0
-VerdictsExclude = (question : Text) (b c : ℕ) (bytes out text : List ℕ) (log more : List Entry) → SaysYes question b bytes out log → SaysNo question c bytes text more → ⊥
+VerdictsExclude = (question : Text) (b c : ℕ) (bytes out text : List ℕ) (log more : List Entry)
+    → SaysYes question b bytes out log → SaysNo question c bytes text more → ⊥

@@ -29,7 +29,8 @@ pub fn answer(
 ) -> (Status, Text)
     requires small { length bytes.now ≤ 4294967293 }
     requires unlogged { log.old ≡ [] }
-    ensures answer { AnswersQuestion (question_text question.entry) budget bytes.now (text_bytes result.1) result.0 log.new }
+    ensures answer { AnswersQuestion (question_text question.entry) budget bytes.now (text_bytes result.1) result.0
+        log.new }
     ensures no_fault { is_fault result.0 ≡ false }
 {
     match answered(alloc, question, budget, bytes, log) {
@@ -48,8 +49,10 @@ fn answered(
 ) -> Result<(Status, Text), Unread>
     requires small { length bytes.now ≤ 4294967293 }
     requires unlogged { log.old ≡ [] }
-    ensures answer { IfOk result (λ a. IsAnswered (question_text question.entry) budget bytes.now log.new a.0 (text_bytes a.1)) }
-    ensures unread { IfErr result (IsUnanswered (question_text question.entry) bytes.now log.new (λ o q. IsDecisionLog o q budget log.new)) }
+    ensures answer { IfOk result
+        (λ a. IsAnswered (question_text question.entry) budget bytes.now log.new a.0 (text_bytes a.1)) }
+    ensures unread { IfErr result
+        (IsUnanswered (question_text question.entry) bytes.now log.new (λ o q. IsDecisionLog o q budget log.new)) }
 {
     let (mut ontology, context) = read_document(alloc, bytes)?;
     let outcome = answered_on(alloc, question, budget, bytes, &mut ontology, &context, log);
@@ -70,8 +73,10 @@ fn answered_on(
 ) -> Result<(Status, Text), Unread>
     requires document { IsDocumentAlone bytes.now ontology.old context.now }
     requires unlogged { log.old ≡ [] }
-    ensures answer { IfOk result (λ a. IsAnswered (question_text question.entry) budget bytes.now log.new a.0 (text_bytes a.1)) }
-    ensures unread { IfErr result (IsUnansweredOn ontology.old context.now (question_text question.entry) budget log.new) }
+    ensures answer { IfOk result
+        (λ a. IsAnswered (question_text question.entry) budget bytes.now log.new a.0 (text_bytes a.1)) }
+    ensures unread { IfErr result
+        (IsUnansweredOn ontology.old context.now (question_text question.entry) budget log.new) }
 {
     let _document = bytes;
     let query = read_question(alloc, question, ontology, context)?;
@@ -91,7 +96,8 @@ fn decided(
 ) -> Result<(Status, Text), Unread>
     requires in_limit { IsInLimit ontology.now query.now }
     requires unlogged { log.old ≡ [] }
-    ensures decided { IfOk result (λ a. IsDecidedBy (question_text question.entry) budget ontology.now query.now log.new a.0 (text_bytes a.1)) }
+    ensures decided { IfOk result
+        (λ a. IsDecidedBy (question_text question.entry) budget ontology.now query.now log.new a.0 (text_bytes a.1)) }
     ensures unread { IfErr result (λ u. u ≡ Unread.NoMemory) }
     ensures begun { OnErr result (IsBegun ontology.now query.now budget log.new) }
 {

@@ -5,7 +5,8 @@ ghost use Rattle.finite_model.specs.Written.{model_text, uses_listed_names};
 ghost use Rattle.refutation_tree.specs.Written.{refutation_text, names_are_listed};
 ghost use Rattle.certificate_check.specs.Answer.{line, text_bytes};
 ghost use Rattle.certificate_check.specs.Questions.{question_text};
-ghost use Rattle.decision_jobs.specs.Decisions.{entailed_line, not_entailed_line, decision_text, decision_status, IsLogged};
+ghost use Rattle.decision_jobs.specs.Decisions.{entailed_line, not_entailed_line, decision_text, decision_status};
+ghost use Rattle.decision_jobs.specs.Decisions.{IsLogged};
 ghost use Rattle.decision_jobs.specs.Deciding.{IsDecision, CanBeWritten, IsKeptModel};
 
 use axiom_sets::AxiomSet;
@@ -79,7 +80,8 @@ pub(crate) fn text_of(
     decision: &Answer,
 ) -> Result<Text, NoMemory>
     requires { CanBeWritten ontology.now decision.now }
-    ensures text { IfOk result (λ text. text_bytes text ≡ decision_text ontology.now (question_text question.entry) decision.now) }
+    ensures text { IfOk result
+        (λ text. text_bytes text ≡ decision_text ontology.now (question_text question.entry) decision.now) }
     ensures kept { OnOk result (IsKeptModel ontology.now decision.now) }
 {
     let mut out = Vec::new(alloc);

@@ -1,5 +1,6 @@
 -- The lists of concepts have each once.
-use Rattle.std.proofs.Common.{◌≡◌, ℕ, zero, suc, ◌<◌, min, max, Bool, true, false, List, [], ◌∷◌, ◌++◌, length, ap, sym, subst, ◌∙◌, arith, inl, inr, get_or-set_same, get_or-set_other}
+use Rattle.std.proofs.Common.{◌≡◌, ℕ, zero, suc, ◌<◌, min, max, Bool, true, false, List, [], ◌∷◌, ◌++◌, length, ap, sym}
+use Rattle.std.proofs.Common.{subst, ◌∙◌, arith, inl, inr, get_or-set_same, get_or-set_other}
 use Rattle.std.specs.Prelude.{◌==◌, if◌then◌else◌}
 use Rattle.std.specs.List.{list_any, IsDistinct}
 use Rattle.std.specs.Cmp.{nat_eq_equiv}
@@ -13,7 +14,8 @@ use Rattle.calculus_specs.specs.declared.facts.Fact.TheVariants.{Has, Edge, Apar
 use Rattle.calculus_specs.specs.Joins.{rep}
 use Rattle.calculus_specs.proofs.Joined.{by_last}
 use Rattle.calculus_specs.proofs.State.{eqb-comm}
-use Rattle.fact_tree.specs.Kept.{Lists, Kept, new_lists, bare, having, leading, parted, absorbing, with_concept, with_concepts, lists_at, changed_at, grown, made, linked, after, empty, kept_of}
+use Rattle.fact_tree.specs.Kept.{Lists, Kept, new_lists, bare, having, leading, parted, absorbing, with_concept}
+use Rattle.fact_tree.specs.Kept.{with_concepts, lists_at, changed_at, grown, made, linked, after, empty, kept_of}
 use Rattle.calculus_specs.specs.Listed.{IsOnce}
 use Rattle.fact_tree.proofs.Linked.{kept_of-snoc}
 use Rattle.fact_tree.proofs.Content.{any_same}
@@ -33,15 +35,20 @@ once_with_all : (cs ds : List ℕ) → IsOnce cs → IsOnce (with_concepts cs ds
 once_with_all cs [] h = h
 once_with_all cs (d ∷ ds) h = once_with_all (with_concept cs d) ds (once_with cs d h)
 
-changed_once : (k : Kept) (at : ℕ) (change : Lists → Lists) → ((n : Lists) → IsOnce n.concepts → IsOnce (change n).concepts) → AreOnce k → AreOnce (changed_at at change k)
+changed_once : (k : Kept) (at : ℕ) (change : Lists → Lists)
+    → ((n : Lists) → IsOnce n.concepts → IsOnce (change n).concepts) → AreOnce k → AreOnce (changed_at at change k)
 changed_once k at change keeps h x lt =
     let inside : x < length k.nodes = omega (arith, lt, length-set k.nodes at (change (lists_at k at))) in
     elim (cases_eq x at) [
       | inl e ↦
           let here : lists_at (changed_at at change k) x ≡ change (lists_at k x) =
-          ap (lists_at (changed_at at change k)) e ∙ get_or-set_same k.nodes at (change (lists_at k at)) bare (omega (arith, inside, e)) ∙ ap (λ (n : ℕ). change (lists_at k n)) (sym e) in
+          ap (lists_at (changed_at at change k)) e
+          ∙ get_or-set_same k.nodes at (change (lists_at k at)) bare (omega (arith, inside, e))
+          ∙ ap (λ (n : ℕ). change (lists_at k n)) (sym e) in
           subst (λ (n : Lists). IsOnce n.concepts) (sym here) (keeps (lists_at k x) (h x inside))
-      | inr other ↦ subst (λ (n : Lists). IsOnce n.concepts) (sym (get_or-set_other k.nodes at x (change (lists_at k at)) bare other)) (h x inside)
+      | inr other ↦
+          subst (λ (n : Lists). IsOnce n.concepts)
+          (sym (get_or-set_other k.nodes at x (change (lists_at k at)) bare other)) (h x inside)
     ]
 
 pub top_once : IsOnce (0 ∷ [])
@@ -50,11 +57,15 @@ top_once = (tt, tt)
 
 grown_once : (k : Kept) (origin : ℕ × ℕ) → AreOnce k → AreOnce (grown origin k)
 grown_once k origin h x lt = elim (cases_lt x (length k.nodes)) [
-  | inl before ↦ subst (λ (n : Lists). IsOnce n.concepts) (sym (get_or-append k.nodes (new_lists (length k.nodes) origin ∷ []) bare x before)) (h x before)
+  | inl before ↦
+      subst (λ (n : Lists). IsOnce n.concepts)
+      (sym (get_or-append k.nodes (new_lists (length k.nodes) origin ∷ []) bare x before)) (h x before)
   | inr behind ↦
-      let at : length k.nodes ≡ x = omega (arith, behind, lt, length-append k.nodes (new_lists (length k.nodes) origin ∷ [])) in
+      let at : length k.nodes ≡ x =
+      omega (arith, behind, lt, length-append k.nodes (new_lists (length k.nodes) origin ∷ [])) in
       subst (λ (n : ℕ). IsOnce (lists_at (grown origin k) n).concepts) at
-      (subst (λ (n : Lists). IsOnce n.concepts) (sym (get_or-append_seam k.nodes (new_lists (length k.nodes) origin) [] bare)) top_once)
+      (subst (λ (n : Lists). IsOnce n.concepts)
+      (sym (get_or-append_seam k.nodes (new_lists (length k.nodes) origin) [] bare)) top_once)
 ]
 
 made_once : (k : Kept) (origin : ℕ × ℕ) (to : ℕ) → AreOnce k → AreOnce (made origin to k)
@@ -69,11 +80,14 @@ joined_once k at high h = by (at == high)
   where
     by : (b : Bool) → AreOnce (if b then k else linked high at k)
     by true = h
-    by false = changed_once k at (absorbing (lists_at k high)) (λ n once. once_with_all n.concepts (lists_at k high).concepts once) h
+    by false =
+        changed_once k at (absorbing (lists_at k high))
+        (λ n once. once_with_all n.concepts (lists_at k high).concepts once) h
 
 after_once : (m : ℕ → ℕ) (f : Fact ℕ) (k : Kept) → AreOnce k → AreOnce (after m f k)
 after_once m (Has y c) k h = changed_once k (m y) (having c) (λ n once. once_with n.concepts c once) h
-after_once m (Edge r y z) k h = changed_once (made (r, y) z k) (m y) (leading r z) (λ n once. once) (made_once k (r, y) z h)
+after_once m (Edge r y z) k h =
+    changed_once (made (r, y) z k) (m y) (leading r z) (λ n once. once) (made_once k (r, y) z h)
 after_once m (Apart y z) k h = changed_once k (m y) (parted z) (λ n once. once) h
 after_once m (Same y z) k h = joined_once k (min (m y) (m z)) (max (m y) (m z)) h
 

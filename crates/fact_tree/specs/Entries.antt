@@ -1,7 +1,8 @@
 -- How facts are taken back. Each fact changes the lists of one node, which it makes longer at their ends, perhaps makes
 -- a node, and perhaps links the members of a representative. So its entry keeps the lengths before it: members that are
 -- cut off are linked to the first of them again.
-use Rattle.std.specs.Prelude.{◌≡◌, ℕ, ◌+◌, ◌<◌, ◌≤◌, ◌==◌, ◌&&◌, nat_lt, Bool, true, List, length, take, drop, map, get_or, slice_set}
+use Rattle.std.specs.Prelude.{◌≡◌, ℕ, ◌+◌, ◌<◌, ◌≤◌, ◌==◌, ◌&&◌, nat_lt, Bool, true, List, length, take, drop, map}
+use Rattle.std.specs.Prelude.{get_or, slice_set}
 use Rattle.std.specs.List.{list_any}
 use Rattle.calculus_specs.specs.declared.facts.Fact.{Fact}
 use Rattle.calculus_specs.specs.declared.facts.Fact.TheVariants.{Has, Edge, Apart, Same}
@@ -71,7 +72,9 @@ facts_of es = map (λ e. e.fact) es
 
 -- each entry leads back to what was kept before it
 pub record AreEntries (first : ℕ) (es : List Entry) : Type 0 where
-  pub each : (p : ℕ) (d : Entry) → p < length es → Undoes (get_or es p d).lengths (kept_of first (facts_of (take (p + 1) es))) (kept_of first (facts_of (take p es)))
+  pub each : (p : ℕ) (d : Entry) → p < length es
+      → Undoes (get_or es p d).lengths (kept_of first (facts_of (take (p + 1) es)))
+      (kept_of first (facts_of (take p es)))
 
 -- ---- links
 
@@ -107,5 +110,6 @@ pub record IsLinked (m : ℕ → ℕ) (k : Kept) : Type 0 where
   pub below : (x : ℕ) → m x ≤ x
   pub twice : (x : ℕ) → m (m x) ≡ m x
   pub beyond : (x : ℕ) → length k.nodes ≤ x → m x ≡ x
-  pub members : (r x : ℕ) → r < length k.nodes → m r ≡ r → is_in x (lists_at k r).members ≡ (nat_lt x (length k.nodes) && m x == r)
+  pub members : (r x : ℕ) → r < length k.nodes → m r ≡ r
+      → is_in x (lists_at k r).members ≡ (nat_lt x (length k.nodes) && m x == r)
   pub heads : (r d : ℕ) → r < length k.nodes → get_or (lists_at k r).members 0 d ≡ r

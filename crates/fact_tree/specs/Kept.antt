@@ -1,6 +1,7 @@
 -- What a tree keeps of a list of facts, as a fold over it: a link for each node, to its representative, and the lists
 -- of each node, of which those of representatives are read.
-use Rattle.std.specs.Prelude.{◌≡◌, ℕ, zero, suc, ◌==◌, min, max, List, [], ◌∷◌, ◌++◌, length, take, get_or, if◌then◌else◌, slice_set}
+use Rattle.std.specs.Prelude.{◌≡◌, ℕ, zero, suc, ◌==◌, min, max, List, [], ◌∷◌, ◌++◌, length, take, get_or}
+use Rattle.std.specs.Prelude.{if◌then◌else◌, slice_set}
 use Rattle.std.specs.List.{list_any}
 use Rattle.calculus_specs.specs.declared.facts.Fact.{Fact}
 use Rattle.calculus_specs.specs.declared.facts.Fact.TheVariants.{Has, Edge, Apart, Same}
@@ -82,7 +83,8 @@ changed_at x change k = record { links = k.links; nodes = slice_set k.nodes x (c
 
 -- with a new node, a representative
 abbrev pub grown : (ℕ × ℕ) → Kept → Kept
-grown origin k = record { links = k.links ++ length k.links ∷ []; nodes = k.nodes ++ new_lists (length k.nodes) origin ∷ [] }
+grown origin k =
+    record { links = k.links ++ length k.links ∷ []; nodes = k.nodes ++ new_lists (length k.nodes) origin ∷ [] }
 
 -- the nodes, of which the lower of two has the lists of the higher put behind its own
 abbrev pub absorbed_at : ℕ → ℕ → List Lists → List Lists
@@ -95,7 +97,10 @@ set_each (p ∷ ps) v xs = set_each ps v (slice_set xs p v)
 
 -- the lower of two representatives gets the lists of the higher, whose members are linked to it
 abbrev pub linked : ℕ → ℕ → Kept → Kept
-linked high low k = record { links = set_each (lists_at k high).members low k.links; nodes = slice_set k.nodes low (absorbing (lists_at k high) (lists_at k low)) }
+linked high low k = record {
+  links = set_each (lists_at k high).members low k.links;
+  nodes = slice_set k.nodes low (absorbing (lists_at k high) (lists_at k low));
+}
 
 -- an edge makes its end where that is the next number
 abbrev pub made : (ℕ × ℕ) → ℕ → Kept → Kept

@@ -3,7 +3,8 @@ use Rattle.std.specs.Prelude.{◌≡◌, ℕ, ◌<◌, ◌==◌, ◌&&◌, Bool,
 use Rattle.std.specs.List.{list_any}
 use Rattle.calculus_specs.specs.declared.facts.Fact.{Fact}
 use Rattle.calculus_specs.specs.Joins.{rep}
-use Rattle.calculus_specs.specs.State.{node_count_from, parent_from, has_edge, gives_concept, gives_edge, gives_apart, fresh_facts}
+use Rattle.calculus_specs.specs.State.{node_count_from, parent_from, has_edge, gives_concept, gives_edge, gives_apart}
+use Rattle.calculus_specs.specs.State.{fresh_facts}
 use Rattle.calculus_specs.specs.declared.facts.Fact.TheVariants.{Has, Edge, Apart, Same}
 use Rattle.fact_tree.specs.Facts.{TreeFacts}
 
@@ -25,7 +26,8 @@ is_first_apart fs x y = list_any (gives_first (rep fs) (rep fs x) (rep fs y)) fs
 
 -- the facts with those of new nodes behind them, as many as `count`
 abbrev pub with_fresh : TreeFacts → ℕ → ℕ → ℕ → ℕ → TreeFacts
-with_fresh t x s e count = record { first = t.first; facts = t.facts ++ fresh_facts x s e (node_count_from t.first t.facts) count }
+with_fresh t x s e count =
+    record { first = t.first; facts = t.facts ++ fresh_facts x s e (node_count_from t.first t.facts) count }
 
 -- the same first nodes, and the later facts begin with the earlier ones
 pub record Continues (earlier later : TreeFacts) : Type 0 where

@@ -52,7 +52,8 @@ impl<A: Allocator> Model for Node<A> {
       aparts = n.aparts.items;
     } };
 
-    ghost invariant = { λ n. AreShort n.members.items n.concepts.items n.edges.items n.aparts.items × ArePrinted n.concepts.items n.print × AreIndexed n.concepts.items n.bits.items × EachIsNew n.concepts.items };
+    ghost invariant = { λ n. AreShort n.members.items n.concepts.items n.edges.items n.aparts.items
+        × ArePrinted n.concepts.items n.print × AreIndexed n.concepts.items n.bits.items × EachIsNew n.concepts.items };
 }
 
 impl<A: Allocator + Copy> Node<A> {

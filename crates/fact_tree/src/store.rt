@@ -1,7 +1,10 @@
 // What is kept of all nodes, and how it is undone.
-ghost use Rattle.std.specs.Prelude.{◌≡◌, ℕ, ◌+◌, ◌^◌, ◌<◌, ◌≤◌, ◌==◌, length, OnOk, OnErr, IfOk, [], ◌∷◌, if◌then◌else◌, slice_set, get_or};
-ghost use Rattle.fact_tree.specs.Kept.{absorbed_at, lists_at, changed_at, having, leading, parted, made, grown, linked, absorbing, bare, after_at, empty, set_each, cut_lists};
-ghost use Rattle.fact_tree.specs.Entries.{lengths_of, undone, relinked, Undoes, IsPlace, AreOrdered, AreLonger, IsLonger, HasMore};
+ghost use Rattle.std.specs.Prelude.{◌≡◌, ℕ, ◌+◌, ◌^◌, ◌<◌, ◌≤◌, ◌==◌, length, OnOk, OnErr, IfOk, [], ◌∷◌};
+ghost use Rattle.std.specs.Prelude.{if◌then◌else◌, slice_set, get_or};
+ghost use Rattle.fact_tree.specs.Kept.{absorbed_at, lists_at, changed_at, having, leading, parted, made, grown, linked};
+ghost use Rattle.fact_tree.specs.Kept.{absorbing, bare, after_at, empty, set_each, cut_lists};
+ghost use Rattle.fact_tree.specs.Entries.{lengths_of, undone, relinked, Undoes, IsPlace, AreOrdered, AreLonger};
+ghost use Rattle.fact_tree.specs.Entries.{IsLonger, HasMore};
 
 use crate::node::Node;
 use calculus_specs::{Fact, NoMemory};
@@ -274,7 +277,10 @@ fn relink_in<A: Allocator>(links: &mut Vec<u32, A>, nodes: &[u32])
 // Shortens the lists of a node.
 fn cut_in<A: Allocator + Copy>(nodes: &mut Vec<Node<A>, A>, lengths: Lengths)
     requires { lengths.node < length nodes.old.items }
-    ensures { nodes.new.items ≡ slice_set nodes.old.items lengths.node (cut_lists lengths.members lengths.concepts lengths.edges lengths.aparts (get_or nodes.old.items lengths.node bare)) }
+    ensures { nodes.new.items
+        ≡ slice_set nodes.old.items lengths.node
+        (cut_lists lengths.members lengths.concepts lengths.edges lengths.aparts
+        (get_or nodes.old.items lengths.node bare)) }
 {
     nodes[lengths.node as usize].cut(
         lengths.members,

@@ -1,13 +1,17 @@
 // Facts, and what they say.
-ghost use Rattle.std.specs.Prelude.{◌≡◌, ℕ, ◌==◌, true, false, get_or, ◌+◌, ◌-◌, ◌<◌, ◌≤◌, ◌^◌, [], ◌∷◌, ◌++◌, OnOk, OnErr, IfOk, length, take, slice_get, Some, IsNone, IfSome};
+ghost use Rattle.std.specs.Prelude.{◌≡◌, ℕ, ◌==◌, true, false, get_or, ◌+◌, ◌-◌, ◌<◌, ◌≤◌, ◌^◌, [], ◌∷◌, ◌++◌, OnOk};
+ghost use Rattle.std.specs.Prelude.{OnErr, IfOk, length, take, slice_get, Some, IsNone, IfSome};
 ghost use Rattle.std.specs.List.{list_all};
 ghost use Rattle.calculus_specs.specs.Joins.{rep};
-ghost use Rattle.calculus_specs.specs.State.{node_count_from, has, are_apart, gives_concept, gives_edge, gives_apart, parent_from, new_nodes, apart_from, pairwise_apart, fresh_facts, HaveParentsBefore};
+ghost use Rattle.calculus_specs.specs.State.{node_count_from, has, are_apart, gives_concept, gives_edge, gives_apart};
+ghost use Rattle.calculus_specs.specs.State.{parent_from, new_nodes, apart_from, pairwise_apart, fresh_facts};
+ghost use Rattle.calculus_specs.specs.State.{HaveParentsBefore};
 ghost use Rattle.calculus_specs.specs.declared.facts.Fact.TheVariants.{Has, Edge};
 ghost use Rattle.fact_tree.specs.Kept.{Kept, kept_of, after_at, at_of, high_of};
 ghost use Rattle.fact_tree.specs.Entries.{IsFit, IsPlace, AreOrdered, Undoes, Leads, lengths_of};
 ghost use Rattle.calculus_specs.specs.Listed.{IsLabel, IsOnce, AreEdges, AreJoined};
-ghost use Rattle.fact_tree.specs.Told.{with_fresh, AreAparts, is_first_apart, IsOrigin, Continues, gives, IsGround, IsUngrounded, IsAlone};
+ghost use Rattle.fact_tree.specs.Told.{with_fresh, AreAparts, is_first_apart, IsOrigin, Continues, gives, IsGround};
+ghost use Rattle.fact_tree.specs.Told.{IsUngrounded, IsAlone};
 
 use crate::node::Node;
 use crate::store::{Lengths, Store};
@@ -40,7 +44,8 @@ impl<A: Allocator> Model for FactTree<A> {
 
     ghost view = { λ t. record { first = t.first; facts = facts_of t.entries.items } };
 
-    ghost invariant = { λ t. (t.store ≡ kept_of t.first (facts_of t.entries.items)) × AreEntries t.first t.entries.items × AreFit t.first (facts_of t.entries.items) × (0 < t.first) };
+    ghost invariant = { λ t. (t.store ≡ kept_of t.first (facts_of t.entries.items)) × AreEntries t.first t.entries.items
+        × AreFit t.first (facts_of t.entries.items) × (0 < t.first) };
 }
 
 impl<A: Allocator + Copy> FactTree<A> {
@@ -248,7 +253,8 @@ impl<A: Allocator + Copy> FactTree<A> {
     // Whether the fact at a place says what is asked.
     fn is_ground(&self, asked: Fact<u32>, place: usize) -> bool
         ensures beyond { length self.now.facts ≤ place → result ≡ false }
-        ensures inside { place < length self.now.facts → result ≡ gives (rep self.now.facts) asked (get_or self.now.facts place (Has 0 0)) }
+        ensures inside { place < length self.now.facts
+            → result ≡ gives (rep self.now.facts) asked (get_or self.now.facts place (Has 0 0)) }
     {
         if place >= self.len() {
             return false;
@@ -392,7 +398,8 @@ impl<A: Allocator + Copy> FactTree<A> {
         requires count { count ≤ 101 }
         requires first { first ≡ node_count_from self.old.first self.old.facts }
         requires small { first + count < 2 ^ 32 }
-        ensures made { OnOk result (self.new ≡ record self.old { facts = self.old.facts ++ fresh_facts from role concept first count }) }
+        ensures made { OnOk result
+            (self.new ≡ record self.old { facts = self.old.facts ++ fresh_facts from role concept first count }) }
         ensures begins { OnErr result (Continues self.old self.new) }
     {
         self.put_nodes(from, role, concept, first, count)?;
@@ -411,7 +418,8 @@ impl<A: Allocator + Copy> FactTree<A> {
         requires count { count ≤ 101 }
         requires first { first ≡ node_count_from self.old.first self.old.facts }
         requires small { first + count < 2 ^ 32 }
-        ensures made { OnOk result (self.new ≡ record self.old { facts = self.old.facts ++ new_nodes from role concept first count }) }
+        ensures made { OnOk result
+            (self.new ≡ record self.old { facts = self.old.facts ++ new_nodes from role concept first count }) }
         ensures count { OnOk result (node_count_from self.new.first self.new.facts ≡ first + count) }
         ensures begins { OnErr result (Continues self.old self.new) }
     {
@@ -424,7 +432,8 @@ impl<A: Allocator + Copy> FactTree<A> {
     fn put_node(&mut self, from: u32, role: u32, concept: u32, node: u32) -> Result<(), NoMemory>
         requires from { from < node_count_from self.old.first self.old.facts }
         requires node { node ≡ node_count_from self.old.first self.old.facts }
-        ensures made { OnOk result (self.new ≡ record self.old { facts = self.old.facts ++ Edge role from node ∷ Has node concept ∷ [] }) }
+        ensures made { OnOk result
+            (self.new ≡ record self.old { facts = self.old.facts ++ Edge role from node ∷ Has node concept ∷ [] }) }
         ensures nodes { OnOk result (node_count_from self.new.first self.new.facts ≡ node + 1) }
         ensures begins { OnErr result (Continues self.old self.new) }
     {
@@ -435,7 +444,8 @@ impl<A: Allocator + Copy> FactTree<A> {
     fn put_pairwise(&mut self, first: u32, count: u32) -> Result<(), NoMemory>
         requires others { first + count ≤ node_count_from self.old.first self.old.facts }
         requires small { first + count < 2 ^ 32 }
-        ensures made { OnOk result (self.new ≡ record self.old { facts = self.old.facts ++ pairwise_apart first count }) }
+        ensures made { OnOk result
+            (self.new ≡ record self.old { facts = self.old.facts ++ pairwise_apart first count }) }
         ensures begins { OnErr result (Continues self.old self.new) }
     {
         for place in 0..count {
@@ -448,8 +458,10 @@ impl<A: Allocator + Copy> FactTree<A> {
         requires node { node < node_count_from self.old.first self.old.facts }
         requires others { first + count ≤ node_count_from self.old.first self.old.facts }
         requires small { first + count < 2 ^ 32 }
-        ensures made { OnOk result (self.new ≡ record self.old { facts = self.old.facts ++ apart_from node first count }) }
-        ensures nodes { OnOk result (node_count_from self.new.first self.new.facts ≡ node_count_from self.old.first self.old.facts) }
+        ensures made { OnOk result
+            (self.new ≡ record self.old { facts = self.old.facts ++ apart_from node first count }) }
+        ensures nodes { OnOk result
+            (node_count_from self.new.first self.new.facts ≡ node_count_from self.old.first self.old.facts) }
         ensures begins { OnErr result (Continues self.old self.new) }
     {
         for place in 0..count {
@@ -531,7 +543,8 @@ fn says_edge<A: Allocator + Copy>(
     to: u32,
     stated: Fact<u32>,
 ) -> bool
-    ensures { result ≡ gives_edge (λ s. s == role) (rep facts.now.facts) (rep facts.now.facts from) (rep facts.now.facts to) stated }
+    ensures { result
+        ≡ gives_edge (λ s. s == role) (rep facts.now.facts) (rep facts.now.facts from) (rep facts.now.facts to) stated }
 {
     match stated {
         Fact::Edge(given, begin, end) => {
@@ -549,7 +562,8 @@ fn says_apart<A: Allocator + Copy>(
     second: u32,
     stated: Fact<u32>,
 ) -> bool
-    ensures { result ≡ gives_apart (rep facts.now.facts) (rep facts.now.facts first) (rep facts.now.facts second) stated }
+    ensures { result
+        ≡ gives_apart (rep facts.now.facts) (rep facts.now.facts first) (rep facts.now.facts second) stated }
 {
     match stated {
         Fact::Apart(one, other) => {

@@ -1,5 +1,6 @@
 -- The pairs of a role that begin with an element, as a part of a set in order.
-use Rattle.std.proofs.Common.{◌≡◌, ℕ, zero, suc, ◌+◌, Bool, true, false, ◌&&◌, ◌||◌, cond, List, [], ◌∷◌, refl, ap, subst, sym, ◌∙◌, inl, inr, arith}
+use Rattle.std.proofs.Common.{◌≡◌, ℕ, zero, suc, ◌+◌, Bool, true, false, ◌&&◌, ◌||◌, cond, List, [], ◌∷◌, refl, ap}
+use Rattle.std.proofs.Common.{subst, sym, ◌∙◌, inl, inr, arith}
 use Rattle.std.specs.Prelude.{nat_eq, nat_le, if◌then◌else◌}
 use Rattle.std.proofs.lemmas.Bool.{cases_eq}
 use Rattle.std.proofs.Math.Bool.{and-true}
@@ -16,7 +17,8 @@ use Rattle.finite_model.specs.ModelLists.{is_link, is_from, tuple_cmp}
 abbrev pub row_of : ℕ → ℕ → List (ℕ × ℕ × ℕ) → List (ℕ × ℕ × ℕ)
 row_of r x ls = filter (range_contains tuple_cmp (Included (r, x, 0)) (Excluded (r, x + 1, 0))) ls
 
-between : (r x : ℕ) (l : ℕ × ℕ × ℕ) → range_contains tuple_cmp (Included (r, x, 0)) (Excluded (r, x + 1, 0)) l ≡ is_from r x l
+between : (r x : ℕ) (l : ℕ × ℕ × ℕ)
+    → range_contains tuple_cmp (Included (r, x, 0)) (Excluded (r, x + 1, 0)) l ≡ is_from r x l
 between r x l = grind (arith, nat_tests)
 
 pub row_between : (r x : ℕ) (ls : List (ℕ × ℕ × ℕ)) → row_of r x ls ≡ filter (is_from r x) ls
@@ -28,7 +30,8 @@ all_true (suc n) = ap (λ v. v && true) (all_true n)
 
 pub all_both : (n : ℕ) (p q : ℕ → Bool) → all_below n (λ y. p y && q y) ≡ (all_below n p && all_below n q)
 all_both zero p q = refl
-all_both (suc n) p q = ap (λ v. v && (p n && q n)) (all_both n p q) ∙ and_exchange (all_below n p) (all_below n q) (p n) (q n)
+all_both (suc n) p q =
+    ap (λ v. v && (p n && q n)) (all_both n p q) ∙ and_exchange (all_below n p) (all_below n q) (p n) (q n)
 
 either : (a b c : Bool) → implies (a || b) c ≡ (implies a c && implies b c)
 either true true true = refl
@@ -51,7 +54,8 @@ last n z q = elim (cases_eq z n) [
         rw (least, equal, above)
 
     at_end : z ≡ n → ((nat_le n z || q z) && implies (nat_eq z n) (q n)) ≡ (nat_le (suc n) z || q z)
-    at_end same = subst (λ k. ((nat_le k z || q z) && implies (nat_eq z k) (q k)) ≡ (nat_le (suc k) z || q z)) same (here z)
+    at_end same =
+        subst (λ k. ((nat_le k z || q z) && implies (nat_eq z k) (q k)) ≡ (nat_le (suc k) z || q z)) same (here z)
 
     before : ¬ (z ≡ n) → ((nat_le n z || q z) && implies (nat_eq z n) (q n)) ≡ (nat_le (suc n) z || q z)
     before other =
@@ -63,22 +67,28 @@ one : (n z : ℕ) (q : ℕ → Bool) → all_below n (λ y. implies (nat_eq z y)
 one zero z q = let least : nat_le 0 z ≡ true = grind (arith, nat_tests) in rw least
 one (suc n) z q = ap (λ v. v && implies (nat_eq z n) (q n)) (one n z q) ∙ last n z q
 
-single : (n z : ℕ) (q : ℕ → Bool) (t : Bool) → all_below n (λ y. implies (t && nat_eq z y) (q y)) ≡ (if t then nat_le n z || q z else true)
+single : (n z : ℕ) (q : ℕ → Bool) (t : Bool)
+    → all_below n (λ y. implies (t && nat_eq z y) (q y)) ≡ (if t then nat_le n z || q z else true)
 single n z q true = one n z q
 single n z q false = all_true n
 
-whole : (n z : ℕ) (q rest : ℕ → Bool) (t : Bool) → all_below n (λ y. implies ((t && nat_eq z y) || rest y) (q y)) ≡ ((if t then nat_le n z || q z else true) && all_below n (λ y. implies (rest y) (q y)))
+whole : (n z : ℕ) (q rest : ℕ → Bool) (t : Bool)
+    → all_below n (λ y. implies ((t && nat_eq z y) || rest y) (q y))
+    ≡ ((if t then nat_le n z || q z else true) && all_below n (λ y. implies (rest y) (q y)))
 whole n z q rest t =
     ap (λ (p : ℕ → Bool). all_below n p) (λ i y. either (t && nat_eq z y) (rest y) (q y) i)
     ∙ all_both n (λ y. implies (t && nat_eq z y) (q y)) (λ y. implies (rest y) (q y))
     ∙ ap (λ v. v && all_below n (λ y. implies (rest y) (q y))) (single n z q t)
 
-kept : {X : Type 0} (p : X → Bool) (t : Bool) (l : X) (ls : List X) → list_all p (cond t (l ∷ ls) ls) ≡ ((if t then p l else true) && list_all p ls)
+kept : {X : Type 0} (p : X → Bool) (t : Bool) (l : X) (ls : List X)
+    → list_all p (cond t (l ∷ ls) ls) ≡ ((if t then p l else true) && list_all p ls)
 kept p true l ls = refl
 kept p false l ls = refl
 
 -- what holds of each pair that begins with x, where its end is below n, holds of each successor of x below n
-pub row_all : (r x n : ℕ) (q : ℕ → Bool) (ls : List (ℕ × ℕ × ℕ)) → list_all (λ l. nat_le n l.2 || q l.2) (filter (is_from r x) ls) ≡ all_below n (λ y. implies (list_any (is_link r x y) ls) (q y))
+pub row_all : (r x n : ℕ) (q : ℕ → Bool) (ls : List (ℕ × ℕ × ℕ))
+    → list_all (λ l. nat_le n l.2 || q l.2) (filter (is_from r x) ls)
+    ≡ all_below n (λ y. implies (list_any (is_link r x y) ls) (q y))
 row_all r x n q [] = sym (all_true n)
 row_all r x n q (l ∷ ls) =
     kept (λ k. nat_le n k.2 || q k.2) (is_from r x l) l (filter (is_from r x) ls)
@@ -86,5 +96,7 @@ row_all r x n q (l ∷ ls) =
     ∙ sym (whole n l.2 q (λ y. list_any (is_link r x y) ls) (is_from r x l))
 
 -- the same of the part of a set between two bounds
-pub row_all_between : (r x n : ℕ) (q : ℕ → Bool) (ls : List (ℕ × ℕ × ℕ)) → list_all (λ l. nat_le n l.2 || q l.2) (row_of r x ls) ≡ all_below n (λ y. implies (list_any (is_link r x y) ls) (q y))
+pub row_all_between : (r x n : ℕ) (q : ℕ → Bool) (ls : List (ℕ × ℕ × ℕ))
+    → list_all (λ l. nat_le n l.2 || q l.2) (row_of r x ls)
+    ≡ all_below n (λ y. implies (list_any (is_link r x y) ls) (q y))
 row_all_between r x n q ls = ap (list_all (λ l. nat_le n l.2 || q l.2)) (row_between r x ls) ∙ row_all r x n q ls

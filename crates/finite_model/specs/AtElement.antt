@@ -3,9 +3,12 @@ use Rattle.std.specs.Prelude.{ℕ, Bool, true, false, ◌&&◌, ◌||◌, nat_le
 use Rattle.std.specs.List.{list_all, list_any}
 use Rattle.shq_terms.specs.Concept.{Concept, parts_of}
 use Rattle.shq_meaning.specs.Below.{all_below}
-use Rattle.shq_meaning.specs.Truth.{Interpretation, implies, same, holds, hold_any, each_successor, all_same, none_twice, out_degree, are_same, are_different, is_asked_at}
+use Rattle.shq_meaning.specs.Truth.{Interpretation, implies, same, holds, hold_any, each_successor, all_same}
+use Rattle.shq_meaning.specs.Truth.{none_twice, out_degree, are_same, are_different, is_asked_at}
 use Rattle.shq_terms.specs.declared.axioms.Axiom.{Axiom}
-use Rattle.shq_terms.specs.declared.axioms.Axiom.TheVariants.{SubClassOf, EquivalentClasses, DisjointClasses, DisjointUnion, SubRole, EquivalentRoles, Domain, Range, Functional, Transitive, Member, Pair, SameAll, Different}
+use Rattle.shq_terms.specs.declared.axioms.Axiom.TheVariants.{SubClassOf, EquivalentClasses, DisjointClasses}
+use Rattle.shq_terms.specs.declared.axioms.Axiom.TheVariants.{DisjointUnion, SubRole, EquivalentRoles, Domain, Range}
+use Rattle.shq_terms.specs.declared.axioms.Axiom.TheVariants.{Functional, Transitive, Member, Pair, SameAll, Different}
 use Rattle.shq_terms.specs.declared.axioms.Query.{Query}
 use Rattle.finite_model.specs.ModelLists.{ModelLists, meaning, begins}
 

@@ -1,6 +1,7 @@
 -- What an interpretation keeps, and what it stands for. Members, pairs and individuals are kept in ascending order,
 -- each once.
-use Rattle.std.specs.Prelude.{ℕ, ◌≤◌, Bool, ◌&&◌, nat_eq, nat_lt, IsTrue, List, Option, slice_get, unwrap_or, if◌then◌else◌}
+use Rattle.std.specs.Prelude.{ℕ, ◌≤◌, Bool, ◌&&◌, nat_eq, nat_lt, IsTrue, List, Option, slice_get, unwrap_or}
+use Rattle.std.specs.Prelude.{if◌then◌else◌}
 use Rattle.std.specs.List.{list_any, list_all, filter}
 use Rattle.std.specs.BTreeSet.{insert_key}
 use Rattle.std.specs.BTreeMap.{insert_entry, is_at}
@@ -31,7 +32,8 @@ abbrev pub individuals_below : ℕ → List (ℕ × ℕ) → Bool
 individuals_below size ps = list_all (λ p. nat_lt 0 p.1 && nat_lt p.1 size) ps
 
 -- some elements, members and pairs of them, and individuals that are some of them
-pub record IsDomain (size : ℕ) (members : List (ℕ × ℕ)) (links : List (ℕ × ℕ × ℕ)) (individuals : List (ℕ × ℕ)) : Type 0 where
+pub record IsDomain (size : ℕ) (members : List (ℕ × ℕ)) (links : List (ℕ × ℕ × ℕ)) (individuals : List (ℕ × ℕ)) :
+    Type 0 where
   pub some : 1 ≤ size
   pub members_inside : IsTrue (members_below size members)
   pub links_inside : IsTrue (links_below size links)

@@ -1,5 +1,6 @@
 -- The text of a model in a certificate, from its line `model N` on, and what it stands for.
-use Rattle.std.specs.Prelude.{◌≡◌, ℕ, ◌+◌, Bool, false, ◌&&◌, ◌||◌, nat_eq, nat_lt, nat_le, List, [], ◌∷◌, take, drop, codes, position, Option, Some, None, option_map, option_and_then, if◌then◌else◌}
+use Rattle.std.specs.Prelude.{◌≡◌, ℕ, ◌+◌, Bool, false, ◌&&◌, ◌||◌, nat_eq, nat_lt, nat_le, List, [], ◌∷◌, take, drop}
+use Rattle.std.specs.Prelude.{codes, position, Option, Some, None, option_map, option_and_then, if◌then◌else◌}
 use Rattle.std.specs.List.{list_any}
 use Rattle.std.specs.Ordering.{nat_cmp}
 use Rattle.std.specs.BTreeSet.{insert_key}
@@ -14,16 +15,20 @@ use Rattle.finite_model.specs.declared.reading.Placed.{Placed}
 
 -- the number of a word, where it is at least low and below the size
 abbrev pub element_in : ℕ → ℕ → List ℕ → Option ℕ
-element_in low size word = option_and_then (λ x. if nat_le low x && nat_lt x size then Some x else None) (number_in word)
+element_in low size word =
+    option_and_then (λ x. if nat_le low x && nat_lt x size then Some x else None) (number_in word)
 
 -- the numbers of words, each below the size, and the first at least low and each other above the one before it
 abbrev pub elements_from : ℕ → ℕ → List (List ℕ) → Option (List ℕ)
 elements_from low size [] = Some []
-elements_from low size (w ∷ ws) = elim (element_in low size w) [ None ↦ None | Some x ↦ option_map (λ xs. x ∷ xs) (elements_from (x + 1) size ws) ]
+elements_from low size (w ∷ ws) =
+    elim (element_in low size w) [ None ↦ None | Some x ↦ option_map (λ xs. x ∷ xs) (elements_from (x + 1) size ws) ]
 
 -- the elements of `X,Y`, where both are below the size
 abbrev pub pair_at : ℕ → List ℕ → ℕ → Option Pair
-pair_at size word comma = option_and_then (λ x. option_map (λ y. record { from = x; to = y }) (element_in 0 size (drop (comma + 1) word))) (element_in 0 size (take comma word))
+pair_at size word comma =
+    option_and_then (λ x. option_map (λ y. record { from = x; to = y }) (element_in 0 size (drop (comma + 1) word)))
+    (element_in 0 size (take comma word))
 
 abbrev pub pair_in : ℕ → List ℕ → Option Pair
 pair_in size word = option_and_then (pair_at size word) (position (nat_eq 44) word)
@@ -38,7 +43,8 @@ pair_from low size word = option_and_then (λ p. if is_at_least low p then Some 
 -- the pairs of words, the first at least low and each other after the one before it
 abbrev pub pairs_from : Pair → ℕ → List (List ℕ) → Option (List Pair)
 pairs_from low size [] = Some []
-pairs_from low size (w ∷ ws) = elim (pair_from low size w) [ None ↦ None | Some p ↦ option_map (λ ps. p ∷ ps) (pairs_from (record { from = p.from; to = p.to + 1 }) size ws) ]
+pairs_from low size (w ∷ ws) = elim (pair_from low size w)
+    [ None ↦ None | Some p ↦ option_map (λ ps. p ∷ ps) (pairs_from (record { from = p.from; to = p.to + 1 }) size ws) ]
 
 -- the pairs of words in ascending order, whatever the first
 abbrev pub pairs_in : ℕ → List (List ℕ) → Option (List Pair)
@@ -55,7 +61,9 @@ pub record ClassLine : Type 0 where
   pub elements : List ℕ
 
 abbrev pub class_line_in : Listed → ℕ → List (List ℕ) → Option ClassLine
-class_line_in o size ws = option_and_then (λ a. option_map (λ xs. record { class = a; elements = xs }) (elements_from 0 size (drop 2 ws))) (subject_in (codes "class") o.classes ws)
+class_line_in o size ws =
+    option_and_then (λ a. option_map (λ xs. record { class = a; elements = xs }) (elements_from 0 size (drop 2 ws)))
+    (subject_in (codes "class") o.classes ws)
 
 -- a role with its pairs
 pub record RoleLine : Type 0 where
@@ -63,15 +71,20 @@ pub record RoleLine : Type 0 where
   pub pairs : List Pair
 
 abbrev pub role_line_in : Listed → ℕ → List (List ℕ) → Option RoleLine
-role_line_in o size ws = option_and_then (λ r. option_map (λ ps. record { role = r; pairs = ps }) (pairs_in size (drop 2 ws))) (subject_in (codes "role") o.roles ws)
+role_line_in o size ws =
+    option_and_then (λ r. option_map (λ ps. record { role = r; pairs = ps }) (pairs_in size (drop 2 ws)))
+    (subject_in (codes "role") o.roles ws)
 
 -- an individual, by the word of its name, with its element
 abbrev pub placed_in : Listed → ℕ → List ℕ → List ℕ → Option Placed
-placed_in o size name word = option_and_then (λ a. option_map (λ x. record { individual = a; element = x }) (element_in 0 size word)) (name_place o.individuals name)
+placed_in o size name word =
+    option_and_then (λ a. option_map (λ x. record { individual = a; element = x }) (element_in 0 size word))
+    (name_place o.individuals name)
 
 -- `individual NAME X`
 abbrev pub individual_line_in : Listed → ℕ → List (List ℕ) → Option Placed
-individual_line_in o size (k ∷ name ∷ w ∷ []) = if bytes_eq k (codes "individual") then placed_in o size name w else None
+individual_line_in o size (k ∷ name ∷ w ∷ []) =
+    if bytes_eq k (codes "individual") then placed_in o size name w else None
 individual_line_in o size _ = None
 
 abbrev pub with_elements : ℕ → List ℕ → ModelLists → ModelLists
@@ -93,7 +106,8 @@ pub record Body : Type 0 where
 abbrev pub with_class : Body → ClassLine → Option Body
 with_class b c =
     if list_any (nat_eq c.class) b.classes then None
-    else Some (record b { classes = insert_key nat_cmp b.classes c.class; model = with_elements c.class c.elements b.model })
+    else Some
+    (record b { classes = insert_key nat_cmp b.classes c.class; model = with_elements c.class c.elements b.model })
 
 -- one line more, of a role that had none
 abbrev pub with_role : Body → RoleLine → Option Body
@@ -105,7 +119,10 @@ with_role b r =
 abbrev pub with_placed : Body → Placed → Option Body
 with_placed b p =
     if list_any (nat_eq p.individual) b.individuals then None
-    else Some (record b { individuals = insert_key nat_cmp b.individuals p.individual; model = with_individual p.individual p.element b.model })
+    else Some (record b {
+      individuals = insert_key nat_cmp b.individuals p.individual;
+      model = with_individual p.individual p.element b.model;
+    })
 
 abbrev pub is_role_line : List (List ℕ) → Bool
 is_role_line [] = false
@@ -149,7 +166,9 @@ model_body o b ls = read_body (model_line_read o) (λ c. c.model) b ls
 
 -- `model N`, with at least one element
 abbrev pub size_line : List (List ℕ) → Option ℕ
-size_line (k ∷ n ∷ []) = if bytes_eq k (codes "model") then option_and_then (λ x. if nat_eq x 0 then None else Some x) (number_in n) else None
+size_line (k ∷ n ∷ []) =
+    if bytes_eq k (codes "model") then option_and_then (λ x. if nat_eq x 0 then None else Some x) (number_in n)
+    else None
 size_line _ = None
 
 abbrev pub size_in : List ℕ → Option ℕ
@@ -157,7 +176,12 @@ size_in line = size_line (words line)
 
 -- nothing was put
 abbrev pub empty_body : ℕ → Body
-empty_body n = record { classes = []; roles = []; individuals = []; model = record { size = n; members = []; links = []; individuals = [] } }
+empty_body n = record {
+  classes = [];
+  roles = [];
+  individuals = [];
+  model = record { size = n; members = []; links = []; individuals = [] };
+}
 
 -- the model that the lines stand for, where they are the text of one
 abbrev pub model_of : Listed → List (List ℕ) → Option ModelLists

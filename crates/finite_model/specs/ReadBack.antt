@@ -6,7 +6,8 @@ use Rattle.std.specs.Ordering.{nat_cmp}
 use Rattle.certificate_lines.specs.Lines.{lines}
 use Rattle.certificate_lines.specs.Names.{AreNames}
 use Rattle.shq_terms.specs.Listed.{Listed}
-use Rattle.finite_model.specs.ModelLists.{ModelLists, members_below, links_below, individuals_below, member_cmp, link_cmp}
+use Rattle.finite_model.specs.ModelLists.{ModelLists, members_below, links_below, individuals_below, member_cmp}
+use Rattle.finite_model.specs.ModelLists.{link_cmp}
 use Rattle.finite_model.specs.ModelText.{model_of}
 use Rattle.finite_model.specs.Written.{uses_listed_names, model_text}
 
@@ -25,4 +26,5 @@ pub record IsKept (o : Listed) (k : ModelLists) : Type 0 where
 -- the lines of a model's text stand for this model
 abbrev pub ModelsAreReadBack : Type 0
 ModelsAreReadBack =
-    (o : Listed) (k : ModelLists) → AreNames o.classes → AreNames o.roles → AreNames o.individuals → IsKept o k → model_of o (lines (model_text o k)) ≡ Some k
+    (o : Listed) (k : ModelLists) → AreNames o.classes → AreNames o.roles → AreNames o.individuals → IsKept o k
+    → model_of o (lines (model_text o k)) ≡ Some k

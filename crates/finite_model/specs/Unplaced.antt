@@ -4,7 +4,8 @@ use Rattle.std.specs.List.{list_all}
 use Rattle.certificate_lines.specs.Lines.{words}
 use Rattle.shq_terms.specs.Listed.{Listed}
 use Rattle.finite_model.specs.ModelLists.{ModelLists}
-use Rattle.finite_model.specs.ModelText.{Body, is_role_line, is_individual_line, class_read, role_read, model_words_read, model_of}
+use Rattle.finite_model.specs.ModelText.{Body, is_role_line, is_individual_line, class_read, role_read}
+use Rattle.finite_model.specs.ModelText.{model_words_read, model_of}
 
 -- the line does not begin with the word `individual`
 abbrev pub places_none : List ℕ → Bool

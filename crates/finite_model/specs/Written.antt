@@ -51,14 +51,18 @@ role_lines r (name ∷ names) links = role_line name (pairs_of r links) ++ role_
 -- the lines of individuals in list order, where the first has the number a
 abbrev pub individual_lines : ℕ → List (List ℕ) → List (ℕ × ℕ) → List ℕ
 individual_lines a [] individuals = []
-individual_lines a (name ∷ names) individuals = individual_line name (element_at individuals a) ++ individual_lines (a + 1) names individuals
+individual_lines a (name ∷ names) individuals =
+    individual_line name (element_at individuals a) ++ individual_lines (a + 1) names individuals
 
 -- the line of the size, the lines of classes, of roles and of individuals, and the line `end`
 abbrev pub model_text : Listed → ModelLists → List ℕ
 model_text o k =
-    codes "model " ++ decimal k.size ++ 10 ∷ [] ++ class_lines 0 o.classes k.members ++ role_lines 0 o.roles k.links ++ individual_lines 0 o.individuals k.individuals ++ codes "end" ++ 10 ∷ []
+    codes "model " ++ decimal k.size ++ 10 ∷ [] ++ class_lines 0 o.classes k.members ++ role_lines 0 o.roles k.links
+    ++ individual_lines 0 o.individuals k.individuals ++ codes "end" ++ 10 ∷ []
 
 -- each class and each role of which something was put is listed, and so is each individual that is another element
 -- than 0
 abbrev pub uses_listed_names : Listed → ModelLists → Bool
-uses_listed_names o k = list_all (λ m. nat_lt m.0 (length o.classes)) k.members && list_all (λ l. nat_lt l.0 (length o.roles)) k.links && list_all (λ p. nat_lt p.0 (length o.individuals)) k.individuals
+uses_listed_names o k =
+    list_all (λ m. nat_lt m.0 (length o.classes)) k.members && list_all (λ l. nat_lt l.0 (length o.roles)) k.links
+    && list_all (λ p. nat_lt p.0 (length o.individuals)) k.individuals

@@ -1,9 +1,11 @@
 // Whether an interpretation meets axioms.
 ghost use Rattle.std.specs.Prelude.{◌≡◌, ◌<◌, IfOk, eqb};
 ghost use Rattle.std.specs.List.{list_all};
-ghost use Rattle.shq_meaning.specs.Truth.{all_same, none_twice, out_degree, are_same, differs_from_all, are_different, meets};
+ghost use Rattle.shq_meaning.specs.Truth.{all_same, none_twice, out_degree, are_same, differs_from_all, are_different};
+ghost use Rattle.shq_meaning.specs.Truth.{meets};
 ghost use Rattle.shq_meaning.specs.Below.{all_below};
-ghost use Rattle.finite_model.specs.AtElement.{met_at, assertion_is_met, is_split, in_whole_or_part, rows_equal, can_break, begins_any};
+ghost use Rattle.finite_model.specs.AtElement.{met_at, assertion_is_met, is_split, in_whole_or_part, rows_equal};
+ghost use Rattle.finite_model.specs.AtElement.{can_break, begins_any};
 ghost use Rattle.finite_model.specs.ModelLists.{meaning};
 ghost use Rattle.finite_model.specs.Next.{IsNext};
 

@@ -1,10 +1,12 @@
 // A finite interpretation: what it keeps, and how elements are found in it.
-ghost use Rattle.std.specs.Prelude.{◌≡◌, ℕ, ◌<◌, ◌≤◌, ◌+◌, ◌^◌, [], true, false, cond, OnOk, OnErr, IfOk, IfSome, ◌||◌, nat_eq, nat_le, eqb};
+ghost use Rattle.std.specs.Prelude.{◌≡◌, ℕ, ◌<◌, ◌≤◌, ◌+◌, ◌^◌, [], true, false, cond, OnOk, OnErr, IfOk, IfSome, ◌||◌};
+ghost use Rattle.std.specs.Prelude.{nat_eq, nat_le, eqb};
 ghost use Rattle.std.specs.List.Sorted.{IsStrictlySortedBy};
 ghost use Rattle.std.specs.Map.{keys_of};
 ghost use Rattle.std.specs.Ordering.{is_gt, nat_cmp};
 ghost use Rattle.shq_meaning.specs.Truth.{PlacesIndividuals};
-ghost use Rattle.finite_model.specs.ModelLists.{meaning, begins, IsDomain, member_cmp, link_cmp, tuple_cmp, with_member, with_link, with_individual, first_between};
+ghost use Rattle.finite_model.specs.ModelLists.{meaning, begins, IsDomain, member_cmp, link_cmp, tuple_cmp};
+ghost use Rattle.finite_model.specs.ModelLists.{with_member, with_link, with_individual, first_between};
 ghost use Rattle.finite_model.specs.AtElement.{row_within, row_is_transitive};
 ghost use Rattle.finite_model.specs.Next.{IsNext, within};
 ghost use Rattle.finite_model.specs.Written.{elements_of, pairs_of};
@@ -32,7 +34,12 @@ impl Model for Interp {
 
     ghost Value = { ModelLists };
 
-    ghost view = { λ i. record { size = i.size; members = i.members.keys; links = i.links.keys; individuals = i.individuals.entries } };
+    ghost view = { λ i. record {
+      size = i.size;
+      members = i.members.keys;
+      links = i.links.keys;
+      individuals = i.individuals.entries;
+    } };
 
     ghost invariant = { λ i. IsDomain i.size i.members.keys i.links.keys i.individuals.entries };
 }
@@ -103,7 +110,9 @@ impl Interp {
     pub fn put_individual(&mut self, individual: u32, x: u32) -> Result<(), NoMemory>
         requires { x < self.old.size }
         ensures put { OnOk result (self.new ≡ with_individual individual x self.old) }
-        ensures stands { OnOk result ((a : ℕ) → (meaning self.new).individual a ≡ cond (nat_eq a individual) x ((meaning self.old).individual a)) }
+        ensures stands { OnOk result
+            ((a : ℕ)
+            → (meaning self.new).individual a ≡ cond (nat_eq a individual) x ((meaning self.old).individual a)) }
         ensures unchanged { OnErr result (self.new ≡ self.old) }
     {
         if x == 0 {

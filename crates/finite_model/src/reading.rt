@@ -1,8 +1,14 @@
 // The text of a model, as it stands in a certificate.
-ghost use Rattle.std.specs.Prelude.{◌≡◌, ◌<◌, ◌≤◌, map, length, nat_eq, position, All, Some, IfOk, IfErr, OnOk, IfSome, codes};
+ghost use Rattle.std.specs.Prelude.{◌≡◌, ◌<◌, ◌≤◌, map, length, nat_eq, position, All, Some, IfOk, IfErr, OnOk, IfSome};
+ghost use Rattle.std.specs.Prelude.{codes};
 ghost use Rattle.certificate_lines.specs.Lines.{bytes_of};
 ghost use Rattle.certificate_lines.specs.Malformed.{IsFaultOf, IsFaultAt, IsFaultOfLine};
-ghost use Rattle.finite_model.specs.ModelText.{element_in, elements_from, pair_at, pair_in, pair_from, pairs_in, subject_in, class_line_in, role_line_in, placed_in, individual_line_in, with_class, with_role, with_placed, with_elements, with_pairs, is_role_line, is_individual_line, class_read, role_read, individual_read, ReadsClass, ReadsRole, ReadsIndividual, model_line_read, model_body, size_line, model_of};
+ghost use Rattle.finite_model.specs.ModelText.{element_in, elements_from, pair_at, pair_in, pair_from, pairs_in};
+ghost use Rattle.finite_model.specs.ModelText.{subject_in, class_line_in, role_line_in, placed_in, individual_line_in};
+ghost use Rattle.finite_model.specs.ModelText.{with_class, with_role, with_placed, with_elements, with_pairs};
+ghost use Rattle.finite_model.specs.ModelText.{is_role_line, is_individual_line, class_read, role_read};
+ghost use Rattle.finite_model.specs.ModelText.{individual_read, ReadsClass, ReadsRole, ReadsIndividual};
+ghost use Rattle.finite_model.specs.ModelText.{model_line_read, model_body, size_line, model_of};
 ghost use Rattle.finite_model.specs.Malformed.{malformed_model_line, malformed_in_model};
 ghost use Rattle.finite_model.specs.BodyRead.{body_of, class_of, role_of};
 
@@ -162,8 +168,10 @@ fn add_individual_line(
     ontology: &Ontology,
     body: &mut BodyRead,
 ) -> Result<(), ModelFault>
-    ensures read { OnOk result (ReadsIndividual ontology.now (bytes_of words.now) (body_of body.old) (body_of body.new)) }
-    ensures fault { IfErr result (IsFaultAt number (individual_read ontology.now (body_of body.old) (bytes_of words.now))) }
+    ensures read { OnOk result
+        (ReadsIndividual ontology.now (bytes_of words.now) (body_of body.old) (body_of body.new)) }
+    ensures fault { IfErr result
+        (IsFaultAt number (individual_read ontology.now (body_of body.old) (bytes_of words.now))) }
 {
     let Some(placed) = read_individual_line(words, ontology, body.model.size()) else {
         return Err(ModelFault::Malformed(number));

@@ -1,7 +1,8 @@
 // Truth at an element, and the elements at which an expression may be true.
 ghost use Rattle.std.specs.Prelude.{◌≡◌, ◌<◌, ◌||◌, nat_eq};
 ghost use Rattle.shq_terms.specs.Concept.{parts_of};
-ghost use Rattle.shq_meaning.specs.Truth.{holds, hold_all, hold_any, successors, each_successor, is_asked_at, refutes_at};
+ghost use Rattle.shq_meaning.specs.Truth.{holds, hold_all, hold_any, successors, each_successor, is_asked_at};
+ghost use Rattle.shq_meaning.specs.Truth.{refutes_at};
 ghost use Rattle.shq_meaning.specs.Least.{IsFirstBelow};
 ghost use Rattle.finite_model.specs.AtElement.{can_refute};
 ghost use Rattle.finite_model.specs.ModelLists.{meaning, begins};

@@ -2,7 +2,8 @@
 ghost use Rattle.std.specs.Prelude.{◌≡◌, ◌++◌, codes, decimal, IsTrue, IfOk, OnOk, OnErr};
 ghost use Rattle.std.specs.List.{flat_map};
 ghost use Rattle.finite_model.specs.ReadBack.{IsKept};
-ghost use Rattle.finite_model.specs.Written.{element_text, pair_text, class_line, role_line, individual_line, class_lines, role_lines, individual_lines, model_text, uses_listed_names};
+ghost use Rattle.finite_model.specs.Written.{element_text, pair_text, class_line, role_line, individual_line};
+ghost use Rattle.finite_model.specs.Written.{class_lines, role_lines, individual_lines, model_text, uses_listed_names};
 
 use crate::{Interp, NoMemory};
 use shq_terms::Ontology;
@@ -85,7 +86,8 @@ impl Interp {
         text: &mut Vec<u8>,
         ontology: &Ontology,
     ) -> Result<(), NoMemory>
-        ensures { OnOk result (text.new.items ≡ text.old.items ++ individual_lines 0 ontology.now.individuals self.now.individuals) }
+        ensures { OnOk result
+            (text.new.items ≡ text.old.items ++ individual_lines 0 ontology.now.individuals self.now.individuals) }
     {
         for individual in 0..ontology.individual_count() {
             let x = self.individual(individual);

@@ -1,9 +1,12 @@
 -- No node is taken twice.
-use Rattle.std.proofs.Common.{◌≡◌, ◌≢◌, ℕ, ◌+◌, ◌-◌, ◌*◌, ◌<◌, ◌≤◌, ◌||◌, ◌++◌, ◌∷◌, [], List, length, take, get_or, Bool, true, false, cond, eqb, refl, sym, ap, ◌∙◌, subst, arith, inl, inr, eq-eqb, min, length-append}
+use Rattle.std.proofs.Common.{◌≡◌, ◌≢◌, ℕ, ◌+◌, ◌-◌, ◌*◌, ◌<◌, ◌≤◌, ◌||◌, ◌++◌, ◌∷◌, [], List, length, take, get_or}
+use Rattle.std.proofs.Common.{Bool, true, false, cond, eqb, refl, sym, ap, ◌∙◌, subst, arith, inl, inr, eq-eqb, min}
+use Rattle.std.proofs.Common.{length-append}
 use Rattle.std.specs.FinSet as set
 use Rattle.std.specs.List.{Contains}
 use Rattle.std.proofs.lemmas.Bool.{cases_eq, cases_lt, true≢false, ne_eqb}
-use Rattle.std.proofs.lemmas.List.{get_or_default, get_or_append_left, get_or_push, get_or-take, length-take-le, take-append-le}
+use Rattle.std.proofs.lemmas.List.{get_or_default, get_or_append_left, get_or_push, get_or-take, length-take-le}
+use Rattle.std.proofs.lemmas.List.{take-append-le}
 use Rattle.std.proofs.lemmas.List.Elements.{Contains-append_left, Contains-get_or, Contains-push, Contains-push_cases}
 use Rattle.std.proofs.Math.Seq.{take-length}
 use Rattle.std.proofs.Math.Nat.{mul-add, mul-le-mul_left}
@@ -33,7 +36,8 @@ last : {X : Type 0} (xs : List X) (y d : X) (i : ℕ) → i ≡ length xs → ge
 last xs y d i e = get_or_push xs y d i (sym e)
 
 -- a fact for each element of a longer list, by place
-each_place : {X : Type 0} (P : ℕ → X → Type 0) (xs : List X) (y : X) → ((i : ℕ) (d : X) → i < length xs → P i (get_or xs i d)) → P (length xs) y
+each_place : {X : Type 0} (P : ℕ → X → Type 0) (xs : List X) (y : X)
+    → ((i : ℕ) (d : X) → i < length xs → P i (get_or xs i d)) → P (length xs) y
     → (i : ℕ) (d : X) → i < length (xs ++ y ∷ []) → P i (get_or (xs ++ y ∷ []) i d)
 each_place P xs y each new i d lt =
     elim (cases_lt i (length xs)) [
@@ -57,7 +61,9 @@ unfolding relabel
 relabel_other label n l p ne = ap (λ (b : Bool). cond b l (label p)) (ne_eqb p n ne)
 
 pub child_along : (n n' l l' c c' : Limited) → n ≡ n' → l ≡ l' → c ≡ c' → IsChild n l c → IsChild n' l' c'
-child_along n n' l l' c c' e f g h = subst (λ (x : Limited). IsChild n' l' x) g (subst (λ (x : Limited). IsChild n' x c) f (subst (λ (x : Limited). IsChild x l c) e h))
+child_along n n' l l' c c' e f g h =
+    subst (λ (x : Limited). IsChild n' l' x) g
+    (subst (λ (x : Limited). IsChild n' x c) f (subst (λ (x : Limited). IsChild x l c) e h))
 
 -- ---- a frame's own node
 
@@ -67,7 +73,8 @@ own_scope n f good = (λ k h. h, λ k in_barred shut. apart_turned f.hit.members
 pub own_frame : (n : ℕ) (f : Frame) → IsFrame n f → ¬ InFrame f f.hit.members
 own_frame n f good inside =
     let meet = inside.1 in
-    true≢false (sym meet.2 ∙ apart_turned f.hit.members f.barred.members good.apart meet.0 (good.ahead_barred meet.0 meet.1))
+    true≢false
+    (sym meet.2 ∙ apart_turned f.hit.members f.barred.members good.apart meet.0 (good.ahead_barred meet.0 meet.1))
 
 pub own_node : (n : ℕ) (node : Node) → IsNode n node → InNode node node.hit.members
 own_node n node good = (λ k h. h, apart_turned node.hit.members node.barred.members good.apart)
@@ -81,39 +88,56 @@ lacks s t part more = true≢false (sym (part more.0 more.1) ∙ more.2)
 pub built_front : (fs : List Frame) (f : Frame) → IsBuilt (fs ++ f ∷ []) → IsBuilt fs
 built_front fs f built i d lt =
     let stands = built i d (omega (arith, long fs f, lt)) in
-    subst (λ (below : List Frame). Stands below (get_or fs i d).hit (InScope (get_or fs i d))) (take-append-le i fs (f ∷ []) (omega arith))
+    subst (λ (below : List Frame). Stands below (get_or fs i d).hit (InScope (get_or fs i d)))
+    (take-append-le i fs (f ∷ []) (omega arith))
     (subst (λ (g : Frame). Stands (take i (fs ++ f ∷ [])) g.hit (InScope g)) (old fs f d i lt) stands)
 
 pub built_last : (fs : List Frame) (f : Frame) → IsBuilt (fs ++ f ∷ []) → Stands fs f.hit (InScope f)
 built_last fs f built =
     let stands = built (length fs) f (omega (arith, long fs f)) in
-    subst (λ (below : List Frame). Stands below f.hit (InScope f)) (take-append-le (length fs) fs (f ∷ []) (omega arith) ∙ take-length fs)
-    (subst (λ (g : Frame). Stands (take (length fs) (fs ++ f ∷ [])) g.hit (InScope g)) (last fs f f (length fs) refl) stands)
+    subst (λ (below : List Frame). Stands below f.hit (InScope f))
+    (take-append-le (length fs) fs (f ∷ []) (omega arith) ∙ take-length fs)
+    (subst (λ (g : Frame). Stands (take (length fs) (fs ++ f ∷ [])) g.hit (InScope g)) (last fs f f (length fs) refl)
+    stands)
 
 pub built_push : (fs : List Frame) (f : Frame) → IsBuilt fs → Stands fs f.hit (InScope f) → IsBuilt (fs ++ f ∷ [])
 built_push fs f built stands =
     each_place (λ i g. Stands (take i (fs ++ f ∷ [])) g.hit (InScope g)) fs f
-    (λ i d lt. subst (λ (below : List Frame). Stands below (get_or fs i d).hit (InScope (get_or fs i d))) (sym (take-append-le i fs (f ∷ []) (omega arith))) (built i d lt))
-    (subst (λ (below : List Frame). Stands below f.hit (InScope f)) (sym (take-append-le (length fs) fs (f ∷ []) (omega arith) ∙ take-length fs)) stands)
+    (λ i d lt. subst (λ (below : List Frame). Stands below (get_or fs i d).hit (InScope (get_or fs i d)))
+    (sym (take-append-le i fs (f ∷ []) (omega arith))) (built i d lt))
+    (subst (λ (below : List Frame). Stands below f.hit (InScope f))
+    (sym (take-append-le (length fs) fs (f ∷ []) (omega arith) ∙ take-length fs)) stands)
 
 -- a node stands where a frame with its sets does
-pub stands_within : (fs : List Frame) (hit hit' : Limited) (scope scope' : NumberSet → Type 0) → hit' ≡ hit → ((t : NumberSet) → scope' t → scope t) → Stands fs hit scope → Stands fs hit' scope'
+pub stands_within : (fs : List Frame) (hit hit' : Limited) (scope scope' : NumberSet → Type 0) → hit' ≡ hit
+    → ((t : NumberSet) → scope' t → scope t) → Stands fs hit scope → Stands fs hit' scope'
 stands_within fs hit hit' scope scope' e inside stands =
     subst (λ (h : Limited). Stands fs h scope') (sym e)
-    (record { apart = λ g at t h. stands.apart g at t (inside t h); more = stands.more; root = stands.root; child = stands.child })
+    (record {
+      apart = λ g at t h. stands.apart g at t (inside t h);
+      more = stands.more;
+      root = stands.root;
+      child = stands.child;
+    })
 
 -- ---- one node more
 
-module _ (justifications taken : List Limited) (label label' : ℕ → Limited) (hit : Limited) (tree : IsTree justifications taken label) (agrees : (p : ℕ) → p < length taken → label' p ≡ label p) (new : ¬ Contains taken hit)
+module _ (justifications taken : List Limited) (label label' : ℕ → Limited) (hit : Limited)
+    (tree : IsTree justifications taken label) (agrees : (p : ℕ) → p < length taken → label' p ≡ label p)
+    (new : ¬ Contains taken hit)
     (root : length taken ≡ 0 → hit.members ≡ set.empty)
-    (parent : 0 < length taken → (p : ℕ) × (p < length taken) × Contains justifications (label p) × ((d : Limited) → IsChild (get_or taken p d) (label p) hit)) where
-  distinct_more : (i j : ℕ) (d : Limited) → i < j → j < length (taken ++ hit ∷ []) → ¬ (get_or (taken ++ hit ∷ []) i d ≡ get_or (taken ++ hit ∷ []) j d)
+    (parent : 0 < length taken
+    → (p : ℕ) × (p < length taken) × Contains justifications (label p)
+    × ((d : Limited) → IsChild (get_or taken p d) (label p) hit)) where
+  distinct_more : (i j : ℕ) (d : Limited) → i < j → j < length (taken ++ hit ∷ [])
+      → ¬ (get_or (taken ++ hit ∷ []) i d ≡ get_or (taken ++ hit ∷ []) j d)
   distinct_more i j d lt within same =
       elim (cases_lt j (length taken)) [
         | inl low ↦ tree.distinct i j d lt low (sym (old taken hit d i (omega arith)) ∙ same ∙ old taken hit d j low)
         | inr high ↦
             let i_low : i < length taken = omega (arith, long taken hit) in
-            let is_hit : get_or taken i d ≡ hit = sym (old taken hit d i i_low) ∙ same ∙ last taken hit d j (omega (arith, long taken hit)) in
+            let is_hit : get_or taken i d ≡ hit =
+            sym (old taken hit d i i_low) ∙ same ∙ last taken hit d j (omega (arith, long taken hit)) in
             new (i, i_low, get_or_default taken i hit d i_low ∙ is_hit)
       ]
 
@@ -125,7 +149,8 @@ module _ (justifications taken : List Limited) (label label' : ℕ → Limited) 
       ]
 
   parent_more : (k : ℕ) (d : Limited) → 0 < k → k < length (taken ++ hit ∷ [])
-      → (i : ℕ) × (i < k) × Contains justifications (label' i) × IsChild (get_or (taken ++ hit ∷ []) i d) (label' i) (get_or (taken ++ hit ∷ []) k d)
+      → (i : ℕ) × (i < k) × Contains justifications (label' i)
+      × IsChild (get_or (taken ++ hit ∷ []) i d) (label' i) (get_or (taken ++ hit ∷ []) k d)
   parent_more k d pos within =
       elim (cases_lt k (length taken)) [
         | inl low ↦
@@ -143,7 +168,8 @@ module _ (justifications taken : List Limited) (label label' : ℕ → Limited) 
               up.0,
               omega (arith, up.1),
               subst (λ (l : Limited). Contains justifications l) same up.2,
-              child_along _ _ _ _ _ _ (sym (old taken hit d up.0 up.1)) same (sym (last taken hit d k (omega (arith, long taken hit)))) (up.3 d),
+              child_along _ _ _ _ _ _ (sym (old taken hit d up.0 up.1)) same
+                  (sym (last taken hit d k (omega (arith, long taken hit)))) (up.3 d),
             )
       ]
 
@@ -151,9 +177,13 @@ module _ (justifications taken : List Limited) (label label' : ℕ → Limited) 
   tree_more = record { distinct = distinct_more; root = root_more; parent = parent_more }
 
 -- the parent of a node that stands on frames whose nodes were taken
-module _ (justifications taken : List Limited) (below : List Frame) (label : ℕ → Limited) (hit : Limited) (scope : NumberSet → Type 0) (tree : IsTree justifications taken label) (stands : Stands below hit scope)
-    (own : scope hit.members) (fresh : (t : Limited) → Contains taken t → ¬ scope t.members) (labels : (f : Frame) → Contains below f → Contains justifications f.label)
-    (placed : (i : ℕ) (d : Frame) (e : Limited) → i < length below → (p : ℕ) × (p < length taken) × (get_or taken p e ≡ (get_or below i d).hit) × (label p ≡ (get_or below i d).label)) where
+module _ (justifications taken : List Limited) (below : List Frame) (label : ℕ → Limited) (hit : Limited)
+    (scope : NumberSet → Type 0) (tree : IsTree justifications taken label) (stands : Stands below hit scope)
+    (own : scope hit.members) (fresh : (t : Limited) → Contains taken t → ¬ scope t.members)
+    (labels : (f : Frame) → Contains below f → Contains justifications f.label)
+    (placed : (i : ℕ) (d : Frame) (e : Limited) → i < length below
+    → (p : ℕ) × (p < length taken) × (get_or taken p e ≡ (get_or below i d).hit)
+    × (label p ≡ (get_or below i d).label)) where
   pub new_node : ¬ Contains taken hit
   new_node at = fresh hit at own
 
@@ -165,7 +195,9 @@ module _ (justifications taken : List Limited) (below : List Frame) (label : ℕ
           | inr no' ↦ stands.root (omega arith)
         ]
 
-    pub parent_of : 0 < length taken → (p : ℕ) × (p < length taken) × Contains justifications (label p) × ((d : Limited) → IsChild (get_or taken p d) (label p) hit)
+    pub parent_of : 0 < length taken
+        → (p : ℕ) × (p < length taken) × Contains justifications (label p)
+        × ((d : Limited) → IsChild (get_or taken p d) (label p) hit)
     parent_of some =
         elim (cases_lt 0 (length below)) [
           | inl on ↦
@@ -186,13 +218,18 @@ module _ (justifications taken : List Limited) (below : List Frame) (label : ℕ
         ]
 
 -- settled nodes stay so
-pub settled_still : (justifications justifications' leaves leaves' : List Limited) (node : Limited) → ((x : Limited) → Contains justifications x → Contains justifications' x) → ((x : Limited) → Contains leaves x → Contains leaves' x)
+pub settled_still : (justifications justifications' leaves leaves' : List Limited) (node : Limited)
+    → ((x : Limited) → Contains justifications x → Contains justifications' x)
+    → ((x : Limited) → Contains leaves x → Contains leaves' x)
     → IsSettled justifications leaves node → IsSettled justifications' leaves' node
-settled_still justifications justifications' leaves leaves' node more more' settled = elim settled [ inl leaf ↦ inl (more' node leaf) | inr just ↦ inr (just.0, more just.0 just.1, just.2) ]
+settled_still justifications justifications' leaves leaves' node more more' settled =
+    elim settled [ inl leaf ↦ inl (more' node leaf) | inr just ↦ inr (just.0, more just.0 just.1, just.2) ]
 
 -- ---- the node of a frame is taken
 
-module _ (n : ℕ) (taken : List Limited) (ls : Lists) (r : ℕ) (label : ℕ → Limited) (d0 : Frame) (open' : IsOpen taken ls r label) (frames : (f : Frame) → Contains ls.frames f → IsFrame n f) (lt : r < length ls.frames) where
+module _ (n : ℕ) (taken : List Limited) (ls : Lists) (r : ℕ) (label : ℕ → Limited) (d0 : Frame)
+    (open' : IsOpen taken ls r label) (frames : (f : Frame) → Contains ls.frames f → IsFrame n f)
+    (lt : r < length ls.frames) where
   abbrev frame : Frame
   frame = get_or ls.frames r d0
 
@@ -213,10 +250,13 @@ module _ (n : ℕ) (taken : List Limited) (ls : Lists) (r : ℕ) (label : ℕ �
       let low : at.0 < r = omega (arith, at.1, short) in
       (at.0, omega arith, sym (get_or-take r ls.frames at.0 f low) ∙ at.2)
 
-  placed_below : (i : ℕ) (d : Frame) (e : Limited) → i < length (take r ls.frames) → (p : ℕ) × (p < length taken) × (get_or taken p e ≡ (get_or (take r ls.frames) i d).hit) × (label p ≡ (get_or (take r ls.frames) i d).label)
+  placed_below : (i : ℕ) (d : Frame) (e : Limited) → i < length (take r ls.frames)
+      → (p : ℕ) × (p < length taken) × (get_or taken p e ≡ (get_or (take r ls.frames) i d).hit)
+      × (label p ≡ (get_or (take r ls.frames) i d).label)
   placed_below i d e low =
       let i_low : i < r = omega (arith, short) in
-      subst (λ (g : Frame). (p : ℕ) × (p < length taken) × (get_or taken p e ≡ g.hit) × (label p ≡ g.label)) (sym (get_or-take r ls.frames i d i_low)) (open'.placed i d e i_low)
+      subst (λ (g : Frame). (p : ℕ) × (p < length taken) × (get_or taken p e ≡ g.hit) × (label p ≡ g.label))
+      (sym (get_or-take r ls.frames i d i_low)) (open'.placed i d e i_low)
 
   fresh_here : (t : Limited) → Contains taken t → ¬ InScope frame t.members
   fresh_here = open'.fresh r d0 (omega arith) lt
@@ -242,8 +282,10 @@ module _ (n : ℕ) (taken : List Limited) (ls : Lists) (r : ℕ) (label : ℕ �
   more_tree : IsTree ls.justifications (taken ++ hit ∷ []) label'
   more_tree =
       tree_more ls.justifications taken label label' hit open'.tree agrees free
-      (root_of ls.justifications taken (take r ls.frames) label hit (InScope frame) open'.tree stands own fresh_here labels_below placed_below frame)
-      (parent_of ls.justifications taken (take r ls.frames) label hit (InScope frame) open'.tree stands own fresh_here labels_below placed_below frame)
+      (root_of ls.justifications taken (take r ls.frames) label hit (InScope frame) open'.tree stands own fresh_here
+      labels_below placed_below frame)
+      (parent_of ls.justifications taken (take r ls.frames) label hit (InScope frame) open'.tree stands own fresh_here
+      labels_below placed_below frame)
 
   more_settled : AreSettled ls.justifications ls.leaves (taken ++ hit ∷ []) (length (taken ++ hit ∷ []))
   more_settled k d low within =
@@ -251,21 +293,30 @@ module _ (n : ℕ) (taken : List Limited) (ls : Lists) (r : ℕ) (label : ℕ �
       (inr (frame.label, open'.labels frame in_list, (frames frame in_list).label_apart)) k d within
 
   -- a frame that stands higher hits more
-  higher : (q : ℕ) (d : Frame) → r < q → q < length ls.frames → (k : ℕ) × (set.contains (get_or ls.frames q d).hit.members k ≡ true) × (set.contains hit.members k ≡ false)
+  higher : (q : ℕ) (d : Frame) → r < q → q < length ls.frames
+      → (k : ℕ) × (set.contains (get_or ls.frames q d).hit.members k ≡ true) × (set.contains hit.members k ≡ false)
   higher q d above q_lt =
-      (open'.built q d q_lt).more frame (r, omega (arith, length-take-le q ls.frames (omega arith)), get_or-take q ls.frames r frame above ∙ get_or_default ls.frames r frame d0 lt)
+      (open'.built q d q_lt).more frame (
+        r,
+        omega (arith, length-take-le q ls.frames (omega arith)),
+        get_or-take q ls.frames r frame above ∙ get_or_default ls.frames r frame d0 lt,
+      )
 
   not_ahead : (f : Frame) → Contains ls.frames f → ¬ InFrame f hit.members
   not_ahead f at inside =
       elim (cases_lt at.0 r) [
-        | inl low ↦ stands.apart f (at.0, omega (arith, short), get_or-take r ls.frames at.0 f low ∙ at.2) hit.members own inside
+        | inl low ↦
+            stands.apart f (at.0, omega (arith, short), get_or-take r ls.frames at.0 f low ∙ at.2) hit.members own
+            inside
         | inr high ↦ elim (cases_eq at.0 r) [
           | inl e ↦
-              let same : frame ≡ f = get_or_default ls.frames r d0 f lt ∙ ap (λ (i : ℕ). get_or ls.frames i f) (sym e) ∙ at.2 in
+              let same : frame ≡ f =
+              get_or_default ls.frames r d0 f lt ∙ ap (λ (i : ℕ). get_or ls.frames i f) (sym e) ∙ at.2 in
               own_frame n frame (frames frame in_list) (subst (λ (g : Frame). InFrame g hit.members) (sym same) inside)
           | inr ne ↦
               let more = higher at.0 f (omega arith) at.1 in
-              lacks f.hit.members hit.members inside.0.0 (more.0, subst (λ (g : Frame). set.contains g.hit.members more.0 ≡ true) at.2 more.1, more.2)
+              lacks f.hit.members hit.members inside.0.0
+              (more.0, subst (λ (g : Frame). set.contains g.hit.members more.0 ≡ true) at.2 more.1, more.2)
         ]
       ]
 
@@ -284,15 +335,23 @@ module _ (n : ℕ) (taken : List Limited) (ls : Lists) (r : ℕ) (label : ℕ �
         ];
         fresh = λ i d le i_lt t t_at inside. elim (Contains-push_cases taken hit t t_at) [
           | inl before ↦ open'.fresh i d (omega arith) i_lt t before inside
-          | inr e ↦ lacks (get_or ls.frames i d).hit.members hit.members (subst (λ (s : Limited). IsPart (get_or ls.frames i d).hit.members s.members) (sym e) inside.0) (higher i d (omega arith) i_lt)
+          | inr e ↦
+              lacks (get_or ls.frames i d).hit.members hit.members
+              (subst (λ (s : Limited). IsPart (get_or ls.frames i d).hit.members s.members) (sym e) inside.0)
+              (higher i d (omega arith) i_lt)
         ];
         placed = λ i d e i_lt. elim (cases_lt i r) [
           | inl low ↦
               let at = open'.placed i d e low in
               (at.0, omega (arith, at.1, long taken hit), old taken hit e at.0 at.1 ∙ at.2, agrees at.0 at.1 ∙ at.3)
           | inr high ↦
-              let same : frame ≡ get_or ls.frames i d = get_or_default ls.frames r d0 d lt ∙ ap (λ (j : ℕ). get_or ls.frames j d) (omega arith) in
-              (length taken, omega (arith, long taken hit), last taken hit e (length taken) refl ∙ ap (λ (g : Frame). g.hit) same, newest ∙ ap (λ (g : Frame). g.label) same)
+              let same : frame ≡ get_or ls.frames i d =
+              get_or_default ls.frames r d0 d lt ∙ ap (λ (j : ℕ). get_or ls.frames j d) (omega arith) in (
+                length taken,
+                omega (arith, long taken hit),
+                last taken hit e (length taken) refl ∙ ap (λ (g : Frame). g.hit) same,
+                newest ∙ ap (λ (g : Frame). g.label) same,
+              )
         ];
       }
 
@@ -305,20 +364,27 @@ module _ (n : ℕ) (taken : List Limited) (ls : Lists) (r : ℕ) (label : ℕ �
         stands = beside.stands;
         fresh = λ t t_at inside. elim (Contains-push_cases taken hit t t_at) [
           | inl before ↦ beside.fresh t before inside
-          | inr e ↦ lacks node.hit.members hit.members (subst (λ (s : Limited). IsPart node.hit.members s.members) (sym e) inside.0) (beside.stands.more frame in_list)
+          | inr e ↦
+              lacks node.hit.members hit.members
+              (subst (λ (s : Limited). IsPart node.hit.members s.members) (sym e) inside.0)
+              (beside.stands.more frame in_list)
         ];
       }
 
 -- ---- the node beside the frames is taken
 
-module _ (n : ℕ) (taken : List Limited) (ls : Lists) (r : ℕ) (label : ℕ → Limited) (node : Node) (open' : IsOpen taken ls r label) (all : r ≡ length ls.frames) (beside : IsBeside taken ls.frames node) (good : IsNode n node) where
+module _ (n : ℕ) (taken : List Limited) (ls : Lists) (r : ℕ) (label : ℕ → Limited) (node : Node)
+    (open' : IsOpen taken ls r label) (all : r ≡ length ls.frames) (beside : IsBeside taken ls.frames node)
+    (good : IsNode n node) where
   abbrev node_hit : Limited
   node_hit = node.hit
 
   own_in : InNode node node_hit.members
   own_in = own_node n node good
 
-  placed_all : (i : ℕ) (d : Frame) (e : Limited) → i < length ls.frames → (p : ℕ) × (p < length taken) × (get_or taken p e ≡ (get_or ls.frames i d).hit) × (label p ≡ (get_or ls.frames i d).label)
+  placed_all : (i : ℕ) (d : Frame) (e : Limited) → i < length ls.frames
+      → (p : ℕ) × (p < length taken) × (get_or taken p e ≡ (get_or ls.frames i d).hit)
+      × (label p ≡ (get_or ls.frames i d).label)
   placed_all i d e lt = open'.placed i d e (omega arith)
 
   pub node_free : ¬ Contains taken node_hit
@@ -332,19 +398,24 @@ module _ (n : ℕ) (taken : List Limited) (ls : Lists) (r : ℕ) (label : ℕ �
   taken_node =
       record {
         tree = tree_more ls.justifications taken label label node_hit open'.tree (λ p lt. refl) node_free
-            (root_of ls.justifications taken ls.frames label node_hit (InNode node) open'.tree beside.stands own_in beside.fresh open'.labels placed_all spare)
-            (parent_of ls.justifications taken ls.frames label node_hit (InNode node) open'.tree beside.stands own_in beside.fresh open'.labels placed_all spare);
+            (root_of ls.justifications taken ls.frames label node_hit (InNode node) open'.tree beside.stands own_in
+            beside.fresh open'.labels placed_all spare)
+            (parent_of ls.justifications taken ls.frames label node_hit (InNode node) open'.tree beside.stands own_in
+            beside.fresh open'.labels placed_all spare);
         leaf_taken = λ l at. Contains-append_left taken (node_hit ∷ []) l (open'.leaf_taken l at);
         some = omega (arith, long taken node_hit);
         last = λ d. last taken node_hit d (length (taken ++ node_hit ∷ []) - 1) (omega (arith, long taken node_hit));
         settled = λ k d lt within.
             let low : k < length taken = omega (arith, long taken node_hit) in
-            subst (λ (t : Limited). IsSettled ls.justifications ls.leaves t) (sym (old taken node_hit d k low)) (open'.settled k d low low);
+            subst (λ (t : Limited). IsSettled ls.justifications ls.leaves t) (sym (old taken node_hit d k low))
+            (open'.settled k d low low);
         built = open'.built;
         labels = open'.labels;
         ahead = λ f at t t_at inside. elim (Contains-push_cases taken node_hit t t_at) [
           | inl before ↦ open'.ahead f at t before inside
-          | inr e ↦ beside.stands.apart f at node_hit.members own_in (subst (λ (s : Limited). InFrame f s.members) (sym e) inside)
+          | inr e ↦
+              beside.stands.apart f at node_hit.members own_in
+              (subst (λ (s : Limited). InFrame f s.members) (sym e) inside)
         ];
         placed = λ i d e lt.
             let at = placed_all i d e lt in
@@ -358,9 +429,12 @@ module _ (n : ℕ) (taken : List Limited) (ls : Lists) (r : ℕ) (label : ℕ �
 
 -- ---- the node that was taken is settled
 
-module _ (n : ℕ) (taken : List Limited) (ls : Lists) (node : Node) (label : ℕ → Limited) (pending : IsPending taken ls node label) where
+module _ (n : ℕ) (taken : List Limited) (ls : Lists) (node : Node) (label : ℕ → Limited)
+    (pending : IsPending taken ls node label) where
   -- a fact of all nodes, from one of all but the last and of the last
-  all_nodes : (P : Limited → Type 0) → ((k : ℕ) (d : Limited) → k < length taken - 1 → k < length taken → P (get_or taken k d)) → P node.hit → (k : ℕ) (d : Limited) → k < length taken → P (get_or taken k d)
+  all_nodes : (P : Limited → Type 0)
+      → ((k : ℕ) (d : Limited) → k < length taken - 1 → k < length taken → P (get_or taken k d)) → P node.hit
+      → (k : ℕ) (d : Limited) → k < length taken → P (get_or taken k d)
   all_nodes P each new k d lt =
       elim (cases_lt k (length taken - 1)) [
         | inl low ↦ each k d low lt
@@ -372,13 +446,21 @@ module _ (n : ℕ) (taken : List Limited) (ls : Lists) (node : Node) (label : �
   node_taken : Contains taken node.hit
   node_taken = (length taken - 1, omega (arith, pending.some), pending.last node.hit)
 
-  leaf_open : IsOpen taken (record { justifications = ls.justifications; leaves = ls.leaves ++ node.hit ∷ []; frames = ls.frames }) (length ls.frames) label
+  leaf_open : IsOpen taken
+      (record { justifications = ls.justifications; leaves = ls.leaves ++ node.hit ∷ []; frames = ls.frames })
+      (length ls.frames) label
   leaf_open =
       record {
         tree = pending.tree;
-        leaf_taken = λ l at. elim (Contains-push_cases ls.leaves node.hit l at) [ inl before ↦ pending.leaf_taken l before | inr e ↦ subst (λ (x : Limited). Contains taken x) e node_taken ];
+        leaf_taken =
+            λ l at. elim (Contains-push_cases ls.leaves node.hit l at) [
+              | inl before ↦ pending.leaf_taken l before
+              | inr e ↦ subst (λ (x : Limited). Contains taken x) e node_taken
+            ];
         settled = λ k d _ lt. all_nodes (IsSettled ls.justifications (ls.leaves ++ node.hit ∷ []))
-            (λ i e low i_lt. settled_still ls.justifications ls.justifications ls.leaves (ls.leaves ++ node.hit ∷ []) (get_or taken i e) (λ x at. at) (λ x at. Contains-append_left ls.leaves (node.hit ∷ []) x at) (pending.settled i e low i_lt))
+            (λ i e low i_lt. settled_still ls.justifications ls.justifications ls.leaves (ls.leaves ++ node.hit ∷ [])
+            (get_or taken i e) (λ x at. at) (λ x at. Contains-append_left ls.leaves (node.hit ∷ []) x at)
+            (pending.settled i e low i_lt))
             (inl (Contains-push ls.leaves node.hit)) k d lt;
         rooted_within = omega arith;
         built = pending.built;
@@ -388,7 +470,9 @@ module _ (n : ℕ) (taken : List Limited) (ls : Lists) (node : Node) (label : �
         placed = λ i d e lt. let at = pending.placed i d e lt in (at.0, omega (arith, at.1), at.2, at.3);
       }
 
-  pub has_leaf_open : HasOpen taken (record { justifications = ls.justifications; leaves = ls.leaves ++ node.hit ∷ []; frames = ls.frames }) (length ls.frames)
+  pub has_leaf_open : HasOpen taken
+      (record { justifications = ls.justifications; leaves = ls.leaves ++ node.hit ∷ []; frames = ls.frames })
+      (length ls.frames)
   has_leaf_open = (label, leaf_open)
 
   module _ (j : Limited) (f : Frame) (stands : Frames node j f) where
@@ -424,25 +508,36 @@ module _ (n : ℕ) (taken : List Limited) (ls : Lists) (node : Node) (label : �
 
     not_in : (t : Limited) → Contains taken t → ¬ InFrame f t.members
     not_in t at inside =
-        let e : t.members ≡ f.hit.members = pending.fresh t at (stands.inside t.members inside.0) ∙ ap (λ (s : Limited). s.members) (sym stands.same_hit) in
+        let e : t.members ≡ f.hit.members =
+        pending.fresh t at (stands.inside t.members inside.0) ∙ ap (λ (s : Limited). s.members) (sym stands.same_hit) in
         own_frame node.hit.limit f stands.good (subst (λ (s : NumberSet). InFrame f s) e inside)
 
     label_apart : AreApart j.members node.hit.members
-    label_apart = subst (λ (h : Limited). AreApart j.members h.members) stands.same_hit (subst (λ (l : Limited). AreApart l.members f.hit.members) stands.same_label stands.good.label_apart)
+    label_apart =
+        subst (λ (h : Limited). AreApart j.members h.members) stands.same_hit
+        (subst (λ (l : Limited). AreApart l.members f.hit.members) stands.same_label stands.good.label_apart)
 
-    just_open : IsOpen taken (record { justifications = justifications'; leaves = ls.leaves; frames = ls.frames ++ f ∷ [] }) (length (ls.frames ++ f ∷ [])) label''
+    just_open : IsOpen taken
+        (record { justifications = justifications'; leaves = ls.leaves; frames = ls.frames ++ f ∷ [] })
+        (length (ls.frames ++ f ∷ [])) label''
     just_open =
         record {
           tree = just_tree;
           leaf_taken = pending.leaf_taken;
           settled = λ k d _ lt. all_nodes (IsSettled justifications' ls.leaves)
-              (λ i e low i_lt. settled_still ls.justifications justifications' ls.leaves ls.leaves (get_or taken i e) more_justs (λ x at. at) (pending.settled i e low i_lt))
+              (λ i e low i_lt. settled_still ls.justifications justifications' ls.leaves ls.leaves (get_or taken i e)
+              more_justs (λ x at. at) (pending.settled i e low i_lt))
               (inr (j, Contains-push ls.justifications j, label_apart)) k d lt;
           rooted_within = omega arith;
-          built = built_push ls.frames f pending.built (stands_within ls.frames node.hit f.hit (InNode node) (InScope f) stands.same_hit stands.inside pending.stands);
+          built =
+              built_push ls.frames f pending.built
+              (stands_within ls.frames node.hit f.hit (InNode node) (InScope f) stands.same_hit stands.inside
+              pending.stands);
           labels = λ g at. elim (Contains-push_cases ls.frames f g at) [
             | inl old' ↦ more_justs g.label (pending.labels g old')
-            | inr e ↦ subst (λ (x : Limited). Contains justifications' x) (sym stands.same_label ∙ ap (λ (x : Frame). x.label) e) (Contains-push ls.justifications j)
+            | inr e ↦
+                subst (λ (x : Limited). Contains justifications' x)
+                (sym stands.same_label ∙ ap (λ (x : Frame). x.label) e) (Contains-push ls.justifications j)
           ];
           ahead = λ g at t t_at inside. elim (Contains-push_cases ls.frames f g at) [
             | inl old' ↦ pending.ahead g old' t t_at inside
@@ -452,10 +547,15 @@ module _ (n : ℕ) (taken : List Limited) (ls : Lists) (node : Node) (label : �
           placed = λ i d e lt. elim (cases_lt i (length ls.frames)) [
             | inl low ↦
                 let at = pending.placed i d e low in
-                let same = sym (old ls.frames f d i low) in
-                (at.0, omega (arith, at.1), at.2 ∙ ap (λ (g : Frame). g.hit) same, before at.0 at.1 ∙ at.3 ∙ ap (λ (g : Frame). g.label) same)
+                let same = sym (old ls.frames f d i low) in (
+                  at.0,
+                  omega (arith, at.1),
+                  at.2 ∙ ap (λ (g : Frame). g.hit) same,
+                  before at.0 at.1 ∙ at.3 ∙ ap (λ (g : Frame). g.label) same,
+                )
             | inr high ↦
-                let same : f ≡ get_or (ls.frames ++ f ∷ []) i d = sym (last ls.frames f d i (omega (arith, long ls.frames f))) in (
+                let same : f ≡ get_or (ls.frames ++ f ∷ []) i d =
+                sym (last ls.frames f d i (omega (arith, long ls.frames f))) in (
                   length taken - 1,
                   omega (arith, pending.some),
                   pending.last e ∙ sym stands.same_hit ∙ ap (λ (g : Frame). g.hit) same,
@@ -464,12 +564,16 @@ module _ (n : ℕ) (taken : List Limited) (ls : Lists) (node : Node) (label : �
           ];
         }
 
-    pub has_just_open : HasOpen taken (record { justifications = justifications'; leaves = ls.leaves; frames = ls.frames ++ f ∷ [] }) (length (ls.frames ++ f ∷ []))
+    pub has_just_open : HasOpen taken
+        (record { justifications = justifications'; leaves = ls.leaves; frames = ls.frames ++ f ∷ [] })
+        (length (ls.frames ++ f ∷ []))
     has_just_open = (label'', just_open)
 
 -- ---- a frame by a listed label
 
-pub frame_open : (taken : List Limited) (ls : Lists) (r : ℕ) (label : ℕ → Limited) (node : Node) (j : Limited) (f : Frame) → IsOpen taken ls r label → IsBeside taken ls.frames node → Contains ls.justifications j → Frames node j f
+pub frame_open : (taken : List Limited) (ls : Lists) (r : ℕ) (label : ℕ → Limited) (node : Node) (j : Limited)
+    (f : Frame)
+    → IsOpen taken ls r label → IsBeside taken ls.frames node → Contains ls.justifications j → Frames node j f
     → IsOpen taken (with_frame ls f) r label
 frame_open taken ls r label node j f open' beside listed stands =
     record {
@@ -477,37 +581,53 @@ frame_open taken ls r label node j f open' beside listed stands =
       leaf_taken = open'.leaf_taken;
       settled = open'.settled;
       rooted_within = omega (arith, open'.rooted_within, long ls.frames f);
-      built = built_push ls.frames f open'.built (stands_within ls.frames node.hit f.hit (InNode node) (InScope f) stands.same_hit stands.inside beside.stands);
+      built =
+          built_push ls.frames f open'.built
+          (stands_within ls.frames node.hit f.hit (InNode node) (InScope f) stands.same_hit stands.inside
+          beside.stands);
       labels = λ g at. elim (Contains-push_cases ls.frames f g at) [
         | inl old' ↦ open'.labels g old'
-        | inr e ↦ subst (λ (x : Limited). Contains ls.justifications x) (sym stands.same_label ∙ ap (λ (x : Frame). x.label) e) listed
+        | inr e ↦
+            subst (λ (x : Limited). Contains ls.justifications x)
+            (sym stands.same_label ∙ ap (λ (x : Frame). x.label) e) listed
       ];
       ahead = λ g at t t_at inside. elim (Contains-push_cases ls.frames f g at) [
         | inl old' ↦ open'.ahead g old' t t_at inside
-        | inr e ↦ beside.fresh t t_at (stands.inside t.members (subst (λ (x : Frame). InFrame x t.members) (sym e) inside).0)
+        | inr e ↦
+            beside.fresh t t_at (stands.inside t.members (subst (λ (x : Frame). InFrame x t.members) (sym e) inside).0)
       ];
-      fresh = λ i d le lt t t_at. each_place (λ q g. r ≤ q → ¬ InScope g t.members) ls.frames f (λ q e q_lt q_le. open'.fresh q e q_le q_lt t t_at)
+      fresh =
+          λ i d le lt t t_at. each_place (λ q g. r ≤ q → ¬ InScope g t.members) ls.frames f
+          (λ q e q_lt q_le. open'.fresh q e q_le q_lt t t_at)
           (λ _ inside. beside.fresh t t_at (stands.inside t.members inside)) i d lt le;
       placed = λ i d e lt.
           let low : i < length ls.frames = omega (arith, open'.rooted_within) in
-          subst (λ (g : Frame). (p : ℕ) × (p < length taken) × (get_or taken p e ≡ g.hit) × (label p ≡ g.label)) (sym (old ls.frames f d i low)) (open'.placed i d e lt);
+          subst (λ (g : Frame). (p : ℕ) × (p < length taken) × (get_or taken p e ≡ g.hit) × (label p ≡ g.label))
+          (sym (old ls.frames f d i low)) (open'.placed i d e lt);
     }
 
 -- ---- the next child of a frame, and a frame without one
 
-module _ (taken : List Limited) (ls : Lists) (r : ℕ) (label : ℕ → Limited) (frame : Frame) (open' : IsOpen taken (with_frame ls frame) r label) where
+module _ (taken : List Limited) (ls : Lists) (r : ℕ) (label : ℕ → Limited) (frame : Frame)
+    (open' : IsOpen taken (with_frame ls frame) r label) where
   front : (g : Frame) → Contains ls.frames g → Contains (ls.frames ++ frame ∷ []) g
   front g at = Contains-append_left ls.frames (frame ∷ []) g at
 
   here : Contains (ls.frames ++ frame ∷ []) frame
   here = Contains-push ls.frames frame
 
-  placed_front : (i : ℕ) (d : Frame) (e : Limited) → i < r → i < length ls.frames → (p : ℕ) × (p < length taken) × (get_or taken p e ≡ (get_or ls.frames i d).hit) × (label p ≡ (get_or ls.frames i d).label)
-  placed_front i d e lt low = subst (λ (g : Frame). (p : ℕ) × (p < length taken) × (get_or taken p e ≡ g.hit) × (label p ≡ g.label)) (old ls.frames frame d i low) (open'.placed i d e lt)
+  placed_front : (i : ℕ) (d : Frame) (e : Limited) → i < r → i < length ls.frames
+      → (p : ℕ) × (p < length taken) × (get_or taken p e ≡ (get_or ls.frames i d).hit)
+      × (label p ≡ (get_or ls.frames i d).label)
+  placed_front i d e lt low =
+      subst (λ (g : Frame). (p : ℕ) × (p < length taken) × (get_or taken p e ≡ g.hit) × (label p ≡ g.label))
+      (old ls.frames frame d i low) (open'.placed i d e lt)
 
-  fresh_front : (i : ℕ) (d : Frame) → r ≤ i → i < length ls.frames → (t : Limited) → Contains taken t → ¬ InScope (get_or ls.frames i d) t.members
+  fresh_front : (i : ℕ) (d : Frame) → r ≤ i → i < length ls.frames → (t : Limited) → Contains taken t
+      → ¬ InScope (get_or ls.frames i d) t.members
   fresh_front i d le low t t_at inside =
-      open'.fresh i d le (omega (arith, long ls.frames frame)) t t_at (subst (λ (g : Frame). InScope g t.members) (sym (old ls.frames frame d i low)) inside)
+      open'.fresh i d le (omega (arith, long ls.frames frame)) t t_at
+      (subst (λ (g : Frame). InScope g t.members) (sym (old ls.frames frame d i low)) inside)
 
   pub done_open : IsOpen taken ls (min r (length ls.frames)) label
   done_open =
@@ -537,36 +657,60 @@ module _ (taken : List Limited) (ls : Lists) (r : ℕ) (label : ℕ → Limited)
           leaf_taken = open'.leaf_taken;
           settled = open'.settled;
           rooted_within = omega (arith, open'.rooted_within, long ls.frames frame, long ls.frames left);
-          built = built_push ls.frames left (built_front ls.frames frame open'.built) (stands_within ls.frames frame.hit left.hit (InScope frame) (InScope left) next.same_hit next.left_inside stands_last);
+          built =
+              built_push ls.frames left (built_front ls.frames frame open'.built)
+              (stands_within ls.frames frame.hit left.hit (InScope frame) (InScope left) next.same_hit next.left_inside
+              stands_last);
           labels = λ g at. elim (Contains-push_cases ls.frames left g at) [
             | inl old' ↦ open'.labels g (front g old')
-            | inr e ↦ subst (λ (x : Limited). Contains ls.justifications x) (sym next.same_label ∙ ap (λ (x : Frame). x.label) e) (open'.labels frame here)
+            | inr e ↦
+                subst (λ (x : Limited). Contains ls.justifications x)
+                (sym next.same_label ∙ ap (λ (x : Frame). x.label) e) (open'.labels frame here)
           ];
           ahead = λ g at t t_at inside. elim (Contains-push_cases ls.frames left g at) [
             | inl old' ↦ open'.ahead g (front g old') t t_at inside
-            | inr e ↦ open'.ahead frame here t t_at (in_frame t.members (subst (λ (x : Frame). InFrame x t.members) (sym e) inside))
+            | inr e ↦
+                open'.ahead frame here t t_at
+                (in_frame t.members (subst (λ (x : Frame). InFrame x t.members) (sym e) inside))
           ];
-          fresh = λ i d le lt t t_at. each_place (λ q g. r ≤ q → ¬ InScope g t.members) ls.frames left (λ q e q_lt q_le. fresh_front q e q_le q_lt t t_at)
+          fresh =
+              λ i d le lt t t_at. each_place (λ q g. r ≤ q → ¬ InScope g t.members) ls.frames left
+              (λ q e q_lt q_le. fresh_front q e q_le q_lt t t_at)
               (λ le' inside. open'.fresh (length ls.frames) frame le' (omega (arith, long ls.frames frame)) t t_at
-              (subst (λ (g : Frame). InScope g t.members) (sym (last ls.frames frame frame (length ls.frames) refl)) (next.left_inside t.members inside))) i d lt le;
+              (subst (λ (g : Frame). InScope g t.members) (sym (last ls.frames frame frame (length ls.frames) refl))
+              (next.left_inside t.members inside))) i d lt le;
           placed = λ i d e lt.
-              let within : i < length (ls.frames ++ left ∷ []) = omega (arith, open'.rooted_within, long ls.frames frame, long ls.frames left) in
-              each_place (λ q g. q < r → (p : ℕ) × (p < length taken) × (get_or taken p e ≡ g.hit) × (label p ≡ g.label)) ls.frames left
+              let within : i < length (ls.frames ++ left ∷ []) =
+              omega (arith, open'.rooted_within, long ls.frames frame, long ls.frames left) in
+              each_place
+              (λ q g. q < r → (p : ℕ) × (p < length taken) × (get_or taken p e ≡ g.hit) × (label p ≡ g.label)) ls.frames
+              left
               (λ q d' q_lt q_low. placed_front q d' e q_low q_lt)
               (λ low.
               let at = open'.placed (length ls.frames) frame e low in
-              let same = last ls.frames frame frame (length ls.frames) refl in
-              (at.0, at.1, at.2 ∙ ap (λ (g : Frame). g.hit) same ∙ sym next.same_hit, at.3 ∙ ap (λ (g : Frame). g.label) same ∙ sym next.same_label)) i d within lt;
+              let same = last ls.frames frame frame (length ls.frames) refl in (
+                at.0,
+                at.1,
+                at.2 ∙ ap (λ (g : Frame). g.hit) same ∙ sym next.same_hit,
+                at.3 ∙ ap (λ (g : Frame). g.label) same ∙ sym next.same_label,
+              )) i d within lt;
         }
 
     not_hit : set.contains frame.hit.members next.child.number ≡ false
     not_hit = next.child.apart next.child.number next.child.of_label
 
     in_child : set.contains node.hit.members next.child.number ≡ true
-    in_child = ap (λ (s : NumberSet). set.contains s next.child.number) next.child.grown ∙ contains_insert frame.hit.members next.child.number next.child.number ∙ ap (λ (b : Bool). b || set.contains frame.hit.members next.child.number) (eq-eqb next.child.number next.child.number refl)
+    in_child =
+        ap (λ (s : NumberSet). set.contains s next.child.number) next.child.grown
+        ∙ contains_insert frame.hit.members next.child.number next.child.number
+        ∙ ap (λ (b : Bool). b || set.contains frame.hit.members next.child.number)
+        (eq-eqb next.child.number next.child.number refl)
 
     keeps_hit : IsPart frame.hit.members node.hit.members
-    keeps_hit k h = ap (λ (s : NumberSet). set.contains s k) next.child.grown ∙ contains_insert frame.hit.members next.child.number k ∙ ap (λ (b : Bool). eqb k next.child.number || b) h ∙ or-true (eqb k next.child.number)
+    keeps_hit k h =
+        ap (λ (s : NumberSet). set.contains s k) next.child.grown
+        ∙ contains_insert frame.hit.members next.child.number k ∙ ap (λ (b : Bool). eqb k next.child.number || b) h
+        ∙ or-true (eqb k next.child.number)
 
     pub child_beside : IsBeside taken (ls.frames ++ left ∷ []) node
     child_beside =
@@ -578,30 +722,49 @@ module _ (taken : List Limited) (ls : Lists) (r : ℕ) (label : ℕ → Limited)
             ];
             more = λ g at. elim (Contains-push_cases ls.frames left g at) [
               | inl old' ↦ let m = stands_last.more g old' in (m.0, keeps_hit m.0 m.1, m.2)
-              | inr e ↦ (next.child.number, in_child, ap (λ (x : Frame). set.contains x.hit.members next.child.number) (sym e) ∙ ap (λ (x : Limited). set.contains x.members next.child.number) next.same_hit ∙ not_hit)
+              | inr e ↦ (
+                next.child.number,
+                in_child,
+                ap (λ (x : Frame). set.contains x.hit.members next.child.number) (sym e)
+                    ∙ ap (λ (x : Limited). set.contains x.members next.child.number) next.same_hit ∙ not_hit,
+              )
             ];
             root = λ none. absurd (omega (arith, none, long ls.frames left));
             child = λ d _.
-                let same : left ≡ get_or (ls.frames ++ left ∷ []) (length (ls.frames ++ left ∷ []) - 1) d = sym (last ls.frames left d (length (ls.frames ++ left ∷ []) - 1) (omega (arith, long ls.frames left))) in
-                child_along _ _ _ _ _ _ (sym next.same_hit ∙ ap (λ (x : Frame). x.hit) same) (sym next.same_label ∙ ap (λ (x : Frame). x.label) same) refl next.child;
+                let same : left ≡ get_or (ls.frames ++ left ∷ []) (length (ls.frames ++ left ∷ []) - 1) d =
+                sym
+                (last ls.frames left d (length (ls.frames ++ left ∷ []) - 1) (omega (arith, long ls.frames left))) in
+                child_along _ _ _ _ _ _ (sym next.same_hit ∙ ap (λ (x : Frame). x.hit) same)
+                (sym next.same_label ∙ ap (λ (x : Frame). x.label) same) refl next.child;
           };
           fresh = λ t t_at inside. open'.ahead frame here t t_at (next.node_inside t.members inside);
         }
 
 -- ---- the end
 
-pub ended : (taken : List Limited) (ls : Lists) (r : ℕ) (label : ℕ → Limited) → IsOpen taken ls r label → IsEnded taken ls
-ended taken ls r label open' = record { nodes = (label, open'.tree); leaf_taken = open'.leaf_taken; settled = λ k d lt within. open'.settled k d within within }
+pub ended : (taken : List Limited) (ls : Lists) (r : ℕ) (label : ℕ → Limited) → IsOpen taken ls r label
+    → IsEnded taken ls
+ended taken ls r label open' = record {
+  nodes = (label, open'.tree);
+  leaf_taken = open'.leaf_taken;
+  settled = λ k d lt within. open'.settled k d within within;
+}
 
-pub ended_pending : (taken : List Limited) (ls : Lists) (node : Node) (label : ℕ → Limited) → IsPending taken ls node label → IsEnded taken ls
-ended_pending taken ls node label pending = record { nodes = (label, pending.tree); leaf_taken = pending.leaf_taken; settled = pending.settled }
+pub ended_pending : (taken : List Limited) (ls : Lists) (node : Node) (label : ℕ → Limited)
+    → IsPending taken ls node label → IsEnded taken ls
+ended_pending taken ls node label pending =
+    record { nodes = (label, pending.tree); leaf_taken = pending.leaf_taken; settled = pending.settled }
 
 -- ---- the root
 
 pub root_open : (label : ℕ → Limited) → IsOpen [] (record { justifications = []; leaves = []; frames = [] }) 0 label
 root_open label =
     record {
-      tree = record { distinct = λ i j d lt within. absurd (omega arith); root = λ d within. absurd (omega arith); parent = λ k d pos within. absurd (omega arith) };
+      tree = record {
+        distinct = λ i j d lt within. absurd (omega arith);
+        root = λ d within. absurd (omega arith);
+        parent = λ k d pos within. absurd (omega arith);
+      };
       leaf_taken = λ l at. at;
       settled = λ k d lt within. absurd (omega arith);
       rooted_within = omega arith;
@@ -615,7 +778,12 @@ root_open label =
 pub root_beside : (node : Node) → node.hit.members ≡ set.empty → IsBeside [] [] node
 root_beside node none =
     record {
-      stands = record { apart = λ g at. absurd (omega (arith, at.1)); more = λ g at. absurd (omega (arith, at.1)); root = λ _. none; child = λ d some. absurd (omega arith) };
+      stands = record {
+        apart = λ g at. absurd (omega (arith, at.1));
+        more = λ g at. absurd (omega (arith, at.1));
+        root = λ _. none;
+        child = λ d some. absurd (omega arith);
+      };
       fresh = λ t at. absurd (omega (arith, at.1));
     }
 
@@ -626,22 +794,27 @@ few_still size asks asks' l l' e le =
     let more : (size + 1) * l ≤ (size + 1) * l' = mul-le-mul_left (size + 1) le in
     omega (arith, more)
 
-pub few_asked : (size asks asks' l l' : ℕ) → asks' ≤ asks + (size + 1) → l < l' → asks' + (size + 1) * l ≤ asks + (size + 1) * l'
+pub few_asked : (size asks asks' l l' : ℕ) → asks' ≤ asks + (size + 1) → l < l'
+    → asks' + (size + 1) * l ≤ asks + (size + 1) * l'
 few_asked size asks asks' l l' more lt =
     let e : (size + 1) * (l + 1) ≡ (size + 1) * l + (size + 1) * 1 = mul-add (size + 1) l 1 in
     let le : l + 1 ≤ l' = omega arith in
     let rises : (size + 1) * (l + 1) ≤ (size + 1) * l' = mul-le-mul_left (size + 1) le in
     omega (arith, more, e, rises)
 
-pub few_taken : (m m' m'' : Meaning) → m'.asks ≡ m.asks → m'.size ≡ m.size → length m.taken < length m'.taken → m''.taken ≡ m'.taken → m''.asks ≤ m'.asks + (m'.size + 1) → AsksFew m.size m m''
-few_taken m m' m'' same size more e asked = few_asked m.size m.asks m''.asks (length m.taken) (length m''.taken) (omega arith) (omega (arith, ap length e))
+pub few_taken : (m m' m'' : Meaning) → m'.asks ≡ m.asks → m'.size ≡ m.size → length m.taken < length m'.taken
+    → m''.taken ≡ m'.taken → m''.asks ≤ m'.asks + (m'.size + 1) → AsksFew m.size m m''
+few_taken m m' m'' same size more e asked =
+    few_asked m.size m.asks m''.asks (length m.taken) (length m''.taken) (omega arith) (omega (arith, ap length e))
 
 -- an ask about the rest of a node, and those by which it is settled
-pub asked_rest : (m m' m'' : Meaning) → m'.asks ≡ one_more m.asks → m'.size ≡ m.size → m''.asks ≤ m'.asks + m'.size → m''.asks ≤ m.asks + (m.size + 1)
+pub asked_rest : (m m' m'' : Meaning) → m'.asks ≡ one_more m.asks → m'.size ≡ m.size → m''.asks ≤ m'.asks + m'.size
+    → m''.asks ≤ m.asks + (m.size + 1)
 asked_rest m m' m'' counted size asked = omega arith
 
 -- asks from m to m', and from there to m''
-pub few_on : (m m' m'' : Meaning) (size size' : ℕ) → size' ≡ size → AsksFew size m m' → AsksFew size' m' m'' → AsksFew size m m''
+pub few_on : (m m' m'' : Meaning) (size size' : ℕ) → size' ≡ size → AsksFew size m m' → AsksFew size' m' m''
+    → AsksFew size m m''
 few_on m m' m'' size size' e few few' =
     let later : AsksFew size m' m'' = subst (λ (n : ℕ). AsksFew n m' m'') e few' in
     omega (arith, few, later)

@@ -1,11 +1,13 @@
 -- What a look at a node does to the lists.
-use Rattle.std.proofs.Common.{◌≡◌, ℕ, ◌+◌, ◌<◌, ◌++◌, ◌∷◌, [], List, length, get_or, Bool, true, false, refl, sym, ap, ◌∙◌, subst, arith, inl, inr}
+use Rattle.std.proofs.Common.{◌≡◌, ℕ, ◌+◌, ◌<◌, ◌++◌, ◌∷◌, [], List, length, get_or, Bool, true, false, refl, sym, ap}
+use Rattle.std.proofs.Common.{◌∙◌, subst, arith, inl, inr}
 use Rattle.std.specs.Prelude.{Option, None, Some, IfSome, IfNone, is_some}
 use Rattle.std.specs.Ordering.{nat_cmp}
 use Rattle.std.specs.List.{All, Contains}
 use Rattle.std.specs.FinSet as set
 use Rattle.std.proofs.lemmas.Bool.{true≢false}
-use Rattle.std.proofs.lemmas.List.Elements.{All-contains, Contains-append_left, Contains-get_or, Contains-push, Contains-push_cases}
+use Rattle.std.proofs.lemmas.List.Elements.{All-contains, Contains-append_left, Contains-get_or, Contains-push}
+use Rattle.std.proofs.lemmas.List.Elements.{Contains-push_cases}
 use Rattle.lane_sieve.specs.Sets.{NumberSet, IsPart, DoMeet}
 use Rattle.axiom_sets.specs.Sets.{Limited, IsWithin}
 use Rattle.pinpointing_specs.specs.Smallest.{AreApart, rest, IsMinimalYes, HasPart, IsExplored}
@@ -16,12 +18,17 @@ use Rattle.hitting_set_tree.specs.declared.frames.Node.{Node}
 use Rattle.hitting_set_tree.specs.declared.frames.Look.TheVariants.{Done}
 use Rattle.hitting_set_tree.specs.Territory.{InNode, InFrame, IsFrame, IsNextChild, Frames, Looks}
 use Rattle.hitting_set_tree.specs.Weight.{weight, frame_weight, node_weight, free_count}
-use Rattle.hitting_set_tree.specs.Tree.{Lists, with_frame, HoldsLists, AreSettledOrOpen, IsCovered, IsOutstanding, IsStep}
+use Rattle.hitting_set_tree.specs.Tree.{Lists, with_frame, HoldsLists, AreSettledOrOpen, IsCovered, IsOutstanding}
+use Rattle.hitting_set_tree.specs.Tree.{IsStep}
 use Rattle.hitting_set_tree.proofs.Counts.{pow_pos}
 
 pub keeps_minimal : (m m' : Meaning) → Keeps m m' → (s : Limited) → IsMinimalYes m.holds s → IsMinimalYes m'.holds s
 keeps_minimal m m' keeps s h =
-    record { within = h.within; yes_set = (keeps.same_question s.members).0 h.yes_set; needed = λ k member claim. h.needed k member ((keeps.same_question (set.remove s.members k)).1 claim) }
+    record {
+      within = h.within;
+      yes_set = (keeps.same_question s.members).0 h.yes_set;
+      needed = λ k member claim. h.needed k member ((keeps.same_question (set.remove s.members k)).1 claim);
+    }
 
 pub keeps_listed : (m m' : Meaning) (ls : Lists) → Keeps m m' → HoldsLists m ls → HoldsLists m' ls
 keeps_listed m m' ls keeps h =
@@ -41,17 +48,20 @@ weight_push [] f = omega arith
 weight_push (g ∷ gs) f = omega (arith, weight_push gs f)
 
 -- the same by a push, with the fact for each that was there and for the new one
-pushed : {X : Type 0} (P : X → Type 0) (xs : List X) (y : X) → ((x : X) → Contains xs x → P x) → P y → (x : X) → Contains (xs ++ y ∷ []) x → P x
+pushed : {X : Type 0} (P : X → Type 0) (xs : List X) (y : X) → ((x : X) → Contains xs x → P x) → P y → (x : X)
+    → Contains (xs ++ y ∷ []) x → P x
 pushed P xs y each new x at = elim (Contains-push_cases xs y x at) [ inl old ↦ each x old | inr e ↦ subst P e new ]
 
 abbrev pub with_just : Lists → Limited → Frame → Lists
-with_just ls j f = record { justifications = ls.justifications ++ j ∷ []; leaves = ls.leaves; frames = ls.frames ++ f ∷ [] }
+with_just ls j f =
+    record { justifications = ls.justifications ++ j ∷ []; leaves = ls.leaves; frames = ls.frames ++ f ∷ [] }
 
 abbrev pub with_leaf : Lists → Limited → Lists
 with_leaf ls l = record { justifications = ls.justifications; leaves = ls.leaves ++ l ∷ []; frames = ls.frames }
 
 module _ (m : Meaning) (ls : Lists) (node : Node) (listed : HoldsLists m ls) where
-  pub step_spent : m.left ≡ 0 → AreSettledOrOpen m ls.justifications ls.leaves → IsOutstanding ls node → IsStep m ls ls (InNode node) (node_weight node) false
+  pub step_spent : m.left ≡ 0 → AreSettledOrOpen m ls.justifications ls.leaves → IsOutstanding ls node
+      → IsStep m ls ls (InNode node) (node_weight node) false
   step_spent none left out = record {
     listed = listed;
     covered = λ e. absurd (true≢false (sym e));
@@ -69,7 +79,8 @@ module _ (m : Meaning) (ls : Lists) (node : Node) (listed : HoldsLists m ls) whe
         listed = listed;
         covered = λ _ before t meets. elim (before t meets) [
           | inl known ↦ inl known
-          | inr r ↦ elim r [ inl ahead ↦ inr (inl ahead) | inr inside ↦ inl (leaf.0, leaf.1, λ k h. inside.0 k (leaf.2 k h)) ]
+          | inr r ↦
+              elim r [ inl ahead ↦ inr (inl ahead) | inr inside ↦ inl (leaf.0, leaf.1, λ k h. inside.0 k (leaf.2 k h)) ]
         ];
         lighter = λ _. omega (arith, pow_pos (free_count node.hit node.barred));
         spent = λ e. absurd (true≢false e);
@@ -78,7 +89,8 @@ module _ (m : Meaning) (ls : Lists) (node : Node) (listed : HoldsLists m ls) whe
         grows = λ j at. at;
       }
 
-  pub step_leaf : node.hit.limit ≡ m.size → IsWithin node.hit.limit node.hit.members → ¬ m.holds (rest node.hit) → m.shown_no (rest node.hit) → IsStep m ls (with_leaf ls node.hit) (InNode node) (node_weight node) true
+  pub step_leaf : node.hit.limit ≡ m.size → IsWithin node.hit.limit node.hit.members → ¬ m.holds (rest node.hit)
+      → m.shown_no (rest node.hit) → IsStep m ls (with_leaf ls node.hit) (InNode node) (node_weight node) true
   step_leaf e within ends shown =
       record {
         listed = record {
@@ -86,13 +98,16 @@ module _ (m : Meaning) (ls : Lists) (node : Node) (listed : HoldsLists m ls) whe
           smallest = listed.smallest;
           shown_yes = listed.shown_yes;
           leaf_limits = pushed (λ (l : Limited). l.limit ≡ m.size) ls.leaves node.hit listed.leaf_limits e;
-          ends = pushed (λ (l : Limited). IsWithin l.limit l.members × ¬ m.holds (rest l)) ls.leaves node.hit listed.ends (within, ends);
+          ends =
+              pushed (λ (l : Limited). IsWithin l.limit l.members × ¬ m.holds (rest l)) ls.leaves node.hit listed.ends
+              (within, ends);
           shown_no = pushed (λ (l : Limited). m.shown_no (rest l)) ls.leaves node.hit listed.shown_no shown;
           frames = listed.frames;
         };
         covered = λ _ before t meets. elim (before t meets) [
           | inl known ↦ inl (known.0, Contains-append_left ls.leaves (node.hit ∷ []) known.0 known.1, known.2)
-          | inr r ↦ elim r [ inl ahead ↦ inr (inl ahead) | inr inside ↦ inl (node.hit, Contains-push ls.leaves node.hit, inside.0) ]
+          | inr r ↦ elim r
+              [ inl ahead ↦ inr (inl ahead) | inr inside ↦ inl (node.hit, Contains-push ls.leaves node.hit, inside.0) ]
         ];
         lighter = λ _. omega (arith, pow_pos (free_count node.hit node.barred));
         spent = λ e. absurd (true≢false e);
@@ -102,9 +117,12 @@ module _ (m : Meaning) (ls : Lists) (node : Node) (listed : HoldsLists m ls) whe
       }
 
   -- a frame takes over from its node, whose label each set meets
-  framed : (justifications : List Limited) (j : Limited) (f : Frame) → node.hit.limit ≡ m.size → Frames node j f → Contains justifications j
+  framed : (justifications : List Limited) (j : Limited) (f : Frame) → node.hit.limit ≡ m.size → Frames node j f
+      → Contains justifications j
       → ((x : Limited) → Contains ls.justifications x → Contains justifications x)
-      → IsCovered ls (InNode node) → IsCovered (record { justifications = justifications; leaves = ls.leaves; frames = ls.frames ++ f ∷ [] }) (λ _. ⊥)
+      → IsCovered ls (InNode node)
+      → IsCovered (record { justifications = justifications; leaves = ls.leaves; frames = ls.frames ++ f ∷ [] })
+      (λ _. ⊥)
   framed justifications j f e stands at more before t meets =
       elim (before t (λ x x_at. meets x (more x x_at))) [
         | inl known ↦ inl known
@@ -114,7 +132,8 @@ module _ (m : Meaning) (ls : Lists) (node : Node) (listed : HoldsLists m ls) whe
         ]
       ]
 
-  pub step_just : (j : Limited) (f : Frame) → node.hit.limit ≡ m.size → j.limit ≡ m.size → IsMinimalYes m.holds j → m.shown_yes j.members → Frames node j f → IsStep m ls (with_just ls j f) (InNode node) (node_weight node) true
+  pub step_just : (j : Limited) (f : Frame) → node.hit.limit ≡ m.size → j.limit ≡ m.size → IsMinimalYes m.holds j
+      → m.shown_yes j.members → Frames node j f → IsStep m ls (with_just ls j f) (InNode node) (node_weight node) true
   step_just j f e limit smallest shown stands =
       record {
         listed = record {
@@ -124,9 +143,13 @@ module _ (m : Meaning) (ls : Lists) (node : Node) (listed : HoldsLists m ls) whe
           leaf_limits = listed.leaf_limits;
           ends = listed.ends;
           shown_no = listed.shown_no;
-          frames = pushed (λ (x : Frame). IsFrame m.size x) ls.frames f listed.frames (subst (λ (n : ℕ). IsFrame n f) e stands.good);
+          frames =
+              pushed (λ (x : Frame). IsFrame m.size x) ls.frames f listed.frames
+              (subst (λ (n : ℕ). IsFrame n f) e stands.good);
         };
-        covered = λ _. framed (ls.justifications ++ j ∷ []) j f e stands (Contains-push ls.justifications j) (λ x at. Contains-append_left ls.justifications (j ∷ []) x at);
+        covered =
+            λ _. framed (ls.justifications ++ j ∷ []) j f e stands (Contains-push ls.justifications j)
+            (λ x at. Contains-append_left ls.justifications (j ∷ []) x at);
         lighter = λ _. omega (arith, weight_push ls.frames f, stands.lighter);
         spent = λ e. absurd (true≢false e);
         lacks = λ e. absurd (true≢false e);
@@ -134,7 +157,8 @@ module _ (m : Meaning) (ls : Lists) (node : Node) (listed : HoldsLists m ls) whe
         grows = λ x at. Contains-append_left ls.justifications (j ∷ []) x at;
       }
 
-  pub step_frame : (j : Limited) (f : Frame) → node.hit.limit ≡ m.size → Contains ls.justifications j → Frames node j f → IsStep m ls (with_frame ls f) (InNode node) (node_weight node) true
+  pub step_frame : (j : Limited) (f : Frame) → node.hit.limit ≡ m.size → Contains ls.justifications j → Frames node j f
+      → IsStep m ls (with_frame ls f) (InNode node) (node_weight node) true
   step_frame j f e at stands =
       record {
         listed = record {
@@ -144,7 +168,9 @@ module _ (m : Meaning) (ls : Lists) (node : Node) (listed : HoldsLists m ls) whe
           leaf_limits = listed.leaf_limits;
           ends = listed.ends;
           shown_no = listed.shown_no;
-          frames = pushed (λ (x : Frame). IsFrame m.size x) ls.frames f listed.frames (subst (λ (n : ℕ). IsFrame n f) e stands.good);
+          frames =
+              pushed (λ (x : Frame). IsFrame m.size x) ls.frames f listed.frames
+              (subst (λ (n : ℕ). IsFrame n f) e stands.good);
         };
         covered = λ _. framed ls.justifications j f e stands at (λ x x_at. x_at);
         lighter = λ _. omega (arith, weight_push ls.frames f, stands.lighter);
@@ -159,7 +185,8 @@ pub apart_from_rest : (s : Limited) (p j : NumberSet) → IsPart j p → IsPart 
 apart_from_rest s p j inside part k h = in_rest s k (part k (inside k h))
 
 -- a frame whose child was looked at
-pub step_child : (m : Meaning) (ls new : Lists) (frame left : Frame) (node : Node) (went_on : Bool) → IsNextChild frame left node → IsStep m (with_frame ls left) new (InNode node) (node_weight node) went_on
+pub step_child : (m : Meaning) (ls new : Lists) (frame left : Frame) (node : Node) (went_on : Bool)
+    → IsNextChild frame left node → IsStep m (with_frame ls left) new (InNode node) (node_weight node) went_on
     → IsStep m ls new (InFrame frame) (frame_weight frame) went_on
 step_child m ls new frame left node went_on looks step =
     record {
@@ -168,7 +195,8 @@ step_child m ls new frame left node went_on looks step =
         | inl known ↦ inl known
         | inr r ↦ elim r [
           | inl ahead ↦ inr (inl (ahead.0, Contains-append_left ls.frames (left ∷ []) ahead.0 ahead.1, ahead.2))
-          | inr inside ↦ elim (looks.splits t inside) [ inl stays ↦ inr (inl (left, Contains-push ls.frames left, stays)) | inr goes ↦ inr (inr goes) ]
+          | inr inside ↦ elim (looks.splits t inside)
+              [ inl stays ↦ inr (inl (left, Contains-push ls.frames left, stays)) | inr goes ↦ inr (inr goes) ]
         ]
       ]);
       lighter = λ e. omega (arith, step.lighter e, weight_push ls.frames left, looks.lighter);
@@ -179,7 +207,8 @@ step_child m ls new frame left node went_on looks step =
     }
 
 -- a frame that has no child left
-pub step_done : (m : Meaning) (ls : Lists) (frame left : Frame) → HoldsLists m ls → Looks frame left Done → IsStep m ls ls (InFrame frame) (frame_weight frame) true
+pub step_done : (m : Meaning) (ls : Lists) (frame left : Frame) → HoldsLists m ls → Looks frame left Done
+    → IsStep m ls ls (InFrame frame) (frame_weight frame) true
 step_done m ls frame left listed looks =
     record {
       listed = listed;
@@ -195,7 +224,8 @@ step_done m ls frame left listed looks =
     }
 
 -- the frame that was taken off the lists
-pub listed_with : (m : Meaning) (ls : Lists) (f : Frame) → HoldsLists m ls → IsFrame m.size f → HoldsLists m (with_frame ls f)
+pub listed_with : (m : Meaning) (ls : Lists) (f : Frame) → HoldsLists m ls → IsFrame m.size f
+    → HoldsLists m (with_frame ls f)
 listed_with m ls f listed good =
     record {
       just_limits = listed.just_limits;
@@ -210,7 +240,8 @@ listed_with m ls f listed good =
 in_none : (f : Frame) → ¬ Contains {X = Frame} [] f
 in_none f at = absurd (omega (arith, at.1))
 
-pub explored : (m : Meaning) (ls : Lists) → ls.frames ≡ [] → HoldsLists m ls → IsCovered ls (λ _. ⊥) → IsExplored m.holds m.size ls.justifications ls.leaves
+pub explored : (m : Meaning) (ls : Lists) → ls.frames ≡ [] → HoldsLists m ls → IsCovered ls (λ _. ⊥)
+    → IsExplored m.holds m.size ls.justifications ls.leaves
 explored m ls none listed covered =
     record {
       limits = listed.just_limits;
@@ -219,14 +250,19 @@ explored m ls none listed covered =
       ends = listed.ends;
       covered = λ t meets. elim (covered t meets) [
         | inl leaf ↦ leaf
-        | inr r ↦ elim r [ inl ahead ↦ absurd (in_none ahead.0 (subst (λ (fs : List Frame). Contains fs ahead.0) none ahead.1)) | inr never ↦ absurd never ]
+        | inr r ↦ elim r [
+          | inl ahead ↦ absurd (in_none ahead.0 (subst (λ (fs : List Frame). Contains fs ahead.0) none ahead.1))
+          | inr never ↦ absurd never
+        ]
       ];
     }
 
-pub all_limits : (xs : List Limited) (n n' : ℕ) → ((x : Limited) → Contains xs x → x.limit ≡ n) → n' ≡ n → (k : ℕ) (d : Limited) → k < length xs → (get_or xs k d).limit ≡ n'
+pub all_limits : (xs : List Limited) (n n' : ℕ) → ((x : Limited) → Contains xs x → x.limit ≡ n) → n' ≡ n
+    → (k : ℕ) (d : Limited) → k < length xs → (get_or xs k d).limit ≡ n'
 all_limits xs n n' each e k d lt = each (get_or xs k d) (Contains-get_or xs k d lt) ∙ sym e
 
-pub all_frames : (xs : List Frame) (n : ℕ) → ((x : Frame) → Contains xs x → IsFrame n x) → (k : ℕ) (d : Frame) → k < length xs → IsFrame n (get_or xs k d)
+pub all_frames : (xs : List Frame) (n : ℕ) → ((x : Frame) → Contains xs x → IsFrame n x) → (k : ℕ) (d : Frame)
+    → k < length xs → IsFrame n (get_or xs k d)
 all_frames xs n each k d lt = each (get_or xs k d) (Contains-get_or xs k d lt)
 
 pub some_of : (o : Option ℕ) (P Q : ℕ → Type 0) → is_some o ≡ true → IfSome o P → IfSome o Q → (n : ℕ) × P n × Q n
@@ -236,8 +272,10 @@ some_of (Some n) P Q e p q = (n, p, q)
 pub none_in : (s : NumberSet) → s ≡ set.empty → (k : ℕ) → set.contains s k ≡ true → ⊥
 none_in s e k h = true≢false (sym h ∙ ap (λ (x : NumberSet). set.contains x k) e ∙ set.contains-empty nat_cmp k)
 
-pub root_covered : (node : Node) → node.hit.members ≡ set.empty → node.barred.members ≡ set.empty → IsCovered (record { justifications = []; leaves = []; frames = [] }) (InNode node)
-root_covered node hit barred t meets = inr (inr (λ k h. absurd (none_in node.hit.members hit k h), λ k h. absurd (none_in node.barred.members barred k h)))
+pub root_covered : (node : Node) → node.hit.members ≡ set.empty → node.barred.members ≡ set.empty
+    → IsCovered (record { justifications = []; leaves = []; frames = [] }) (InNode node)
+root_covered node hit barred t meets =
+    inr (inr (λ k h. absurd (none_in node.hit.members hit k h), λ k h. absurd (none_in node.barred.members barred k h)))
 
 -- ---- the last frame is taken off
 
@@ -272,11 +310,14 @@ uncovered ls f covered t meets =
 -- ---- a node that is outstanding
 
 -- no listed set is apart from it, and no leaf is part of it
-pub outstanding : (ls : Lists) (node : Node) (justifications leaves : List Limited) → justifications ≡ ls.justifications → leaves ≡ ls.leaves → All (λ s. DoMeet s.members node.hit.members) justifications
+pub outstanding : (ls : Lists) (node : Node) (justifications leaves : List Limited) → justifications ≡ ls.justifications
+    → leaves ≡ ls.leaves → All (λ s. DoMeet s.members node.hit.members) justifications
     → All (λ s. ¬ IsPart s.members node.hit.members) leaves → IsOutstanding ls node
 outstanding ls node justifications leaves js lvs meet none = (
-  λ j at. All-contains (λ s. DoMeet s.members node.hit.members) justifications j meet (subst (λ (xs : List Limited). Contains xs j) (sym js) at),
-  λ part. All-contains (λ s. ¬ IsPart s.members node.hit.members) leaves part.0 none (subst (λ (xs : List Limited). Contains xs part.0) (sym lvs) part.1) part.2,
+  λ j at. All-contains (λ s. DoMeet s.members node.hit.members) justifications j meet
+      (subst (λ (xs : List Limited). Contains xs j) (sym js) at),
+  λ part. All-contains (λ s. ¬ IsPart s.members node.hit.members) leaves part.0 none
+      (subst (λ (xs : List Limited). Contains xs part.0) (sym lvs) part.1) part.2,
 )
 
 -- what holds where there is none

@@ -24,9 +24,11 @@ pub record IsFound (m : Meaning) (f : Found) : Type 0 where
   pub limits : HaveOneLimit (f.justifications.items ++ f.leaves.items)
   -- the taken nodes are those of a hitting-set tree, and settled, the last one apart where the budget was spent
   pub nodes : AreNodes f.justifications.items m.taken
-  pub settled : AreSettled f.justifications.items f.leaves.items m.taken (cond f.finished (length m.taken) (length m.taken - 1))
+  pub settled : AreSettled f.justifications.items f.leaves.items m.taken
+      (cond f.finished (length m.taken) (length m.taken - 1))
   -- a finished list is whole, and one that is not finished is not: nothing is told as partial that lacks nothing
-  pub all : f.finished ≡ true → (s : Limited) → s.limit ≡ m.size → IsMinimalYes m.holds s → Contains f.justifications.items s
+  pub all : f.finished ≡ true → (s : Limited) → s.limit ≡ m.size → IsMinimalYes m.holds s
+      → Contains f.justifications.items s
   pub explored : f.finished ≡ true → IsExplored m.holds m.size f.justifications.items f.leaves.items
   pub spent : f.finished ≡ false → m.left ≡ 0
   pub lacks : f.finished ≡ false → LacksSome f.justifications.items f.leaves.items

@@ -1,5 +1,6 @@
 -- Which nodes were taken, and why none is taken twice: no taken set is still to be looked at.
-use Rattle.std.specs.Prelude.{◌≡◌, ℕ, ◌+◌, ◌-◌, ◌*◌, ◌<◌, ◌≤◌, true, false, Bool, List, length, take, slice_index_or, cond}
+use Rattle.std.specs.Prelude.{◌≡◌, ℕ, ◌+◌, ◌-◌, ◌*◌, ◌<◌, ◌≤◌, true, false, Bool, List, length, take, slice_index_or}
+use Rattle.std.specs.Prelude.{cond}
 use Rattle.std.specs.FinSet as set
 use Rattle.std.specs.List.{Contains}
 use Rattle.lane_sieve.specs.Sets.{NumberSet}
@@ -15,13 +16,16 @@ use Rattle.hitting_set_tree.specs.Tree.{Lists}
 -- hits more than each frame does, and it is a child of the last one
 pub record Stands (below : List Frame) (hit : Limited) (scope : NumberSet → Type 0) : Type 0 where
   pub apart : (g : Frame) → Contains below g → (t : NumberSet) → scope t → ¬ InFrame g t
-  pub more : (g : Frame) → Contains below g → (k : ℕ) × (set.contains hit.members k ≡ true) × (set.contains g.hit.members k ≡ false)
+  pub more : (g : Frame) → Contains below g
+      → (k : ℕ) × (set.contains hit.members k ≡ true) × (set.contains g.hit.members k ≡ false)
   pub root : length below ≡ 0 → hit.members ≡ set.empty
-  pub child : (d : Frame) → 0 < length below → IsChild (slice_index_or below (length below - 1) d).hit (slice_index_or below (length below - 1) d).label hit
+  pub child : (d : Frame) → 0 < length below
+      → IsChild (slice_index_or below (length below - 1) d).hit (slice_index_or below (length below - 1) d).label hit
 
 -- each frame stands on those before it
 abbrev pub IsBuilt : List Frame → Type 0
-IsBuilt fs = (i : ℕ) (d : Frame) → i < length fs → Stands (take i fs) (slice_index_or fs i d).hit (InScope (slice_index_or fs i d))
+IsBuilt fs = (i : ℕ) (d : Frame) → i < length fs
+    → Stands (take i fs) (slice_index_or fs i d).hit (InScope (slice_index_or fs i d))
 
 -- between two looks: the nodes of the first `rooted` frames were taken, and all taken nodes are settled; none of the
 -- others is, nor is a set that is still to be looked at
@@ -33,9 +37,11 @@ pub record IsOpen (taken : List Limited) (ls : Lists) (rooted : ℕ) (label : �
   pub built : IsBuilt ls.frames
   pub labels : (f : Frame) → Contains ls.frames f → Contains ls.justifications f.label
   pub ahead : (f : Frame) → Contains ls.frames f → (t : Limited) → Contains taken t → ¬ InFrame f t.members
-  pub fresh : (i : ℕ) (d : Frame) → rooted ≤ i → i < length ls.frames → (t : Limited) → Contains taken t → ¬ InScope (slice_index_or ls.frames i d) t.members
+  pub fresh : (i : ℕ) (d : Frame) → rooted ≤ i → i < length ls.frames → (t : Limited) → Contains taken t
+      → ¬ InScope (slice_index_or ls.frames i d) t.members
   pub placed : (i : ℕ) (d : Frame) (e : Limited) → i < rooted
-      → (p : ℕ) × (p < length taken) × (slice_index_or taken p e ≡ (slice_index_or ls.frames i d).hit) × (label p ≡ (slice_index_or ls.frames i d).label)
+      → (p : ℕ) × (p < length taken) × (slice_index_or taken p e ≡ (slice_index_or ls.frames i d).hit)
+      × (label p ≡ (slice_index_or ls.frames i d).label)
 
 -- a node that is looked at beside the frames
 pub record IsBeside (taken : List Limited) (frames : List Frame) (node : Node) : Type 0 where
@@ -53,7 +59,8 @@ pub record IsPending (taken : List Limited) (ls : Lists) (node : Node) (label : 
   pub labels : (f : Frame) → Contains ls.frames f → Contains ls.justifications f.label
   pub ahead : (f : Frame) → Contains ls.frames f → (t : Limited) → Contains taken t → ¬ InFrame f t.members
   pub placed : (i : ℕ) (d : Frame) (e : Limited) → i < length ls.frames
-      → (p : ℕ) × (p + 1 < length taken) × (slice_index_or taken p e ≡ (slice_index_or ls.frames i d).hit) × (label p ≡ (slice_index_or ls.frames i d).label)
+      → (p : ℕ) × (p + 1 < length taken) × (slice_index_or taken p e ≡ (slice_index_or ls.frames i d).hit)
+      × (label p ≡ (slice_index_or ls.frames i d).label)
   pub stands : Stands ls.frames node.hit (InNode node)
   pub fresh : (t : Limited) → Contains taken t → InNode node t.members → t.members ≡ node.hit.members
 
@@ -77,11 +84,13 @@ StaysOpen taken ls rooted false = IsEnded taken ls
 -- the frames' nodes and the node were taken; or nothing is left, and all taken nodes are settled
 abbrev pub TakesPath : Meaning → Lists → Node → Bool → Type 0
 TakesPath m ls node true = HasPending m.taken ls node
-TakesPath m ls node false = IsEnded m.taken ls × (m.left ≡ 0) × AreSettled ls.justifications ls.leaves m.taken (length m.taken)
+TakesPath m ls node false = IsEnded m.taken ls × (m.left ≡ 0)
+    × AreSettled ls.justifications ls.leaves m.taken (length m.taken)
 
 -- in the end all taken nodes are settled where the budget sufficed
 abbrev pub Closes : List Limited → Lists → Bool → Type 0
-Closes taken ls finished = AreNodes ls.justifications taken × ((l : Limited) → Contains ls.leaves l → Contains taken l) × AreSettled ls.justifications ls.leaves taken (cond finished (length taken) (length taken - 1))
+Closes taken ls finished = AreNodes ls.justifications taken × ((l : Limited) → Contains ls.leaves l → Contains taken l)
+    × AreSettled ls.justifications ls.leaves taken (cond finished (length taken) (length taken - 1))
 
 -- from m to m' no more than size + 1 asks were made for each node that was taken
 abbrev pub AsksFew : ℕ → Meaning → Meaning → Type 0

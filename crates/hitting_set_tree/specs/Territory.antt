@@ -17,7 +17,9 @@ InNode n t = IsPart n.hit.members t × AreApart n.barred.members t
 
 -- the sets with all that a frame hits and no barred number but those ahead: those of the frame's node
 abbrev pub InScope : Frame → NumberSet → Type 0
-InScope f t = IsPart f.hit.members t × ((k : ℕ) → set.contains f.barred.members k ≡ true → set.contains f.ahead.members k ≡ false → set.contains t k ≡ false)
+InScope f t = IsPart f.hit.members t
+    × ((k : ℕ) → set.contains f.barred.members k ≡ true → set.contains f.ahead.members k ≡ false
+    → set.contains t k ≡ false)
 
 -- those of them with a number ahead
 abbrev pub InFrame : Frame → NumberSet → Type 0

@@ -1,5 +1,6 @@
 -- What the tree knows, and what is still to be looked at.
-use Rattle.std.specs.Prelude.{◌≡◌, ◌⊎◌, ◌++◌, ◌∷◌, [], ℕ, ◌+◌, ◌<◌, ◌≤◌, true, false, Bool, List, length, slice_index_or}
+use Rattle.std.specs.Prelude.{◌≡◌, ◌⊎◌, ◌++◌, ◌∷◌, [], ℕ, ◌+◌, ◌<◌, ◌≤◌, true, false, Bool, List, length}
+use Rattle.std.specs.Prelude.{slice_index_or}
 use Rattle.std.specs.List.{Contains}
 use Rattle.lane_sieve.specs.Sets.{NumberSet, IsPart}
 use Rattle.axiom_sets.specs.Sets.{Limited, IsWithin}
@@ -65,7 +66,8 @@ pub record AddsLeaf (old new : Lists) (rooted : ℕ) (node : Node) : Type 0 wher
 
 -- a set that meets each listed one has a leaf as part, or is still to be looked at
 abbrev pub IsCovered : Lists → (NumberSet → Type 0) → Type 0
-IsCovered ls beside = (t : NumberSet) → MeetsEach ls.justifications t → HasPart ls.leaves t ⊎ (InFrames ls.frames t ⊎ beside t)
+IsCovered ls beside = (t : NumberSet) → MeetsEach ls.justifications t
+    → HasPart ls.leaves t ⊎ (InFrames ls.frames t ⊎ beside t)
 
 -- the lists are not whole: some set meets each listed one and has no leaf as part
 abbrev pub LacksSome : List Limited → List Limited → Type 0
@@ -79,13 +81,15 @@ KeepsAll old new = (j : Limited) → Contains old j → Contains new j
 -- of which it was shown that it is a leaf
 abbrev pub AreSettledOrOpen : Meaning → List Limited → List Limited → Type 0
 AreSettledOrOpen m justifications leaves = (k : ℕ) (d : Limited) → k < length m.taken
-    → IsSettled justifications leaves (slice_index_or m.taken k d) ⊎ (m.holds (rest (slice_index_or m.taken k d)) ⊎ m.unknown (rest (slice_index_or m.taken k d)))
+    → IsSettled justifications leaves (slice_index_or m.taken k d)
+    ⊎ (m.holds (rest (slice_index_or m.taken k d)) ⊎ m.unknown (rest (slice_index_or m.taken k d)))
 
 -- the set has a listed set as part; or, where the budget was spent, a yes-set of which no answer says whether it is a
 -- smallest one
 abbrev pub HasFoundIn : Meaning → List Limited → NumberSet → Bool → Type 0
 HasFoundIn m justifications s true = HasPart justifications s
-HasFoundIn m justifications s false = HasPart justifications s ⊎ ((kept : Limited) × IsPart kept.members s × IsUndecided m kept)
+HasFoundIn m justifications s false = HasPart justifications s
+    ⊎ ((kept : Limited) × IsPart kept.members s × IsUndecided m kept)
 
 abbrev pub HasFoundNamed : Meaning → List Limited → Reply → Bool → Type 0
 HasFoundNamed m justifications (Yes part) went_on = HasFoundIn m justifications part.members went_on
@@ -94,7 +98,8 @@ HasFoundNamed m justifications Spent went_on = Unit {0}
 
 -- nothing is lost of what was shown from m to m'
 abbrev pub ListsShown : Meaning → Meaning → List Limited → Bool → Type 0
-ListsShown m m' justifications went_on = (s : NumberSet) → m'.shown_yes s → m.shown_yes s ⊎ HasFoundIn m' justifications s went_on
+ListsShown m m' justifications went_on = (s : NumberSet) → m'.shown_yes s
+    → m.shown_yes s ⊎ HasFoundIn m' justifications s went_on
 
 -- so it is by this node
 abbrev pub IsOutstanding : Lists → Node → Type 0
@@ -102,7 +107,8 @@ IsOutstanding ls node = MeetsEach ls.justifications node.hit.members × (¬ HasP
 
 -- what a look at a node or a frame does, which stands for the sets `beside` and weighs `heavy`: where the budget
 -- sufficed, the lists take these sets over, and weigh less
-pub record IsStep (m : Meaning) (old new : Lists) (beside : NumberSet → Type 0) (heavy : ℕ) (went_on : Bool) : Type 0 where
+pub record IsStep (m : Meaning) (old new : Lists) (beside : NumberSet → Type 0) (heavy : ℕ) (went_on : Bool) :
+    Type 0 where
   pub listed : HoldsLists m new
   pub covered : went_on ≡ true → IsCovered old beside → IsCovered new (λ _. ⊥)
   pub lighter : went_on ≡ true → weight new.frames + 1 ≤ weight old.frames + heavy

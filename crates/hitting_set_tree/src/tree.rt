@@ -11,7 +11,8 @@ ghost use Rattle.set_questions.specs.Meaning.{Keeps, ShowsTheSame};
 ghost use Rattle.set_questions.specs.Asked.{Answers, IsUnknownIf};
 ghost use Rattle.hitting_set_tree.specs.Territory.{IsNode, IsFrame, InNode, InFrame, Frames};
 ghost use Rattle.hitting_set_tree.specs.Weight.{node_weight, frame_weight};
-ghost use Rattle.hitting_set_tree.specs.Tree.{lists, with_frame, others, HoldsLists, AreFrames, IsCovered, IsOutstanding, IsStep, IsGrown, AddsLabel, AddsLeaf};
+ghost use Rattle.hitting_set_tree.specs.Tree.{lists, with_frame, others, HoldsLists, AreFrames, IsCovered};
+ghost use Rattle.hitting_set_tree.specs.Tree.{IsOutstanding, IsStep, IsGrown, AddsLabel, AddsLeaf};
 ghost use Rattle.hitting_set_tree.specs.Tree.{HasFoundIn, HasFoundNamed, ListsShown, KeepsAll};
 ghost use Rattle.hitting_set_tree.specs.Open.{HasOpen, HasPending, IsBeside, StaysOpen, TakesPath, Closes, AsksFew};
 ghost use Rattle.hitting_set_tree.specs.Found.{IsFound, ListsAllShown, HasTree};
@@ -110,7 +111,8 @@ fn grow<E: Entail>(
     ensures same { E.origin entail.new ≡ E.origin entail.old }
     ensures closed { IfOk result (Closes (E.meaning entail.new).taken (lists tree.new)) }
     ensures grown { IfOk result (IsGrown (E.meaning entail.new) (lists tree.new)) }
-    ensures shown { IfOk result (ListsShown (E.meaning entail.old) (E.meaning entail.new) (lists tree.new).justifications) }
+    ensures shown { IfOk result
+        (ListsShown (E.meaning entail.old) (E.meaning entail.new) (lists tree.new).justifications) }
     ensures begun { OnErr result (HasTree (E.meaning entail.new)) }
     ensures asked { AsksFew (E.meaning entail.old).size (E.meaning entail.old) (E.meaning entail.new) }
 {
@@ -131,7 +133,8 @@ fn run<E: Entail>(alloc: Global, entail: &mut E, tree: &mut Tree) -> Result<bool
     ensures closed { IfOk result (Closes (E.meaning entail.new).taken (lists tree.new)) }
     ensures grown { IfOk result (IsGrown (E.meaning entail.new) (lists tree.new)) }
     ensures grows { OnOk result (KeepsAll (lists tree.old).justifications (lists tree.new).justifications) }
-    ensures shown { IfOk result (ListsShown (E.meaning entail.old) (E.meaning entail.new) (lists tree.new).justifications) }
+    ensures shown { IfOk result
+        (ListsShown (E.meaning entail.old) (E.meaning entail.new) (lists tree.new).justifications) }
     ensures begun { OnErr result (HasTree (E.meaning entail.new)) }
     ensures asked { AsksFew (E.meaning entail.old).size (E.meaning entail.old) (E.meaning entail.new) }
 {
@@ -159,7 +162,8 @@ fn look_on<E: Entail>(
     ensures open { IfOk result (StaysOpen (E.meaning entail.new).taken (lists tree.new) tree.new.rooted) }
     ensures step { IfOk result
         (IsStep (E.meaning entail.new) (lists tree.old) (lists tree.new) (InFrame frame) (frame_weight frame)) }
-    ensures shown { IfOk result (ListsShown (E.meaning entail.old) (E.meaning entail.new) (lists tree.new).justifications) }
+    ensures shown { IfOk result
+        (ListsShown (E.meaning entail.old) (E.meaning entail.new) (lists tree.new).justifications) }
     ensures begun { OnErr result (HasTree (E.meaning entail.new)) }
     ensures asked { AsksFew (E.meaning entail.old).size (E.meaning entail.old) (E.meaning entail.new) }
 {
@@ -193,7 +197,8 @@ fn visit<E: Entail>(
     ensures open { IfOk result (StaysOpen (E.meaning entail.new).taken (lists tree.new) tree.new.rooted) }
     ensures step { IfOk result
         (IsStep (E.meaning entail.new) (lists tree.old) (lists tree.new) (InNode node) (node_weight node)) }
-    ensures shown { IfOk result (ListsShown (E.meaning entail.old) (E.meaning entail.new) (lists tree.new).justifications) }
+    ensures shown { IfOk result
+        (ListsShown (E.meaning entail.old) (E.meaning entail.new) (lists tree.new).justifications) }
     ensures begun { OnErr result (HasTree (E.meaning entail.new)) }
     ensures asked { AsksFew (E.meaning entail.old).size (E.meaning entail.old) (E.meaning entail.new) }
 {
@@ -237,7 +242,8 @@ fn take_and_ask<E: Entail>(
     ensures open { IfOk result (StaysOpen (E.meaning entail.new).taken (lists tree.new) tree.new.rooted) }
     ensures step { IfOk result
         (IsStep (E.meaning entail.new) (lists tree.old) (lists tree.new) (InNode node) (node_weight node)) }
-    ensures shown { IfOk result (ListsShown (E.meaning entail.old) (E.meaning entail.new) (lists tree.new).justifications) }
+    ensures shown { IfOk result
+        (ListsShown (E.meaning entail.old) (E.meaning entail.new) (lists tree.new).justifications) }
     ensures begun { OnErr result (HasTree (E.meaning entail.new)) }
     ensures asked { AsksFew (E.meaning entail.old).size (E.meaning entail.old) (E.meaning entail.new) }
 {
@@ -291,7 +297,8 @@ fn ask_node<E: Entail>(
     ensures open { IfOk result (StaysOpen (E.meaning entail.new).taken (lists tree.new) tree.new.rooted) }
     ensures step { IfOk result
         (IsStep (E.meaning entail.new) (lists tree.old) (lists tree.new) (InNode node) (node_weight node)) }
-    ensures shown { IfOk result (ListsShown (E.meaning entail.old) (E.meaning entail.new) (lists tree.new).justifications) }
+    ensures shown { IfOk result
+        (ListsShown (E.meaning entail.old) (E.meaning entail.new) (lists tree.new).justifications) }
     ensures begun { OnErr result (HasTree (E.meaning entail.new)) }
     ensures asked { (E.meaning entail.new).asks ≤ (E.meaning entail.old).asks + ((E.meaning entail.old).size + 1) }
 {
@@ -322,7 +329,8 @@ fn settle<E: Entail>(
     ensures step { IfOk result
         (IsStep (E.meaning entail.new) (lists tree.old) (lists tree.new) (InNode node) (node_weight node)) }
     ensures named { IfOk result (HasFoundNamed (E.meaning entail.new) (lists tree.new).justifications answer) }
-    ensures shown { IfOk result (ListsShown (E.meaning entail.old) (E.meaning entail.new) (lists tree.new).justifications) }
+    ensures shown { IfOk result
+        (ListsShown (E.meaning entail.old) (E.meaning entail.new) (lists tree.new).justifications) }
     ensures begun { OnErr result (HasTree (E.meaning entail.new)) }
     ensures asked { (E.meaning entail.new).asks ≤ (E.meaning entail.old).asks + (E.meaning entail.old).size }
 {
@@ -355,7 +363,8 @@ fn label_node<E: Entail>(
     ensures step { IfOk result
         (IsStep (E.meaning entail.new) (lists tree.old) (lists tree.new) (InNode node) (node_weight node)) }
     ensures named { IfOk result (HasFoundIn (E.meaning entail.new) (lists tree.new).justifications part.now.members) }
-    ensures shown { IfOk result (ListsShown (E.meaning entail.old) (E.meaning entail.new) (lists tree.new).justifications) }
+    ensures shown { IfOk result
+        (ListsShown (E.meaning entail.old) (E.meaning entail.new) (lists tree.new).justifications) }
     ensures begun { OnErr result (HasTree (E.meaning entail.new)) }
     ensures asked { (E.meaning entail.new).asks ≤ (E.meaning entail.old).asks + (E.meaning entail.old).size }
 {

@@ -1,5 +1,6 @@
 -- An individual is an instance exactly where some justification of that was found.
-use Rattle.std.proofs.Common.{◌≡◌, ℕ, zero, suc, ◌+◌, ◌≤◌, ◌&&◌, Bool, true, false, List, [], ◌∷◌, length, refl, sym, ◌∙◌, subst, arith, inl, inr, eq-eqb}
+use Rattle.std.proofs.Common.{◌≡◌, ℕ, zero, suc, ◌+◌, ◌≤◌, ◌&&◌, Bool, true, false, List, [], ◌∷◌, length, refl, sym}
+use Rattle.std.proofs.Common.{◌∙◌, subst, arith, inl, inr, eq-eqb}
 use Rattle.std.specs.Prelude.{◌↔◌, nat_le}
 use Rattle.std.specs.List.{Contains}
 use Rattle.std.specs.FinSet as set
@@ -24,7 +25,8 @@ use Rattle.run_log.proofs.Named.{axioms_are, whole_is_set, whole}
 
 numbers_full : (n k : ℕ) → set.contains (numbers_to n) k ≡ (nat_le 1 k && nat_le k n)
 unfolding numbers_to
-numbers_full zero k = let none : (nat_le 1 k && nat_le k 0) ≡ false = grind (arith, nat_tests) in set.contains-empty nat_cmp k ∙ sym none
+numbers_full zero k =
+    let none : (nat_le 1 k && nat_le k 0) ≡ false = grind (arith, nat_tests) in set.contains-empty nat_cmp k ∙ sym none
 numbers_full (suc n) k =
     contains_insert (numbers_to n) (n + 1) k
     ∙ (elim (cases_eq k (n + 1)) [
@@ -56,9 +58,12 @@ module _ (o : Listed) (q : Query) where
 
   some_follows : (j : Limited) → IsJustificationSet o q j → Entails (all_axioms o.axioms) q
   some_follows j x =
-      to_all (grows o.axioms q j.members (numbers_to (length o.axioms)) (λ k in_j. let inside = x.is_one.within k in_j in in_numbers_to (length o.axioms) k inside.0 inside.1) x.is_one.yes_set)
+      to_all (grows o.axioms q j.members (numbers_to (length o.axioms))
+      (λ k in_j. let inside = x.is_one.within k in_j in in_numbers_to (length o.axioms) k inside.0 inside.1)
+      x.is_one.yes_set)
 
-  none_follows : (leaves : List Limited) → IsExplored (FollowsFrom o.axioms q) (length o.axioms) [] leaves → ¬ Entails (all_axioms o.axioms) q
+  none_follows : (leaves : List Limited) → IsExplored (FollowsFrom o.axioms q) (length o.axioms) [] leaves
+      → ¬ Entails (all_axioms o.axioms) q
   none_follows leaves explored h =
       let leaf = explored.covered set.empty (λ j listed. absurd (omega (arith, listed.1))) in
       (explored.ends leaf.0 leaf.1).1 (grows o.axioms q (numbers_to (length o.axioms)) (rest leaf.0) (λ k in_all.
@@ -76,7 +81,10 @@ abbrev pub has_some : List Limited → Bool
 has_some [] = false
 has_some (j ∷ js) = true
 
-pub decided : (o : Listed) (q : Query) (js leaves : List Limited) → ((j : Limited) → Contains js j → IsJustificationSet o q j) → IsExplored (FollowsFrom o.axioms q) (length o.axioms) js leaves
+pub decided : (o : Listed) (q : Query) (js leaves : List Limited)
+    → ((j : Limited) → Contains js j → IsJustificationSet o q j)
+    → IsExplored (FollowsFrom o.axioms q) (length o.axioms) js leaves
     → has_some js ≡ true ↔ Entails (all_axioms o.axioms) q
-decided o q [] leaves are explored = (λ h. (let k : false ≡ true = h in absurd (cc k)), λ h. absurd (none_follows o q leaves explored h))
+decided o q [] leaves are explored =
+    (λ h. (let k : false ≡ true = h in absurd (cc k)), λ h. absurd (none_follows o q leaves explored h))
 decided o q (j ∷ js) leaves are explored = (λ h. some_follows o q j (are j (0, omega arith, refl)), λ h. refl)

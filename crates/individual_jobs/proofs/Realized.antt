@@ -11,7 +11,8 @@ use Rattle.job_inputs.specs.Complaints.{complaint}
 use Rattle.job_inputs.specs.Replies.{unread_answer}
 use Rattle.job_inputs.specs.declared.complaint.Place.TheVariants as P
 use Rattle.job_inputs.specs.declared.status.Status.{Status}
-use Rattle.job_inputs.specs.declared.status.Status.TheVariants.{Done, Rejected, BadWords, BadText, Outside, Limit, ReadFault, WriteFault, Undecided, NoMemory}
+use Rattle.job_inputs.specs.declared.status.Status.TheVariants.{Done, Rejected, BadWords, BadText, Outside, Limit}
+use Rattle.job_inputs.specs.declared.status.Status.TheVariants.{ReadFault, WriteFault, Undecided, NoMemory}
 use Rattle.job_inputs.specs.declared.unread.Unread.{Unread}
 use Rattle.job_inputs.specs.declared.unread.Unread.TheVariants as U
 use Rattle.classification_jobs.specs.Classifications.{OnDocument, IsRefused as IsRefusedDocument}
@@ -39,7 +40,8 @@ module _ (budget : ℕ) (bytes out : List ℕ) (log : List Entry) where
       sym other ∙ ap (λ (a : Answer). is_refusal a.0) x.answer ∙ complaint_refuses P.Document (complaint x.refusal) in
       absurd (cc clash)
 
-  by_status : (s : Status) → UnlessNoMemory s out (BeginsRealization budget bytes log) (IsRefusedDocument bytes out s log)
+  by_status : (s : Status)
+      → UnlessNoMemory s out (BeginsRealization budget bytes log) (IsRefusedDocument bytes out s log)
       → AnswersRealization budget bytes out s log
   by_status NoMemory x = x
   by_status BadText x = x

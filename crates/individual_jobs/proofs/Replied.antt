@@ -13,7 +13,8 @@ use Rattle.job_inputs.specs.declared.complaint.Place.TheVariants as P
 use Rattle.job_inputs.specs.declared.complaint.Sort.{Sort}
 use Rattle.job_inputs.specs.declared.complaint.Sort.TheVariants as S
 use Rattle.job_inputs.specs.declared.status.Status.{Status}
-use Rattle.job_inputs.specs.declared.status.Status.TheVariants.{Done, Rejected, BadWords, BadText, Outside, Limit, ReadFault, WriteFault, Undecided, NoMemory}
+use Rattle.job_inputs.specs.declared.status.Status.TheVariants.{Done, Rejected, BadWords, BadText, Outside, Limit}
+use Rattle.job_inputs.specs.declared.status.Status.TheVariants.{ReadFault, WriteFault, Undecided, NoMemory}
 use Rattle.job_inputs.specs.declared.unread.Unread.{Unread}
 use Rattle.pinpointing_jobs.specs.Memory.{UnlessNoMemory}
 use Rattle.pinpointing_jobs.proofs.Asked.{unread_gives}
@@ -50,7 +51,8 @@ refused_by question bytes out s log x = by x.reply x.refused x.answer
   where
     by : (r : _) → IsRefusedQuestion question bytes r → IsAnswer (reply_answer r) out s → is_refusal s ≡ true
     by _ (document e why) is = ap (λ (a : Answer). is_refusal a.0) is ∙ complaint_refuses P.Document (complaint e)
-    by _ (query o kept e alone why) is = ap (λ (a : Answer). is_refusal a.0) is ∙ complaint_refuses P.Query (complaint e)
+    by _ (query o kept e alone why) is =
+        ap (λ (a : Answer). is_refusal a.0) is ∙ complaint_refuses P.Query (complaint e)
 
 -- ---- ends
 

@@ -45,7 +45,8 @@ one_text_of_instances class b c bytes out text log more first second =
 module _ (o : Listed) (c : Concept) where
   -- a question has one list of all justifications
   same_sets : (q : Asked) (js ks : List Limited) → HasAll Justifications o q js → HasAll Justifications o q ks → js ≡ ks
-  same_sets q js ks x y = same_lists js ks x.order y.order (λ s. (λ h. (y.all s).1 ((x.all s).0 h), λ h. (x.all s).1 ((y.all s).0 h)))
+  same_sets q js ks x y =
+      same_lists js ks x.order y.order (λ s. (λ h. (y.all s).1 ((x.all s).0 h), λ h. (x.all s).1 ((y.all s).0 h)))
 
   abbrev AllHave : List ReasonLists → Type 0
   AllHave rs = (r : ReasonLists) → Contains rs r → HasAllReasons o c r
@@ -58,10 +59,13 @@ module _ (o : Listed) (c : Concept) where
 
   same_one : (r s : ReasonLists) → r.individual ≡ s.individual → HasAllReasons o c r → HasAllReasons o c s → r ≡ s
   same_one r s e x y =
-      let sets : r.justifications ≡ s.justifications = same_sets (instance_query c s.individual) r.justifications s.justifications (subst (λ (a : ℕ). HasAll Justifications o (instance_query c a) r.justifications) e x) y in
+      let sets : r.justifications ≡ s.justifications =
+      same_sets (instance_query c s.individual) r.justifications s.justifications
+      (subst (λ (a : ℕ). HasAll Justifications o (instance_query c a) r.justifications) e x) y in
       λ i. record { individual = e i; justifications = sets i }
 
-  same_reasons : (rs ss : List ReasonLists) → map individual_of rs ≡ map individual_of ss → AllHave rs → AllHave ss → rs ≡ ss
+  same_reasons : (rs ss : List ReasonLists) → map individual_of rs ≡ map individual_of ss → AllHave rs → AllHave ss
+      → rs ≡ ss
   same_reasons [] [] e x y = refl
   same_reasons [] (s ∷ ss) e x y = cc
   same_reasons (r ∷ rs) [] e x y = cc
@@ -73,14 +77,19 @@ module _ (o : Listed) (c : Concept) where
       λ i. one i ∷ rest i
 
   all_reasons : (rs ss : List ReasonLists) → AreReasons o c rs → AreReasons o c ss → rs ≡ ss
-  all_reasons rs ss x y = same_reasons rs ss (one_list o c (map individual_of rs) (map individual_of ss) x.instances y.instances) x.reasons y.reasons
+  all_reasons rs ss x y =
+      same_reasons rs ss (one_list o c (map individual_of rs) (map individual_of ss) x.instances y.instances) x.reasons
+      y.reasons
 
 pub unique : ReasonsAreUnique
 unique class b c bytes out text log more first second =
-    let same = questions (has_element class) bytes first.ontology second.ontology first.query second.query first.is_question second.is_question in
+    let same =
+    questions (has_element class) bytes first.ontology second.ontology first.query second.query first.is_question
+    second.is_question in
     let one = first.so in
     let other = second.so in
     let theirs : AreReasons first.ontology first.query.sub other.reasons =
-    subst (λ (o : Listed). AreReasons o first.query.sub other.reasons) (sym same.0) (subst (λ (q : Asked). AreReasons second.ontology q.sub other.reasons) (sym same.1) other.are_reasons) in
+    subst (λ (o : Listed). AreReasons o first.query.sub other.reasons) (sym same.0)
+    (subst (λ (q : Asked). AreReasons second.ontology q.sub other.reasons) (sym same.1) other.are_reasons) in
     let reasons = all_reasons first.ontology first.query.sub one.reasons other.reasons one.are_reasons theirs in
     one.text ∙ (λ i. reasons_text (same.0 i) (reasons i)) ∙ sym other.text

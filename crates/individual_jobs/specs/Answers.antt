@@ -12,7 +12,8 @@ use Rattle.job_inputs.specs.Answer.{line}
 use Rattle.job_inputs.specs.Questions.{has_element, IsQuestion}
 use Rattle.job_inputs.specs.Refusals.{IsRefused, HasBegun, IsOutOfMemory}
 use Rattle.job_inputs.specs.declared.status.Status.{Status}
-use Rattle.job_inputs.specs.declared.status.Status.TheVariants.{Done, Rejected, BadWords, BadText, Outside, Limit, ReadFault, WriteFault, Undecided, NoMemory}
+use Rattle.job_inputs.specs.declared.status.Status.TheVariants.{Done, Rejected, BadWords, BadText, Outside, Limit}
+use Rattle.job_inputs.specs.declared.status.Status.TheVariants.{ReadFault, WriteFault, Undecided, NoMemory}
 use Rattle.pinpointing_jobs.specs.Known.{AreKnown}
 use Rattle.realizer.specs.Instances.{instance_query}
 use Rattle.individual_jobs.specs.ReasonLists.{ReasonLists}

@@ -1,6 +1,7 @@
 -- How a run ends that was not refused.
 use Rattle.job_inputs.specs.declared.status.Status.{Status}
-use Rattle.job_inputs.specs.declared.status.Status.TheVariants.{Done, Rejected, BadWords, BadText, Outside, Limit, ReadFault, WriteFault, Undecided, NoMemory}
+use Rattle.job_inputs.specs.declared.status.Status.TheVariants.{Done, Rejected, BadWords, BadText, Outside, Limit}
+use Rattle.job_inputs.specs.declared.status.Status.TheVariants.{ReadFault, WriteFault, Undecided, NoMemory}
 
 -- it is done, and this is so; or undecided, and this is
 abbrev pub IsEnd : (done undecided : Type 0) → Status → Type 0

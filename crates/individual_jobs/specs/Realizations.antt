@@ -13,7 +13,8 @@ use Rattle.realizer.specs.RealizationLogs.{IsInstancesLog, IsRealizationLog}
 use Rattle.job_inputs.specs.Answer.{line}
 use Rattle.job_inputs.specs.Refusals.{IsOutOfMemory}
 use Rattle.job_inputs.specs.declared.status.Status.{Status}
-use Rattle.job_inputs.specs.declared.status.Status.TheVariants.{Done, Rejected, BadWords, BadText, Outside, Limit, ReadFault, WriteFault, Undecided, NoMemory}
+use Rattle.job_inputs.specs.declared.status.Status.TheVariants.{Done, Rejected, BadWords, BadText, Outside, Limit}
+use Rattle.job_inputs.specs.declared.status.Status.TheVariants.{ReadFault, WriteFault, Undecided, NoMemory}
 use Rattle.classification_jobs.specs.Classifications.{OnDocument, IsRefused as IsRefusedDocument}
 use Rattle.individual_jobs.specs.Answers.{AnswersOnClass}
 

@@ -6,7 +6,8 @@ use Rattle.shq_terms.specs.Concept.{Concept}
 use Rattle.shq_terms.specs.Listed.{Listed}
 use Rattle.shq_terms.specs.declared.axioms.Query.{Query}
 use Rattle.run_log.specs.declared.entry.Entry.{Entry}
-use Rattle.run_log.specs.HonestLog.{IsHonestWithin, AreTestsOf, AsksNoAnswer, AreTreeNodes, AsksFewPerNode, StaysInModule}
+use Rattle.run_log.specs.HonestLog.{IsHonestWithin, AreTestsOf, AsksNoAnswer, AreTreeNodes, AsksFewPerNode}
+use Rattle.run_log.specs.HonestLog.{StaysInModule}
 use Rattle.pinpointing_jobs.specs.Wanted.{ShowsAll}
 use Rattle.realizer.specs.Instances.{instance_query}
 

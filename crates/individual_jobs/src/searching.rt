@@ -4,7 +4,8 @@ ghost use Rattle.std.specs.Result.{result_map_both};
 ghost use Rattle.ontology_limits.specs.Limits.{IsInLimit};
 ghost use Rattle.pinpointing_specs.specs.LocalModule.{IsLocalModule};
 ghost use Rattle.realizer.specs.Instances.{instance_query};
-ghost use Rattle.individual_jobs.specs.Searching.{instance_queries, AreInLimit, IsModuleOfEach, reasons_by, HasExplained, ExplainsTo, ExplainsAll};
+ghost use Rattle.individual_jobs.specs.Searching.{instance_queries, AreInLimit, IsModuleOfEach, reasons_by};
+ghost use Rattle.individual_jobs.specs.Searching.{HasExplained, ExplainsTo, ExplainsAll};
 ghost use Rattle.individual_jobs.specs.Answers.{HasBlocks};
 
 use crate::queries::{instance_queries, module_of_each};

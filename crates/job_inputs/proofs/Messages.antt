@@ -25,5 +25,8 @@ own (Malformed n) = refl
 own (Refused place c) = sort_gives c.sort _
 own NoMemory = refl
 
-pub gives : (m : Message) (out : List ℕ) (s : Status) → s ≡ (message_answer m).0 → out ≡ (message_answer m).1 → Gives (message_answer m) out s
-gives m out s status text = subst (λ o. Gives (message_answer m) o s) (sym text) (subst (Gives (message_answer m) (message_answer m).1) (sym status) (own m))
+pub gives : (m : Message) (out : List ℕ) (s : Status) → s ≡ (message_answer m).0 → out ≡ (message_answer m).1
+    → Gives (message_answer m) out s
+gives m out s status text =
+    subst (λ o. Gives (message_answer m) o s) (sym text)
+    (subst (Gives (message_answer m) (message_answer m).1) (sym status) (own m))

@@ -10,10 +10,12 @@ use Rattle.job_inputs.specs.declared.unread.Unread.TheVariants as U
 use Rattle.job_inputs.specs.Asked.{IsUndocumented}
 use Rattle.job_inputs.specs.Questions.{has_element, no_document, IsNoClassOf, IsUnreadDocument, IsUnreadQuestion}
 
-pub class_refused : (o : Listed) (kept : DocumentContext) (class : List ℕ) (e : Refusal) (u : Unread) → u ≡ query_unread e → (e ≢ R.NoMemory → IsNoClassOf o kept class e) → IsUnreadQuestion o kept (has_element class) u
+pub class_refused : (o : Listed) (kept : DocumentContext) (class : List ℕ) (e : Refusal) (u : Unread)
+    → u ≡ query_unread e → (e ≢ R.NoMemory → IsNoClassOf o kept class e) → IsUnreadQuestion o kept (has_element class) u
 class_refused o kept class e u is why = subst (IsUnreadQuestion o kept (has_element class)) (sym is) (by e why)
   where
-    by : (e : Refusal) → (e ≢ R.NoMemory → IsNoClassOf o kept class e) → IsUnreadQuestion o kept (has_element class) (query_unread e)
+    by : (e : Refusal) → (e ≢ R.NoMemory → IsNoClassOf o kept class e)
+        → IsUnreadQuestion o kept (has_element class) (query_unread e)
     by R.NoMemory why = tt
     by (R.Text fault) why = why (λ h. absurd (cc h))
     by (R.BadShape line) why = why (λ h. absurd (cc h))

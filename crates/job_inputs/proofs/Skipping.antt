@@ -1,5 +1,6 @@
 -- Whitespace and comments at the front of a text.
-use Rattle.std.proofs.Common.{◌≡◌, ◌≢◌, ℕ, zero, suc, ◌+◌, ◌-◌, ◌<◌, ◌≤◌, Bool, true, false, cond, List, [], ◌∷◌, ◌++◌, length, get_or, take, drop, refl, ap, sym, ◌∙◌, subst, arith, length-drop, one-add}
+use Rattle.std.proofs.Common.{◌≡◌, ◌≢◌, ℕ, zero, suc, ◌+◌, ◌-◌, ◌<◌, ◌≤◌, Bool, true, false, cond, List, [], ◌∷◌, ◌++◌}
+use Rattle.std.proofs.Common.{length, get_or, take, drop, refl, ap, sym, ◌∙◌, subst, arith, length-drop, one-add}
 use Rattle.std.proofs.lemmas.Grind.{common_steps}
 use Rattle.std.proofs.lemmas.List.{drop-drop, drop_all, take_all, take-append-drop}
 use Rattle.std.proofs.Math.Seq.{take-add}
@@ -26,7 +27,8 @@ no_line_end c h = grind (arith, common_steps, h)
 line_ends : (bs : List ℕ) → EndsLine true (drop (prefix_len is_comment_byte bs) bs)
 line_ends [] = refl
 line_ends (b ∷ bs) =
-    elim (is_comment_byte b) as (λ v. is_comment_byte b ≡ v → EndsLine true (drop (cond v (1 + prefix_len is_comment_byte bs) 0) (b ∷ bs))) [
+    elim (is_comment_byte b) as
+    (λ v. is_comment_byte b ≡ v → EndsLine true (drop (cond v (1 + prefix_len is_comment_byte bs) 0) (b ∷ bs))) [
       | true ↦ λ is. rw one-add (line_ends bs)
       | false ↦ λ is. is
     ] refl
@@ -35,7 +37,8 @@ line_ends (b ∷ bs) =
 line_ends_before : (k : ℕ) (rest : List ℕ) → EndsLine true rest → IsStray rest k → EndsLine false (take k rest)
 line_ends_before zero [] ends stray = absurd (omega (arith, stray.within))
 line_ends_before (suc k) [] ends stray = absurd (omega (arith, stray.within))
-line_ends_before zero (c ∷ cs) ends stray = let clash : true ≡ false = sym (no_line_end c ends) ∙ stray.no_space in absurd (cc clash)
+line_ends_before zero (c ∷ cs) ends stray =
+    let clash : true ≡ false = sym (no_line_end c ends) ∙ stray.no_space in absurd (cc clash)
 line_ends_before (suc k) (c ∷ cs) ends stray = ends
 
 -- ---- what is skipped
@@ -44,7 +47,8 @@ get_behind : (n k : ℕ) (xs : List ℕ) → get_or (drop n xs) k 0 ≡ get_or x
 get_behind n k xs = grind (arith, common_steps)
 
 -- a stray byte behind a front stands in the text, where what stands before it is a gap
-stray_behind : (n k : ℕ) (text : List ℕ) → IsStray (drop n text) k → IsGap false (take (n + k) text) → IsStray text (n + k)
+stray_behind : (n k : ℕ) (text : List ℕ) → IsStray (drop n text) k → IsGap false (take (n + k) text)
+    → IsStray text (n + k)
 stray_behind n k text stray before = record {
   within = omega (arith, stray.within, length-drop n text);
   before = before;
@@ -64,14 +68,17 @@ comment_cons bs =
     let behind : drop (1 + n) (35 ∷ bs) ≡ drop n bs = rw one-add refl in
     record {
       gap = λ g.
-          let whole : IsGap true (35 ∷ (take n bs ++ drop n bs)) = comment (take n bs) (drop n bs) (passes is_comment_byte bs) (line_ends bs) (subst (IsGap true) behind g) in
+          let whole : IsGap true (35 ∷ (take n bs ++ drop n bs)) =
+          comment (take n bs) (drop n bs) (passes is_comment_byte bs) (line_ends bs) (subst (IsGap true) behind g) in
           subst (λ (l : List ℕ). IsGap true (35 ∷ l)) (take-append-drop n bs) whole;
       stray = λ k s.
           let there : IsStray (drop n bs) k = subst (λ (l : List ℕ). IsStray l k) behind s in
           let whole : IsGap false (35 ∷ (take n bs ++ take k (drop n bs))) =
-          comment (take n bs) (take k (drop n bs)) (passes is_comment_byte bs) (line_ends_before k (drop n bs) (line_ends bs) there) there.before in
+          comment (take n bs) (take k (drop n bs)) (passes is_comment_byte bs)
+          (line_ends_before k (drop n bs) (line_ends bs) there) there.before in
           let size : (1 + n) + k ≡ suc (n + k) = omega arith in
-          let is : 35 ∷ (take n bs ++ take k (drop n bs)) ≡ take ((1 + n) + k) (35 ∷ bs) = ap (λ (l : List ℕ). 35 ∷ l) (sym (take-add n k bs)) ∙ ap (λ m. take m (35 ∷ bs)) (sym size) in
+          let is : 35 ∷ (take n bs ++ take k (drop n bs)) ≡ take ((1 + n) + k) (35 ∷ bs) =
+          ap (λ (l : List ℕ). 35 ∷ l) (sym (take-add n k bs)) ∙ ap (λ m. take m (35 ∷ bs)) (sym size) in
           stray_behind (1 + n) k (35 ∷ bs) s (subst (IsGap false) is whole);
     }
 
@@ -81,15 +88,20 @@ pub space_skips : (text : List ℕ) → 0 < length text → is_whitespace (get_o
 space_skips [] some is = absurd (omega (arith, some))
 space_skips (b ∷ bs) some is = space_cons b bs is
 
-pub comment_skips : (text rest : List ℕ) (n : ℕ) → 0 < length text → get_or text 0 0 ≡ 35 → rest ≡ take (length text - 1) (drop 1 text) → n ≡ prefix_len is_comment_byte rest → Skips text (1 + n)
+pub comment_skips : (text rest : List ℕ) (n : ℕ) → 0 < length text → get_or text 0 0 ≡ 35
+    → rest ≡ take (length text - 1) (drop 1 text) → n ≡ prefix_len is_comment_byte rest → Skips text (1 + n)
 comment_skips [] rest n some is behind len = absurd (omega (arith, some))
 comment_skips (b ∷ bs) rest n some is behind len =
     let all : rest ≡ bs = behind ∙ take_all (length (b ∷ bs) - 1) bs (omega arith) in
-    let size : 1 + n ≡ 1 + prefix_len is_comment_byte bs = ap (λ m. 1 + m) (len ∙ ap (prefix_len is_comment_byte) all) in
-    subst (Skips (b ∷ bs)) (sym size) (subst (λ c. Skips (c ∷ bs) (1 + prefix_len is_comment_byte bs)) (sym is) (comment_cons bs))
+    let size : 1 + n ≡ 1 + prefix_len is_comment_byte bs =
+    ap (λ m. 1 + m) (len ∙ ap (prefix_len is_comment_byte) all) in
+    subst (Skips (b ∷ bs)) (sym size)
+    (subst (λ c. Skips (c ∷ bs) (1 + prefix_len is_comment_byte bs)) (sym is) (comment_cons bs))
 
-pub stray_first : (text : List ℕ) → 0 < length text → is_whitespace (get_or text 0 0) ≡ false → get_or text 0 0 ≢ 35 → IsStray text 0
-stray_first text some no_space no_comment = record { within = some; before = nothing; no_space = no_space; no_comment = no_comment }
+pub stray_first : (text : List ℕ) → 0 < length text → is_whitespace (get_or text 0 0) ≡ false → get_or text 0 0 ≢ 35
+    → IsStray text 0
+stray_first text some no_space no_comment =
+    record { within = some; before = nothing; no_space = no_space; no_comment = no_comment }
 
 pub skips_none : (text : List ℕ) → Skips text 0
 skips_none text = record { gap = λ g. g; stray = λ k s. let e : k ≡ 0 + k = omega arith in subst (IsStray text) e s }

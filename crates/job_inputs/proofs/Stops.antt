@@ -9,7 +9,8 @@ use Rattle.job_inputs.specs.Asked.{IsNotAsked, IsUndocumented, IsUnasked}
 use Rattle.job_inputs.specs.Unread.{document_unread, query_unread}
 use Rattle.job_inputs.specs.declared.unread.Unread.{Unread}
 
-pub document_refused : (bytes : List ℕ) (e : Refusal) (u : Unread) → u ≡ document_unread e → (e ≢ R.NoMemory → IsNoDocument bytes e) → IsUndocumented bytes u
+pub document_refused : (bytes : List ℕ) (e : Refusal) (u : Unread) → u ≡ document_unread e
+    → (e ≢ R.NoMemory → IsNoDocument bytes e) → IsUndocumented bytes u
 document_refused bytes e u is why = subst (IsUndocumented bytes) (sym is) (by e why)
   where
     by : (e : Refusal) → (e ≢ R.NoMemory → IsNoDocument bytes e) → IsUndocumented bytes (document_unread e)
@@ -22,7 +23,8 @@ document_refused bytes e u is why = subst (IsUndocumented bytes) (sym is) (by e 
     by (R.NotSimple line) why = why (λ h. absurd (cc h))
     by (R.Limit w line) why = why (λ h. absurd (cc h))
 
-pub query_refused : (o : Listed) (kept : DocumentContext) (query : List ℕ) (e : Refusal) (u : Unread) → u ≡ query_unread e → (e ≢ R.NoMemory → IsNotAsked o kept query e) → IsUnasked o kept query u
+pub query_refused : (o : Listed) (kept : DocumentContext) (query : List ℕ) (e : Refusal) (u : Unread)
+    → u ≡ query_unread e → (e ≢ R.NoMemory → IsNotAsked o kept query e) → IsUnasked o kept query u
 query_refused o kept query e u is why = subst (IsUnasked o kept query) (sym is) (by e why)
   where
     by : (e : Refusal) → (e ≢ R.NoMemory → IsNotAsked o kept query e) → IsUnasked o kept query (query_unread e)

@@ -1,5 +1,6 @@
 -- Whitespace and comments exclude a byte that is neither.
-use Rattle.std.proofs.Common.{◌≡◌, ◌≢◌, ◌⊎◌, ℕ, suc, ◌<◌, ◌≤◌, Bool, true, false, List, [], ◌∷◌, ◌++◌, inl, inr, length, get_or, take, drop, refl, ap, sym, ◌∙◌, subst, arith, append_assoc, drop-cons}
+use Rattle.std.proofs.Common.{◌≡◌, ◌≢◌, ◌⊎◌, ℕ, suc, ◌<◌, ◌≤◌, Bool, true, false, List, [], ◌∷◌, ◌++◌, inl, inr, length}
+use Rattle.std.proofs.Common.{get_or, take, drop, refl, ap, sym, ◌∙◌, subst, arith, append_assoc, drop-cons}
 use Rattle.std.specs.List.{list_all}
 use Rattle.std.proofs.lemmas.Bool.{and_parts}
 use Rattle.std.proofs.lemmas.List.{get_or-take, length-take-le, take-append-drop, take-take}
@@ -44,20 +45,29 @@ rest_same a b xs ys e = cc e
 no_byte : (x : ℕ) → is_comment_byte x ≡ true → is_comment_byte x ≡ false → ⊥
 no_byte x yes' no' = let clash : true ≡ false = sym yes' ∙ no' in absurd (cc clash)
 
-same_end : (at_end : Bool) (t u : List ℕ) (x : ℕ) (rest more : List ℕ) → t ++ x ∷ rest ≡ u ++ more → list_all is_comment_byte t ≡ true → is_comment_byte x ≡ false → list_all is_comment_byte u ≡ true → EndsLine at_end more → more ≡ x ∷ rest
+same_end : (at_end : Bool) (t u : List ℕ) (x : ℕ) (rest more : List ℕ) → t ++ x ∷ rest ≡ u ++ more
+    → list_all is_comment_byte t ≡ true → is_comment_byte x ≡ false → list_all is_comment_byte u ≡ true
+    → EndsLine at_end more → more ≡ x ∷ rest
 same_end at_end [] [] x rest more is all ends others closes = sym is
 same_end at_end [] (y ∷ us) x rest more is all ends others closes =
-    absurd (no_byte x (subst (λ b. is_comment_byte b ≡ true) (sym (first_same x y rest (us ++ more) is)) ((and_parts (is_comment_byte y) (list_all is_comment_byte us) others).0)) ends)
+    absurd (no_byte x
+    (subst (λ b. is_comment_byte b ≡ true) (sym (first_same x y rest (us ++ more) is))
+    ((and_parts (is_comment_byte y) (list_all is_comment_byte us) others).0))
+    ends)
 same_end at_end (y ∷ ts) [] x rest [] is all ends others closes = absurd (cc is)
 same_end at_end (y ∷ ts) [] x rest (z ∷ zs) is all ends others closes =
-    absurd (no_byte y ((and_parts (is_comment_byte y) (list_all is_comment_byte ts) all).0) (subst (λ b. is_comment_byte b ≡ false) (sym (first_same y z (ts ++ x ∷ rest) zs is)) closes))
+    absurd (no_byte y ((and_parts (is_comment_byte y) (list_all is_comment_byte ts) all).0)
+    (subst (λ b. is_comment_byte b ≡ false) (sym (first_same y z (ts ++ x ∷ rest) zs is)) closes))
 same_end at_end (y ∷ ts) (z ∷ us) x rest more is all ends others closes =
-    same_end at_end ts us x rest more (rest_same y z (ts ++ x ∷ rest) (us ++ more) is) ((and_parts (is_comment_byte y) (list_all is_comment_byte ts) all).1) ends ((and_parts (is_comment_byte z) (list_all is_comment_byte us) others).1) closes
+    same_end at_end ts us x rest more (rest_same y z (ts ++ x ∷ rest) (us ++ more) is)
+    ((and_parts (is_comment_byte y) (list_all is_comment_byte ts) all).1) ends
+    ((and_parts (is_comment_byte z) (list_all is_comment_byte us) others).1) closes
 
 -- ---- behind a gap stands no other byte of a gap
 
 white_is_no_mark : (c : ℕ) → is_whitespace c ≡ true → c ≡ 35 → ⊥
-white_is_no_mark c white is = let clash : false ≡ true = subst (λ x. is_whitespace x ≡ true) is white in absurd (cc clash)
+white_is_no_mark c white is =
+    let clash : false ≡ true = subst (λ x. is_whitespace x ≡ true) is white in absurd (cc clash)
 
 module _ (at_end : Bool) (b : ℕ) (rest : List ℕ) (no_space : is_whitespace b ≡ false) (no_mark : b ≢ 35) where
   excluded : (front : List ℕ) → IsGap false front → IsGap at_end (front ++ b ∷ rest) → ⊥
@@ -77,18 +87,23 @@ module _ (at_end : Bool) (b : ℕ) (rest : List ℕ) (no_space : is_whitespace b
         | inl white ↦ let clash : false ≡ true = white.0 in absurd (cc clash)
         | inr mark ↦
             let other = mark.1 in
-            let apart : text ++ x ∷ (r ++ b ∷ rest) ≡ other.text ++ other.rest = sym (append_assoc text (x ∷ r) (b ∷ rest)) ∙ other.is in
-            let same : other.rest ≡ x ∷ (r ++ b ∷ rest) = same_end at_end text other.text x (r ++ b ∷ rest) other.rest apart all ends other.all other.ends in
+            let apart : text ++ x ∷ (r ++ b ∷ rest) ≡ other.text ++ other.rest =
+            sym (append_assoc text (x ∷ r) (b ∷ rest)) ∙ other.is in
+            let same : other.rest ≡ x ∷ (r ++ b ∷ rest) =
+            same_end at_end text other.text x (r ++ b ∷ rest) other.rest apart all ends other.all other.ends in
             excluded (x ∷ r) gap (subst (IsGap at_end) same other.gap)
       ]
 
 -- a text at a place: what stands before it, its byte, and the rest
-split_at : (text : List ℕ) (place : ℕ) → place < length text → text ≡ take place text ++ get_or text place 0 ∷ drop (suc place) text
-split_at text place within = sym (take-append-drop place text) ∙ ap (λ l. take place text ++ l) (drop-cons text place 0 within)
+split_at : (text : List ℕ) (place : ℕ) → place < length text
+    → text ≡ take place text ++ get_or text place 0 ∷ drop (suc place) text
+split_at text place within =
+    sym (take-append-drop place text) ∙ ap (λ l. take place text ++ l) (drop-cons text place 0 within)
 
 no_stray : (at_end : Bool) (text : List ℕ) (place : ℕ) → IsGap at_end text → IsStray text place → ⊥
 no_stray at_end text place gap s =
-    excluded at_end (get_or text place 0) (drop (suc place) text) s.no_space s.no_comment (take place text) s.before (subst (IsGap at_end) (split_at text place s.within) gap)
+    excluded at_end (get_or text place 0) (drop (suc place) text) s.no_space s.no_comment (take place text) s.before
+    (subst (IsGap at_end) (split_at text place s.within) gap)
 
 pub gaps_have_no_stray : GapsHaveNoStray
 gaps_have_no_stray text place gap s = no_stray true text place gap s
@@ -107,7 +122,8 @@ in_front text k n less within s =
     }
 
 none_before : (text : List ℕ) (k n : ℕ) → k < n → IsStray text k → IsStray text n → ⊥
-none_before text k n less s t = no_stray false (take n text) k t.before (in_front text k n less (let within = t.within in omega arith) s)
+none_before text k n less s t =
+    no_stray false (take n text) k t.before (in_front text k n less (let within = t.within in omega arith) s)
 
 pub strays_are_unique : StraysAreUnique
 strays_are_unique text place other s t =

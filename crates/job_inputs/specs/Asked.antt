@@ -28,7 +28,8 @@ IsUndocumented bytes u = ⊥
 
 -- the text is this query on a document, and both list these names together
 abbrev pub IsReadQuery : Listed → DocumentContext → List ℕ → Listed → Asked → Type 0
-IsReadQuery o kept query both asked = (counts : Counts) × IsAsked o kept query counts asked × (both ≡ with_names o counts)
+IsReadQuery o kept query both asked = (counts : Counts) × IsAsked o kept query counts asked
+    × (both ≡ with_names o counts)
 
 -- why a query is not read, unless memory was refused
 abbrev pub IsUnasked : Listed → DocumentContext → List ℕ → Unread → Type 0

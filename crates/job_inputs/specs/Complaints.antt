@@ -69,7 +69,8 @@ place_text Document line = codes "line " ++ decimal line
 place_text Query line = codes "query"
 
 abbrev pub complaint_text : Place → Complaint → List ℕ
-complaint_text place c = sort_text c.sort ++ (codes " " ++ (c.what ++ (codes " " ++ (place_text place c.line ++ 10 ∷ []))))
+complaint_text place c =
+    sort_text c.sort ++ (codes " " ++ (c.what ++ (codes " " ++ (place_text place c.line ++ 10 ∷ []))))
 
 abbrev pub plain_complaint : Kept → Complaint
 plain_complaint c = record { sort = c.sort; what = c.what.now; line = c.line }

@@ -19,7 +19,8 @@ StraysAreUnique = (text : List ℕ) (place other : ℕ) → IsStray text place �
 -- ---- documents alone
 
 abbrev pub DocumentsAloneAreNotRefused : Type 0
-DocumentsAloneAreNotRefused = (bytes : List ℕ) (o : Listed) (kept : DocumentContext) (e : Refusal) → IsDocumentAlone bytes o kept → IsNotAlone bytes e → ⊥
+DocumentsAloneAreNotRefused = (bytes : List ℕ) (o : Listed) (kept : DocumentContext) (e : Refusal)
+    → IsDocumentAlone bytes o kept → IsNotAlone bytes e → ⊥
 
 abbrev pub DocumentAloneRefusalsAreUnique : Type 0
 DocumentAloneRefusalsAreUnique = (bytes : List ℕ) (e f : Refusal) → IsNotAlone bytes e → IsNotAlone bytes f → e ≡ f
@@ -27,10 +28,13 @@ DocumentAloneRefusalsAreUnique = (bytes : List ℕ) (e f : Refusal) → IsNotAlo
 -- ---- questions
 
 abbrev pub QuestionsAreUnique : Type 0
-QuestionsAreUnique = (question : Text) (bytes : List ℕ) (o p : Listed) (q r : Asked) → IsQuestion question bytes o q → IsQuestion question bytes p r → (o ≡ p) × (q ≡ r)
+QuestionsAreUnique = (question : Text) (bytes : List ℕ) (o p : Listed) (q r : Asked) → IsQuestion question bytes o q
+    → IsQuestion question bytes p r → (o ≡ p) × (q ≡ r)
 
 abbrev pub QuestionsAreNotRefused : Type 0
-QuestionsAreNotRefused = (question : Text) (bytes : List ℕ) (o : Listed) (q : Asked) (r : Reply) → IsQuestion question bytes o q → IsRefusedQuestion question bytes r → ⊥
+QuestionsAreNotRefused = (question : Text) (bytes : List ℕ) (o : Listed) (q : Asked) (r : Reply)
+    → IsQuestion question bytes o q → IsRefusedQuestion question bytes r → ⊥
 
 abbrev pub QuestionRefusalsAreUnique : Type 0
-QuestionRefusalsAreUnique = (question : Text) (bytes : List ℕ) (r s : Reply) → IsRefusedQuestion question bytes r → IsRefusedQuestion question bytes s → r ≡ s
+QuestionRefusalsAreUnique = (question : Text) (bytes : List ℕ) (r s : Reply) → IsRefusedQuestion question bytes r
+    → IsRefusedQuestion question bytes s → r ≡ s

@@ -56,7 +56,8 @@ pub record IsDocumentAlone (bytes : List ℕ) (o : Listed) (kept : DocumentConte
 -- why they are not: they begin with no document, or something stands after it
 pub data IsNotAlone (bytes : List ℕ) : Refusal → Type 0 where
   no_document : (e : Refusal) → IsNoDocument bytes e → IsNotAlone bytes e
-  more : (o : Listed) (kept : DocumentContext) (end place : ℕ) → IsDocument bytes o kept end → IsStray (drop end bytes) place
+  more : (o : Listed) (kept : DocumentContext) (end place : ℕ) → IsDocument bytes o kept end
+      → IsStray (drop end bytes) place
       → IsNotAlone bytes (BadShape (line_at bytes (end + place)))
 
 -- ---- questions
@@ -73,12 +74,14 @@ pub record IsQuestion (question : Text) (bytes : List ℕ) (both : Listed) (q : 
 -- what is refused: the document, else the question
 pub data IsRefusedQuestion (question : Text) (bytes : List ℕ) : Reply → Type 0 where
   document : (e : Refusal) → IsNotAlone bytes e → IsRefusedQuestion question bytes (refused_document e)
-  query : (o : Listed) (kept : DocumentContext) (e : Refusal) → IsDocumentAlone bytes o kept → IsNotAskedBy o kept question e → IsRefusedQuestion question bytes (refused_query e)
+  query : (o : Listed) (kept : DocumentContext) (e : Refusal) → IsDocumentAlone bytes o kept
+      → IsNotAskedBy o kept question e → IsRefusedQuestion question bytes (refused_query e)
 
 -- ---- while it is read
 
 -- the names of the document and of the query on it are listed
-pub record IsReadQuestion (o : Listed) (kept : DocumentContext) (question : Text) (both : Listed) (q : Asked) : Type 0 where
+pub record IsReadQuestion (o : Listed) (kept : DocumentContext) (question : Text) (both : Listed) (q : Asked) :
+    Type 0 where
   pub counts : Counts
   pub is_asked : IsAskedBy o kept question counts q
   pub both_are : both ≡ with_names o counts

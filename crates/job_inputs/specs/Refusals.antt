@@ -19,7 +19,8 @@ pub record IsRefused {E : Type 0} (question : Text) (bytes out : List ℕ) (s : 
   pub unlogged : log ≡ []
 
 -- The log is empty; or the question is read, and this is so of the log of what was asked.
-pub data HasBegun {E : Type 0} (question : Text) (bytes : List ℕ) (log : List E) (is_so : Listed → Asked → Type 0) : Type 0 where
+pub data HasBegun {E : Type 0} (question : Text) (bytes : List ℕ) (log : List E) (is_so : Listed → Asked → Type 0) :
+    Type 0 where
   nothing : log ≡ [] → HasBegun question bytes log is_so
   asked : (o : Listed) (q : Asked) → IsQuestion question bytes o q → is_so o q → HasBegun question bytes log is_so
 
@@ -30,7 +31,8 @@ pub record IsOutOfMemory (out : List ℕ) (begun : Type 0) : Type 0 where
 
 -- why a question is not answered, and then nothing was asked; or memory was refused, and then this is so of what was
 abbrev pub IsUnanswered : {E : Type 0} → Text → List ℕ → List E → (Listed → Asked → Type 0) → Unread → Type 0
-IsUnanswered question bytes log is_so (U.Document e) = IsRefusedQuestion question bytes (refused_document e) × (log ≡ [])
+IsUnanswered question bytes log is_so (U.Document e) = IsRefusedQuestion question bytes (refused_document e)
+    × (log ≡ [])
 IsUnanswered question bytes log is_so (U.Query e) = IsRefusedQuestion question bytes (refused_query e) × (log ≡ [])
 IsUnanswered question bytes log is_so (U.Line n) = ⊥
 IsUnanswered question bytes log is_so U.NoMemory = HasBegun question bytes log is_so

@@ -1,6 +1,7 @@
 // What is wrong with a text that is refused.
 ghost use Rattle.std.specs.Prelude.{◌≡◌, option_map, Some, IfOk, string_bytes};
-ghost use Rattle.job_inputs.specs.Complaints.{complaint, fault_complaint, complaint_with, sort_status, sort_text, limit_name, complaint_text, plain_complaint};
+ghost use Rattle.job_inputs.specs.Complaints.{complaint, fault_complaint, complaint_with, sort_status, sort_text};
+ghost use Rattle.job_inputs.specs.Complaints.{limit_name, complaint_text, plain_complaint};
 
 use crate::status::Status;
 use ofn_reader::{Refusal, Which};

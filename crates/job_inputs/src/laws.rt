@@ -1,5 +1,7 @@
 // What is read is not refused, and is read or refused in one way.
-ghost use Rattle.job_inputs.specs.Laws.{GapsHaveNoStray, StraysAreUnique, DocumentsAloneAreNotRefused, DocumentAloneRefusalsAreUnique, QuestionsAreUnique, QuestionsAreNotRefused, QuestionRefusalsAreUnique};
+ghost use Rattle.job_inputs.specs.Laws.{GapsHaveNoStray, StraysAreUnique, DocumentsAloneAreNotRefused};
+ghost use Rattle.job_inputs.specs.Laws.{DocumentAloneRefusalsAreUnique, QuestionsAreUnique, QuestionsAreNotRefused};
+ghost use Rattle.job_inputs.specs.Laws.{QuestionRefusalsAreUnique};
 
 /// Where only whitespace and comments stand, no other byte does.
 pub fn gaps_have_no_stray()

@@ -2,7 +2,8 @@
 ghost use Rattle.std.specs.Prelude.{◌≡◌, ◌≤◌, IfOk, IfErr, IfSome, IsNone, OnErr, drop, length};
 ghost use Rattle.shq_terms.specs.Concept.{bottom};
 ghost use Rattle.job_inputs.specs.Rest.{IsOnlyGap, IsStrayLine};
-ghost use Rattle.job_inputs.specs.Questions.{question_text, has_element, follows, IsDocumentAlone, IsReadQuestion, IsUnreadDocument, IsUnreadQuestion};
+ghost use Rattle.job_inputs.specs.Questions.{question_text, has_element, follows, IsDocumentAlone, IsReadQuestion};
+ghost use Rattle.job_inputs.specs.Questions.{IsUnreadDocument, IsUnreadQuestion};
 
 use crate::documents::{document, query_on};
 use crate::rest::first_stray;

@@ -1,5 +1,6 @@
 -- What set of numbers a list of words of 64 bits stands for.
-use Rattle.std.specs.Prelude.{◌≡◌, ℕ, zero, suc, ◌+◌, ◌*◌, ◌/◌, ◌%◌, ◌==◌, ◌<◌, ◌≤◌, Bool, true, false, List, [], ◌∷◌, length, slice_index, if◌then◌else◌}
+use Rattle.std.specs.Prelude.{◌≡◌, ℕ, zero, suc, ◌+◌, ◌*◌, ◌/◌, ◌%◌, ◌==◌, ◌<◌, ◌≤◌, Bool, true, false, List, [], ◌∷◌}
+use Rattle.std.specs.Prelude.{length, slice_index, if◌then◌else◌}
 use Rattle.std.specs.Int.{bit_at}
 use Rattle.std.specs.Ordering.{nat_cmp, MatchOrdering}
 use Rattle.std.specs.Cmp.Lexicographic.{slice_cmp}
@@ -17,7 +18,8 @@ has_bit words k = bit_at (slice_index words (k / 64)) (k % 64) == 1
 -- those of the numbers first, first + 1, .. (count of them) that pass a test, in ascending order
 unfoldable pub passing : (ℕ → Bool) → ℕ → ℕ → List ℕ
 passing test first zero = []
-passing test first (suc count) = if test first then first ∷ passing test (first + 1) count else passing test (first + 1) count
+passing test first (suc count) =
+    if test first then first ∷ passing test (first + 1) count else passing test (first + 1) count
 
 -- the set of the numbers whose bits are set
 unfoldable pub number_set : List ℕ → NumberSet
@@ -38,7 +40,8 @@ DoMeet s t = (k : ℕ) × (set.contains s k ≡ true) × (set.contains t k ≡ t
 -- the order of the sets of two lists of words: the lexicographic order of their ascending lists, in which a proper
 -- prefix comes first
 abbrev pub words_cmp : List ℕ → List ℕ → Ordering
-words_cmp xs ys = slice_cmp nat_cmp (members_below (number_set xs) (64 * length xs)) (members_below (number_set ys) (64 * length ys))
+words_cmp xs ys =
+    slice_cmp nat_cmp (members_below (number_set xs) (64 * length xs)) (members_below (number_set ys) (64 * length ys))
 
 -- no number from the given one on is a member
 abbrev pub LacksFrom : NumberSet → ℕ → Type 0

@@ -31,4 +31,5 @@ do_meet xs ys = not (each_pair is_apart xs ys)
 -- the places of the prints that contain each bit of `print`, in order, where the first print stands at `place`
 abbrev pub places : ℕ → List ℕ → List (List ℕ) → List ℕ
 places place print [] = []
-places place print (p ∷ ps) = if is_subset print p then place ∷ places (place + 1) print ps else places (place + 1) print ps
+places place print (p ∷ ps) =
+    if is_subset print p then place ∷ places (place + 1) print ps else places (place + 1) print ps

@@ -1,6 +1,7 @@
 // Questions about one number of a set, and its changes by one number.
 
-ghost use Rattle.std.specs.Prelude.{◌≡◌, ℕ, ◌+◌, ◌-◌, ◌*◌, ◌/◌, ◌^◌, ◌<◌, ◌≤◌, length, true, false, IfSome, IfNone, slice_index};
+ghost use Rattle.std.specs.Prelude.{◌≡◌, ℕ, ◌+◌, ◌-◌, ◌*◌, ◌/◌, ◌^◌, ◌<◌, ◌≤◌, length, true, false, IfSome, IfNone};
+ghost use Rattle.std.specs.Prelude.{slice_index};
 ghost use Rattle.std.specs.FinSet as set;
 ghost use Rattle.lane_sieve.specs.Sets.{number_set, members_below, LacksFrom, LacksBetween, LacksGreater};
 

@@ -12,13 +12,15 @@ use Rattle.finite_model.specs.ModelLists.{ModelLists, is_member, is_link, member
 use Rattle.model_builder.specs.Gains.{HasMembers, HasLinks}
 use Rattle.model_builder.proofs.Tests.{or_absorbs}
 
-module _ {T : Type 0} (cmp : T → T → Ordering) (p : T → Bool) (u : T) (same : (t : T) → cmp u t ≡ Equal → p t ≡ p u) where
+module _ {T : Type 0} (cmp : T → T → Ordering) (p : T → Bool) (u : T)
+    (same : (t : T) → cmp u t ≡ Equal → p t ≡ p u) where
   any_inserted : (ts : List T) → list_any p (insert_key cmp ts u) ≡ (list_any p ts || p u)
   any_inserted [] = or-false (p u)
   any_inserted (t ∷ ts) = by (cmp u t) refl (any_inserted ts)
     where
       by : (o : Ordering) → cmp u t ≡ o → list_any p (insert_key cmp ts u) ≡ (list_any p ts || p u)
-          → list_any p (match_ordering o (u ∷ t ∷ ts) (t ∷ ts) (t ∷ insert_key cmp ts u)) ≡ (p t || list_any p ts || p u)
+          → list_any p (match_ordering o (u ∷ t ∷ ts) (t ∷ ts) (t ∷ insert_key cmp ts u))
+          ≡ (p t || list_any p ts || p u)
       by Less e rest = or_comm (p u) (p t || list_any p ts)
       by Equal e rest = or_absorbs (p t) (list_any p ts) (p u) (same t e)
       by Greater e rest = ap (λ (b : Bool). p t || b) rest ∙ sym (or_assoc (p t) (list_any p ts) (p u))
@@ -61,10 +63,12 @@ link_gained k r v u = record {
 }
 
 pub member_put : (k n : ModelLists) (a x : ℕ) → n ≡ with_member a x k → HasMembers k n (λ b y. eqb a b && eqb x y)
-member_put k n a x is = subst (λ (m : ModelLists). HasMembers k m (λ b y. eqb a b && eqb x y)) (sym is) (member_gained k a x)
+member_put k n a x is =
+    subst (λ (m : ModelLists). HasMembers k m (λ b y. eqb a b && eqb x y)) (sym is) (member_gained k a x)
 
 -- the pair is put where a condition holds
-pub link_put_where : (k n : ModelLists) (b : Bool) (r v u : ℕ) → b ≡ true → n ≡ with_link r v u k → HasLinks k n (λ s x y. b && (eqb r s && eqb v x && eqb u y))
+pub link_put_where : (k n : ModelLists) (b : Bool) (r v u : ℕ) → b ≡ true → n ≡ with_link r v u k
+    → HasLinks k n (λ s x y. b && (eqb r s && eqb v x && eqb u y))
 link_put_where k n b r v u put is =
     subst (λ (t : Bool). HasLinks k n (λ s x y. t && (eqb r s && eqb v x && eqb u y))) (sym put)
     (subst (λ (m : ModelLists). HasLinks k m (λ s x y. eqb r s && eqb v x && eqb u y)) (sym is) (link_gained k r v u))

@@ -1,5 +1,7 @@
 -- Elements by their numbers.
-use Rattle.std.proofs.Common.{◌≡◌, ℕ, zero, suc, ◌+◌, ◌<◌, ◌≤◌, ◌&&◌, Bool, true, false, cond, eqb, List, [], ◌∷◌, ◌++◌, map, length, get_or, Some, None, refl, ap, ◌∙◌, sym, subst, arith, inl, inr, add-one, eq-eqb}
+use Rattle.std.proofs.Common.{◌≡◌, ℕ, zero, suc, ◌+◌, ◌<◌, ◌≤◌, ◌&&◌, Bool, true, false, cond, eqb, List, [], ◌∷◌, ◌++◌}
+use Rattle.std.proofs.Common.{map, length, get_or, Some, None, refl, ap, ◌∙◌, sym, subst, arith, inl, inr, add-one}
+use Rattle.std.proofs.Common.{eq-eqb}
 use Rattle.std.specs.Prelude.{Option, nat_lt, filter, if◌then◌else◌}
 use Rattle.std.specs.List.{range_with_len}
 use Rattle.std.proofs.lemmas.Bool.{cases_lt, cases_order, and_parts, and_from, eqb-true, ltb-true, lt-ltb, false≢true}
@@ -23,7 +25,8 @@ range_more a (suc n) j e = ap (λ (xs : List ℕ). a ∷ xs) (range_more (a + 1)
 range_next : (n : ℕ) → range_with_len 0 (n + 1) ≡ range_with_len 0 n ++ n ∷ []
 range_next n = ap (λ (m : ℕ). range_with_len 0 m) (add-one n) ∙ range_more 0 n n (omega arith)
 
-filter_next : (p : ℕ → Bool) (n : ℕ) → filter p (range_with_len 0 (n + 1)) ≡ filter p (range_with_len 0 n) ++ cond (p n) (n ∷ []) []
+filter_next : (p : ℕ → Bool) (n : ℕ)
+    → filter p (range_with_len 0 (n + 1)) ≡ filter p (range_with_len 0 n) ++ cond (p n) (n ∷ []) []
 filter_next p n = ap (filter p) (range_next n) ∙ filter-append p (range_with_len 0 n) (n ∷ [])
 
 -- a number that passes stands behind those that pass before it
@@ -31,7 +34,8 @@ pub record OwnPlace (p : ℕ → Bool) (n y : ℕ) : Type 0 where
   pub is_within : length (filter p (range_with_len 0 y)) < length (filter p (range_with_len 0 n))
   pub is_there : get_or (filter p (range_with_len 0 n)) (length (filter p (range_with_len 0 y))) 0 ≡ y
 
-own_in : (p : ℕ → Bool) (n y : ℕ) (more : List ℕ) → OwnPlace p n y → filter p (range_with_len 0 (n + 1)) ≡ filter p (range_with_len 0 n) ++ more → OwnPlace p (n + 1) y
+own_in : (p : ℕ → Bool) (n y : ℕ) (more : List ℕ) → OwnPlace p n y
+    → filter p (range_with_len 0 (n + 1)) ≡ filter p (range_with_len 0 n) ++ more → OwnPlace p (n + 1) y
 own_in p n y more o e = record {
   is_within = omega (arith, o.is_within, ap length e, length-append (filter p (range_with_len 0 n)) more);
   is_there =
@@ -42,10 +46,13 @@ own_in p n y more o e = record {
 
 own_last : (p : ℕ → Bool) (n : ℕ) → p n ≡ true → OwnPlace p (n + 1) n
 own_last p n h =
-    let e : filter p (range_with_len 0 (n + 1)) ≡ filter p (range_with_len 0 n) ++ n ∷ [] = filter_next p n ∙ ap (λ (b : Bool). filter p (range_with_len 0 n) ++ cond b (n ∷ []) []) h in
+    let e : filter p (range_with_len 0 (n + 1)) ≡ filter p (range_with_len 0 n) ++ n ∷ [] =
+    filter_next p n ∙ ap (λ (b : Bool). filter p (range_with_len 0 n) ++ cond b (n ∷ []) []) h in
     record {
       is_within = omega (arith, ap length e, length-append (filter p (range_with_len 0 n)) (n ∷ []));
-      is_there = ap (λ (xs : List ℕ). get_or xs (length (filter p (range_with_len 0 n))) 0) e ∙ get_or-append_seam (filter p (range_with_len 0 n)) n [] 0;
+      is_there =
+          ap (λ (xs : List ℕ). get_or xs (length (filter p (range_with_len 0 n))) 0) e
+          ∙ get_or-append_seam (filter p (range_with_len 0 n)) n [] 0;
     }
 
 pub own_from : (p : ℕ → Bool) (n y : ℕ) → y < n → p y ≡ true → OwnPlace p n y
@@ -65,23 +72,29 @@ number_by : (k z : ℕ) (b : Bool) → number_in k (if b then Some z else None) 
 number_by k z true = refl
 number_by k z false = refl
 
-originals_by : (f : ℕ → ℕ) (x : ℕ) (b : Bool) → original_list (if b then Some (f x) else None) ≡ map f (cond b (x ∷ []) [])
+originals_by : (f : ℕ → ℕ) (x : ℕ) (b : Bool)
+    → original_list (if b then Some (f x) else None) ≡ map f (cond b (x ∷ []) [])
 originals_by f x true = refl
 originals_by f x false = refl
 
-module _ (first : ℕ) (fs : List (Fact ℕ)) (n : ℕ) (numbers : List (Option ℕ)) (originals : List ℕ) (before : AreNumbered first fs n numbers originals) where
+module _ (first : ℕ) (fs : List (Fact ℕ)) (n : ℕ) (numbers : List (Option ℕ)) (originals : List ℕ)
+    (before : AreNumbered first fs n numbers originals) where
   as_many : length originals ≡ length (elements_below first fs n)
   as_many = ap length before.originals_are ∙ length-map (elements_below first fs n) (original first fs)
 
   pub few_originals : length originals ≤ n
   few_originals = omega (arith, as_many, length-passing (is_element first fs) n, count_most n (is_element first fs))
 
-  pub numbered_more : (found : Option ℕ) (numbers' : List (Option ℕ)) (originals' : List ℕ) → found ≡ like_node first fs n
-      → numbers' ≡ numbers ++ number_in (length originals) found ∷ [] → originals' ≡ originals ++ original_list found → AreNumbered first fs (n + 1) numbers' originals'
+  pub numbered_more : (found : Option ℕ) (numbers' : List (Option ℕ)) (originals' : List ℕ)
+      → found ≡ like_node first fs n
+      → numbers' ≡ numbers ++ number_in (length originals) found ∷ [] → originals' ≡ originals ++ original_list found
+      → AreNumbered first fs (n + 1) numbers' originals'
   numbered_more found numbers' originals' is put kept =
       let count = length (elements_below first fs n) in
-      let here : number_in (length originals) found ≡ number_of first fs n = (λ i. number_in (as_many i) (is i)) ∙ number_by count (original first fs n) (is_element first fs n) in
-      let last : original_list found ≡ map (original first fs) (cond (is_element first fs n) (n ∷ []) []) = ap original_list is ∙ originals_by (original first fs) n (is_element first fs n) in
+      let here : number_in (length originals) found ≡ number_of first fs n =
+      (λ i. number_in (as_many i) (is i)) ∙ number_by count (original first fs n) (is_element first fs n) in
+      let last : original_list found ≡ map (original first fs) (cond (is_element first fs n) (n ∷ []) []) =
+      ap original_list is ∙ originals_by (original first fs) n (is_element first fs n) in
       record {
         numbers_are =
             put
@@ -91,13 +104,17 @@ module _ (first : ℕ) (fs : List (Fact ℕ)) (n : ℕ) (numbers : List (Option 
         originals_are =
             kept
             ∙ (λ i. before.originals_are i ++ last i)
-            ∙ sym (map-append (original first fs) (elements_below first fs n) (cond (is_element first fs n) (n ∷ []) []))
+            ∙ sym
+            (map-append (original first fs) (elements_below first fs n) (cond (is_element first fs n) (n ∷ []) []))
             ∙ ap (map (original first fs)) (sym (filter_next (is_element first fs) n));
       }
 
 -- there are as many originals as elements
-pub all_elements : (first : ℕ) (fs : List (Fact ℕ)) (numbers : List (Option ℕ)) (originals : List ℕ) (size : ℕ) → AreNumbered first fs (node_count_from first fs) numbers originals → size ≡ length originals → size ≡ length (elements first fs)
-all_elements first fs numbers originals size numbered all = all ∙ ap length numbered.originals_are ∙ length-map (elements first fs) (original first fs)
+pub all_elements : (first : ℕ) (fs : List (Fact ℕ)) (numbers : List (Option ℕ)) (originals : List ℕ) (size : ℕ)
+    → AreNumbered first fs (node_count_from first fs) numbers originals → size ≡ length originals
+    → size ≡ length (elements first fs)
+all_elements first fs numbers originals size numbered all =
+    all ∙ ap length numbered.originals_are ∙ length-map (elements first fs) (original first fs)
 
 -- ---- the node of a number
 
@@ -118,20 +135,25 @@ module _ (first : ℕ) (fs : List (Fact ℕ)) where
   numbers = map (number_of first fs) (range_with_len 0 (node_count_from first fs))
 
   number_here : (y : ℕ) → y < node_count_from first fs → get_or numbers y None ≡ number_of first fs y
-  number_here y lt = get_or-map-range_with_len (number_of first fs) 0 (node_count_from first fs) y y None lt (omega arith)
+  number_here y lt =
+      get_or-map-range_with_len (number_of first fs) 0 (node_count_from first fs) y y None lt (omega arith)
 
   number_past : (y : ℕ) → node_count_from first fs ≤ y → get_or numbers y None ≡ None
-  number_past y le = past numbers y (omega (arith, le, length-map-range_with_len (number_of first fs) 0 (node_count_from first fs)))
+  number_past y le =
+      past numbers y (omega (arith, le, length-map-range_with_len (number_of first fs) 0 (node_count_from first fs)))
     where
       past : (xs : List (Option ℕ)) (k : ℕ) → length xs ≤ k → get_or xs k None ≡ None
       past [] k h = refl
       past (x ∷ xs) zero h = absurd (omega (arith, h))
       past (x ∷ xs) (suc k) h = past xs k (omega (arith, h))
 
-  to_node : (y u : ℕ) → is_at (get_or numbers y None) u ≡ true → (nat_lt u (length (elements first fs)) && eqb y (node_at first fs u)) ≡ true
+  to_node : (y u : ℕ) → is_at (get_or numbers y None) u ≡ true
+      → (nat_lt u (length (elements first fs)) && eqb y (node_at first fs u)) ≡ true
   to_node y u h = elim (cases_lt y (node_count_from first fs)) [
     | inl low ↦
-        let m = number_means (length (elements_below first fs y)) u (is_element first fs y) (ap (λ (o : Option ℕ). is_at o u) (sym (number_here y low)) ∙ h) in
+        let m =
+        number_means (length (elements_below first fs y)) u (is_element first fs y)
+        (ap (λ (o : Option ℕ). is_at o u) (sym (number_here y low)) ∙ h) in
         let o = own_from (is_element first fs) (node_count_from first fs) y low m.0 in
         let e : length (elements_below first fs y) ≡ u = m.1 in
         and_from (nat_lt u (length (elements first fs))) (eqb y (node_at first fs u))
@@ -153,18 +175,27 @@ module _ (first : ℕ) (fs : List (Fact ℕ)) where
           | inr more ↦ (let a = ascends u k 0 more o.is_within in absurd (omega (arith, a, o.is_there)))
         ]
       ] in
-      ap (λ (x : Option ℕ). is_at x u) (number_here (node_at first fs u) p.0) ∙ means_number k u (is_element first fs (node_at first fs u)) p.1 same
+      ap (λ (x : Option ℕ). is_at x u) (number_here (node_at first fs u) p.0)
+      ∙ means_number k u (is_element first fs (node_at first fs u)) p.1 same
 
-  from_node : (y u : ℕ) → (nat_lt u (length (elements first fs)) && eqb y (node_at first fs u)) ≡ true → is_at (get_or numbers y None) u ≡ true
+  from_node : (y u : ℕ) → (nat_lt u (length (elements first fs)) && eqb y (node_at first fs u)) ≡ true
+      → is_at (get_or numbers y None) u ≡ true
   from_node y u h =
       let t = and_parts (nat_lt u (length (elements first fs))) (eqb y (node_at first fs u)) h in
       let e : y ≡ node_at first fs u = eqb-true y (node_at first fs u) t.1 in
-      subst (λ (z : ℕ). is_at (get_or numbers z None) u ≡ true) (sym e) (at_node u (ltb-true u (length (elements first fs)) t.0))
+      subst (λ (z : ℕ). is_at (get_or numbers z None) u ≡ true) (sym e)
+      (at_node u (ltb-true u (length (elements first fs)) t.0))
 
   -- a node has the number u exactly where it is the node of the element u
-  pub number_is : (y u : ℕ) → is_at (get_or (map (number_of first fs) (range_with_len 0 (node_count_from first fs))) y None) u ≡ (nat_lt u (length (elements first fs)) && eqb y (node_at first fs u))
-  number_is y u = same_truth (is_at (get_or numbers y None) u) (nat_lt u (length (elements first fs)) && eqb y (node_at first fs u)) (to_node y u) (from_node y u)
+  pub number_is : (y u : ℕ)
+      → is_at (get_or (map (number_of first fs) (range_with_len 0 (node_count_from first fs))) y None) u
+      ≡ (nat_lt u (length (elements first fs)) && eqb y (node_at first fs u))
+  number_is y u =
+      same_truth (is_at (get_or numbers y None) u) (nat_lt u (length (elements first fs)) && eqb y (node_at first fs u))
+      (to_node y u) (from_node y u)
 
 -- the same lists are
-pub numbered_same : (first : ℕ) (fs : List (Fact ℕ)) (n : ℕ) (ns ns' : List (Option ℕ)) (os os' : List ℕ) → AreNumbered first fs n ns os → ns' ≡ ns → os' ≡ os → AreNumbered first fs n ns' os'
-numbered_same first fs n ns ns' os os' numbered same alike = record { numbers_are = same ∙ numbered.numbers_are; originals_are = alike ∙ numbered.originals_are }
+pub numbered_same : (first : ℕ) (fs : List (Fact ℕ)) (n : ℕ) (ns ns' : List (Option ℕ)) (os os' : List ℕ)
+    → AreNumbered first fs n ns os → ns' ≡ ns → os' ≡ os → AreNumbered first fs n ns' os'
+numbered_same first fs n ns ns' os os' numbered same alike =
+    record { numbers_are = same ∙ numbered.numbers_are; originals_are = alike ∙ numbered.originals_are }

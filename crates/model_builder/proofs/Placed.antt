@@ -1,5 +1,6 @@
 -- The places of individuals.
-use Rattle.std.proofs.Common.{◌≡◌, ℕ, zero, suc, ◌+◌, ◌<◌, Bool, cond, List, [], ◌∷◌, ◌++◌, map, length, get_or, Some, None, refl, ap, ◌∙◌, sym, subst, arith, inl, inr, add-one}
+use Rattle.std.proofs.Common.{◌≡◌, ℕ, zero, suc, ◌+◌, ◌<◌, Bool, cond, List, [], ◌∷◌, ◌++◌, map, length, get_or, Some}
+use Rattle.std.proofs.Common.{None, refl, ap, ◌∙◌, sym, subst, arith, inl, inr, add-one}
 use Rattle.std.specs.Prelude.{Option, nat_eq, unwrap_or, take, if◌then◌else◌, All}
 use Rattle.std.specs.List.{range_with_len}
 use Rattle.std.proofs.lemmas.Bool.{cases_lt, ne_eqb}
@@ -23,33 +24,43 @@ use Rattle.model_builder.proofs.Numbers.{own_from}
 
 module _ (first : ℕ) (fs : List (Fact ℕ)) where
   -- the place of a first node is the number of its element
-  place_is : (a : ℕ) → a < first → IsNumberOf first fs a (place_of (map (number_of first fs) (range_with_len 0 (node_count_from first fs))) (rep fs) a)
+  place_is : (a : ℕ) → a < first
+      → IsNumberOf first fs a
+      (place_of (map (number_of first fs) (range_with_len 0 (node_count_from first fs))) (rep fs) a)
   place_is a lt =
       let node : rep fs a < node_count_from first fs = omega (arith, rep_is_first first fs a lt, first_le first fs) in
       let h = first_is_element first fs a lt in
       let o = own_from (is_element first fs) (node_count_from first fs) (rep fs a) node h in
-      let at : place_of (map (number_of first fs) (range_with_len 0 (node_count_from first fs))) (rep fs) a ≡ length (elements_below first fs (rep fs a)) =
+      let at : place_of (map (number_of first fs) (range_with_len 0 (node_count_from first fs))) (rep fs) a
+      ≡ length (elements_below first fs (rep fs a)) =
       ap (λ (o : Option ℕ). unwrap_or o 0)
-      (get_or-map-range_with_len (number_of first fs) 0 (node_count_from first fs) (rep fs a) (rep fs a) None node (omega arith)
+      (get_or-map-range_with_len (number_of first fs) 0 (node_count_from first fs) (rep fs a) (rep fs a) None node
+      (omega arith)
       ∙ ap (λ (b : Bool). if b then Some (length (elements_below first fs (rep fs a))) else None) h) in
       subst (λ (v : ℕ). IsNumberOf first fs a v) (sym at) (record { is_within = o.is_within; is_there = o.is_there })
 
   pub places_none : ArePlaces first fs 0 []
   places_none = record { long = refl; each = λ a lt. absurd (omega (arith, lt)) }
 
-  pub places_more : (numbers : List (Option ℕ)) (n : ℕ) (old new : List ℕ) → numbers ≡ map (number_of first fs) (range_with_len 0 (node_count_from first fs)) → n < first
+  pub places_more : (numbers : List (Option ℕ)) (n : ℕ) (old new : List ℕ)
+      → numbers ≡ map (number_of first fs) (range_with_len 0 (node_count_from first fs)) → n < first
       → ArePlaces first fs n old → new ≡ old ++ place_of numbers (rep fs) n ∷ [] → ArePlaces first fs (n + 1) new
   places_more numbers n old new is lt before put = record {
     long = omega (arith, before.long, ap length put, length-append old (place_of numbers (rep fs) n ∷ []));
     each = λ a within. elim (cases_lt a n) [
       | inl less ↦
-          let at : get_or new a 0 ≡ get_or old a 0 = ap (λ (xs : List ℕ). get_or xs a 0) put ∙ get_or_append_left old (place_of numbers (rep fs) n ∷ []) 0 a (omega (arith, before.long, less)) in
+          let at : get_or new a 0 ≡ get_or old a 0 =
+          ap (λ (xs : List ℕ). get_or xs a 0) put
+          ∙ get_or_append_left old (place_of numbers (rep fs) n ∷ []) 0 a (omega (arith, before.long, less)) in
           subst (λ (v : ℕ). IsNumberOf first fs a v) (sym at) (before.each a less)
       | inr past ↦
           let same : n ≡ a = omega (arith, past, within) in
-          let at : get_or new n 0 ≡ place_of (map (number_of first fs) (range_with_len 0 (node_count_from first fs))) (rep fs) n =
-          ap (λ (xs : List ℕ). get_or xs n 0) put ∙ last (place_of numbers (rep fs) n) ∙ ap (λ (ns : List (Option ℕ)). place_of ns (rep fs) n) is in
-          subst (λ (b : ℕ). IsNumberOf first fs b (get_or new b 0)) same (subst (λ (v : ℕ). IsNumberOf first fs n v) (sym at) (place_is n lt))
+          let at : get_or new n 0
+          ≡ place_of (map (number_of first fs) (range_with_len 0 (node_count_from first fs))) (rep fs) n =
+          ap (λ (xs : List ℕ). get_or xs n 0) put ∙ last (place_of numbers (rep fs) n)
+          ∙ ap (λ (ns : List (Option ℕ)). place_of ns (rep fs) n) is in
+          subst (λ (b : ℕ). IsNumberOf first fs b (get_or new b 0)) same
+          (subst (λ (v : ℕ). IsNumberOf first fs n v) (sym at) (place_is n lt))
     ];
   }
     where
@@ -57,7 +68,8 @@ module _ (first : ℕ) (fs : List (Fact ℕ)) where
       last x = ap (λ (k : ℕ). get_or (old ++ x ∷ []) k 0) (sym before.long) ∙ get_or-append_seam old x [] 0
 
   -- they are elements
-  pub places_inside : (n : ℕ) (places : List ℕ) → ArePlaces first fs n places → All (λ (x : ℕ). x < length (elements first fs)) places
+  pub places_inside : (n : ℕ) (places : List ℕ) → ArePlaces first fs n places
+      → All (λ (x : ℕ). x < length (elements first fs)) places
   places_inside n places are k d lt =
       let same : get_or places k 0 ≡ get_or places k d = get_or_default places k 0 d lt in
       omega (arith, (are.each k (omega (arith, are.long, lt))).is_within, same)
@@ -71,15 +83,22 @@ next_same : (a n : ℕ) → nat_eq (suc a) (suc n) ≡ nat_eq a n
 next_same a n = grind (arith, nat_tests)
 
 -- the element of one place more
-one_more : (places : List ℕ) (n a d : ℕ) → n < length places → cond (nat_eq a n) (get_or places n 0) (get_or (take n places) a d) ≡ get_or (take (suc n) places) a d
+one_more : (places : List ℕ) (n a d : ℕ) → n < length places
+    → cond (nat_eq a n) (get_or places n 0) (get_or (take n places) a d) ≡ get_or (take (suc n) places) a d
 one_more [] n a d lt = absurd (omega (arith, lt))
 one_more (x ∷ places) zero zero d lt = refl
-one_more (x ∷ places) zero (suc a) d lt = ap (λ (b : Bool). cond b x d) (ne_eqb (suc a) 0 (λ e. absurd (omega (arith, e))))
-one_more (x ∷ places) (suc n) zero d lt = ap (λ (b : Bool). cond b (get_or places n 0) x) (ne_eqb 0 (suc n) (λ e. absurd (omega (arith, e))))
-one_more (x ∷ places) (suc n) (suc a) d lt = ap (λ (b : Bool). cond b (get_or places n 0) (get_or (take n places) a d)) (next_same a n) ∙ one_more places n a d (omega (arith, lt))
+one_more (x ∷ places) zero (suc a) d lt =
+    ap (λ (b : Bool). cond b x d) (ne_eqb (suc a) 0 (λ e. absurd (omega (arith, e))))
+one_more (x ∷ places) (suc n) zero d lt =
+    ap (λ (b : Bool). cond b (get_or places n 0) x) (ne_eqb 0 (suc n) (λ e. absurd (omega (arith, e))))
+one_more (x ∷ places) (suc n) (suc a) d lt =
+    ap (λ (b : Bool). cond b (get_or places n 0) (get_or (take n places) a d)) (next_same a n)
+    ∙ one_more places n a d (omega (arith, lt))
 
-pub one_placed : (old mid new : ModelLists) (places : List ℕ) (n x : ℕ) → n < length places → x ≡ get_or places n 0 → HasPlaces old mid (take n places) → new ≡ with_individual n x mid
-    → ((a : ℕ) → (meaning new).individual a ≡ cond (nat_eq a n) x ((meaning mid).individual a)) → HasPlaces old new (take (n + 1) places)
+pub one_placed : (old mid new : ModelLists) (places : List ℕ) (n x : ℕ) → n < length places → x ≡ get_or places n 0
+    → HasPlaces old mid (take n places) → new ≡ with_individual n x mid
+    → ((a : ℕ) → (meaning new).individual a ≡ cond (nat_eq a n) x ((meaning mid).individual a))
+    → HasPlaces old new (take (n + 1) places)
 one_placed old mid new places n x lt is before put stands = record {
   same_size = ap (λ (k : ModelLists). k.size) put ∙ before.same_size;
   same_members = ap (λ (k : ModelLists). k.members) put ∙ before.same_members;

@@ -1,5 +1,6 @@
 -- Tests of numbers below a bound, one more at a time.
-use Rattle.std.proofs.Common.{◌≡◌, ℕ, zero, suc, ◌+◌, ◌&&◌, ◌||◌, eqb, Bool, true, false, refl, ap, ◌∙◌, sym, arith, inl, inr, add-one, eq-eqb}
+use Rattle.std.proofs.Common.{◌≡◌, ℕ, zero, suc, ◌+◌, ◌&&◌, ◌||◌, eqb, Bool, true, false, refl, ap, ◌∙◌, sym, arith}
+use Rattle.std.proofs.Common.{inl, inr, add-one, eq-eqb}
 use Rattle.std.specs.Prelude.{nat_lt}
 use Rattle.std.proofs.lemmas.Bool.{cases_eq, ne_eqb}
 use Rattle.std.proofs.lemmas.Bool.Decides.{nat_tests}
@@ -37,8 +38,11 @@ lt_more n m = elim (cases_eq n m) [
 
 -- ---- one number below a bound
 
-same_or : (l e p q a b : Bool) → (e ≡ true → p ≡ q) → ((l && (q && a && b)) || (p && (e && a && b))) ≡ ((l || e) && (q && a && b))
-same_or l false p q a b h = ap (λ (c : Bool). (l && (q && a && b)) || c) (and-false p) ∙ or-false (l && (q && a && b)) ∙ sym (ap (λ (c : Bool). c && (q && a && b)) (or-false l))
+same_or : (l e p q a b : Bool) → (e ≡ true → p ≡ q)
+    → ((l && (q && a && b)) || (p && (e && a && b))) ≡ ((l || e) && (q && a && b))
+same_or l false p q a b h =
+    ap (λ (c : Bool). (l && (q && a && b)) || c) (and-false p) ∙ or-false (l && (q && a && b))
+    ∙ sym (ap (λ (c : Bool). c && (q && a && b)) (or-false l))
 same_or l true p q a b h = ap (λ (c : Bool). (l && (q && a && b)) || (c && (a && b))) (h refl) ∙ joined l q a b
   where
     joined : (l q a b : Bool) → ((l && (q && a && b)) || (q && (a && b))) ≡ ((l || true) && (q && a && b))
@@ -51,7 +55,8 @@ same_or l true p q a b h = ap (λ (c : Bool). (l && (q && a && b)) || (c && (a &
     joined false false a b = refl
 
 -- the number s is below the bound and passes
-pub one_below : (n s : ℕ) (p : ℕ → Bool) (a b : Bool) → any_below n (λ u. p u && (eqb u s && a && b)) ≡ (nat_lt s n && (p s && a && b))
+pub one_below : (n s : ℕ) (p : ℕ → Bool) (a b : Bool)
+    → any_below n (λ u. p u && (eqb u s && a && b)) ≡ (nat_lt s n && (p s && a && b))
 one_below zero s p a b = sym (ap (λ (c : Bool). c && (p s && a && b)) (lt_none s))
 one_below (suc n) s p a b =
     ap (λ (c : Bool). c || (p n && (eqb n s && a && b))) (one_below n s p a b)

@@ -1,5 +1,6 @@
 -- What is collected of the elements of facts: their members of classes, and the edges between them.
-use Rattle.std.specs.Prelude.{◌≡◌, ℕ, ◌<◌, ◌==◌, ◌&&◌, nat_lt, Bool, List, [], ◌∷◌, ◌++◌, length, slice_index_or, Option, Some, None}
+use Rattle.std.specs.Prelude.{◌≡◌, ℕ, ◌<◌, ◌==◌, ◌&&◌, nat_lt, Bool, List, [], ◌∷◌, ◌++◌, length, slice_index_or}
+use Rattle.std.specs.Prelude.{Option, Some, None}
 use Rattle.std.specs.List.{list_any}
 use Rattle.shq_terms.specs.Concept.{name}
 use Rattle.shq_meaning.specs.Truth.{Interpretation}
@@ -19,7 +20,13 @@ use Rattle.model_builder.specs.Laws.{AreOfElements}
 
 -- what a search reads of roles, concepts and first nodes alone
 abbrev pub context_over : List RoleAxiom → List Shape → ℕ → SearchContext
-context_over roles table first = record { theory = record { parts = []; below = is_below roles; is_transitive = is_transitive roles }; table = table; rows = []; first = first; fact_of = λ a p. None }
+context_over roles table first = record {
+  theory = record { parts = []; below = is_below roles; is_transitive = is_transitive roles };
+  table = table;
+  rows = [];
+  first = first;
+  fact_of = λ a p. None;
+}
 
 -- ---- members
 
@@ -43,7 +50,8 @@ has_class table fs x a = has_name (context_over [] table 1) fs x (name a)
 
 -- the first n elements are in just the classes of the nodes that they are like
 abbrev pub AreMembers : List Shape → List (Fact ℕ) → List ℕ → ℕ → List Member → Type 0
-AreMembers table fs originals n members = (a v : ℕ) → is_member_of members a v ≡ (nat_lt v n && has_class table fs (slice_index_or originals v 0) a)
+AreMembers table fs originals n members = (a v : ℕ)
+    → is_member_of members a v ≡ (nat_lt v n && has_class table fs (slice_index_or originals v 0) a)
 
 -- ---- edges
 
@@ -66,7 +74,8 @@ leads_from first fs roles x u = nat_lt u (length (elements first fs)) && is_succ
 
 -- the first n elements have just the edges of the nodes that they are like
 abbrev pub AreElementEdges : ℕ → List (Fact ℕ) → List ℕ → ℕ → List Edge → Type 0
-AreElementEdges first fs originals n edges = (roles : ℕ → Bool) (v u : ℕ) → has_edge_by roles edges v u ≡ (nat_lt v n && leads_from first fs roles (slice_index_or originals v 0) u)
+AreElementEdges first fs originals n edges = (roles : ℕ → Bool) (v u : ℕ)
+    → has_edge_by roles edges v u ≡ (nat_lt v n && leads_from first fs roles (slice_index_or originals v 0) u)
 
 -- ---- individuals
 
@@ -78,7 +87,8 @@ pub record ArePlaces (first : ℕ) (fs : List (Fact ℕ)) (n : ℕ) (places : Li
 -- ---- the interpretation
 
 -- it is that of a structure with these members, edges and individuals
-pub record IsOfElements (table : List Shape) (roles : List RoleAxiom) (count first : ℕ) (fs : List (Fact ℕ)) (i : Interpretation) : Type 0 where
+pub record IsOfElements (table : List Shape) (roles : List RoleAxiom) (count first : ℕ) (fs : List (Fact ℕ))
+    (i : Interpretation) : Type 0 where
   pub members : List Member
   pub edges : List Edge
   pub places : List ℕ

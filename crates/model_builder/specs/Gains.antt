@@ -21,4 +21,5 @@ pub record HasLinks (old new : ModelLists) (more : ℕ → ℕ → ℕ → Bool)
   pub same_size : new.size ≡ old.size
   pub same_members : new.members ≡ old.members
   pub same_individuals : new.individuals ≡ old.individuals
-  pub links_are : (s x y : ℕ) → x < old.size → y < old.size → (meaning new).in_role s x y ≡ ((meaning old).in_role s x y || more s x y)
+  pub links_are : (s x y : ℕ) → x < old.size → y < old.size
+      → (meaning new).in_role s x y ≡ ((meaning old).in_role s x y || more s x y)

@@ -24,16 +24,22 @@ use Rattle.model_builder.specs.Structure.{is_member_of, leads, IsInterpretation}
 
 -- The members and edges are those of the elements of the trail: of the nodes that these are like. Each individual is
 -- the element that its node is one with; there is one first node more than individuals.
-pub record AreOfElements (w : SearchContext) (fs : List (Fact ℕ)) (roles : List RoleAxiom) (members : List Member) (edges : List Edge) (places : List ℕ) : Type 0 where
-  pub members_are : (a v : ℕ) → v < length (elements w.first fs) → is_member_of members a v ≡ has_name w fs (original w.first fs (node_at w.first fs v)) (name a)
-  pub edges_are : (s v u : ℕ) → v < length (elements w.first fs) → u < length (elements w.first fs) → leads roles edges s v u ≡ leads_to w fs s v u
+pub record AreOfElements (w : SearchContext) (fs : List (Fact ℕ)) (roles : List RoleAxiom) (members : List Member)
+    (edges : List Edge) (places : List ℕ) : Type 0 where
+  pub members_are : (a v : ℕ) → v < length (elements w.first fs)
+      → is_member_of members a v ≡ has_name w fs (original w.first fs (node_at w.first fs v)) (name a)
+  pub edges_are : (s v u : ℕ) → v < length (elements w.first fs) → u < length (elements w.first fs)
+      → leads roles edges s v u ≡ leads_to w fs s v u
   pub as_many : length places + 1 ≡ w.first
   pub places_are : (a : ℕ) → a < length places → IsNumberOf w.first fs a (slice_index_or places a 0)
 
 abbrev pub StructuresAreBuilt : Type 0
 StructuresAreBuilt =
-    (o : Listed) (ks : List ℕ) (q : Query) (table : List Shape) (rows : List Row) (k : ℕ) (trail : List Item) (members : List Member) (edges : List Edge) (places : List ℕ) (i : Interpretation)
+    (o : Listed) (ks : List ℕ) (q : Query) (table : List Shape) (rows : List Row) (k : ℕ) (trail : List Item)
+    (members : List Member) (edges : List Edge) (places : List ℕ) (i : Interpretation)
     → IsInLimit o q → IsReached (question_in o ks q) table rows k trail
-    → AreOfElements (context_of (question_in o ks q) table rows) (facts_of trail) (role_axioms o.axioms ks) members edges places
-    → IsInterpretation (length (elements (question_in o ks q).first (facts_of trail))) (length o.roles) members (role_axioms o.axioms ks) edges places i
+    → AreOfElements (context_of (question_in o ks q) table rows) (facts_of trail) (role_axioms o.axioms ks) members
+    edges places
+    → IsInterpretation (length (elements (question_in o ks q).first (facts_of trail))) (length o.roles) members
+    (role_axioms o.axioms ks) edges places i
     → IsBuilt (context_of (question_in o ks q) table rows) (facts_of trail) i

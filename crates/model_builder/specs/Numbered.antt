@@ -1,5 +1,6 @@
 -- The elements of facts by their numbers, as they are found node by node. There are `first` first nodes.
-use Rattle.std.specs.Prelude.{◌≡◌, ℕ, List, [], ◌∷◌, map, length, filter, Option, Some, None, unwrap_or, slice_index_or, if◌then◌else◌}
+use Rattle.std.specs.Prelude.{◌≡◌, ℕ, List, [], ◌∷◌, map, length, filter, Option, Some, None, unwrap_or, slice_index_or}
+use Rattle.std.specs.Prelude.{if◌then◌else◌}
 use Rattle.std.specs.List.{range_with_len}
 use Rattle.calculus_specs.specs.declared.facts.Fact.{Fact}
 use Rattle.tableau_specs.specs.declared.Block.{Block}
@@ -41,6 +42,7 @@ original_list (Some z) = z ∷ []
 -- ---- the nodes below a bound
 
 -- of the first n nodes these are the numbers, and these are the nodes that the elements among them are like
-pub record AreNumbered (first : ℕ) (fs : List (Fact ℕ)) (n : ℕ) (numbers : List (Option ℕ)) (originals : List ℕ) : Type 0 where
+pub record AreNumbered (first : ℕ) (fs : List (Fact ℕ)) (n : ℕ) (numbers : List (Option ℕ)) (originals : List ℕ) :
+    Type 0 where
   pub numbers_are : numbers ≡ map (number_of first fs) (range_with_len 0 n)
   pub originals_are : originals ≡ map (original first fs) (elements_below first fs n)

@@ -41,7 +41,8 @@ has_chain_of count roles t chain s x y = nat_lt s count && (is_below roles t s &
 
 -- the chains of one or more edges by roles below t, where t is transitive
 abbrev pub has_chain_by : ℕ → ℕ → List RoleAxiom → List Edge → ℕ → ℕ → ℕ → ℕ → Bool
-has_chain_by size count roles edges t s x y = is_transitive roles t && has_chain_of count roles t (has_path (leads roles edges t) size) s x y
+has_chain_by size count roles edges t s x y =
+    is_transitive roles t && has_chain_of count roles t (has_path (leads roles edges t) size) s x y
 
 -- the chains of any of the first roles
 abbrev pub has_any_chain : ℕ → ℕ → List RoleAxiom → List Edge → ℕ → ℕ → ℕ → Bool
@@ -49,8 +50,10 @@ has_any_chain size count roles edges s x y = any_below count (λ t. has_chain_by
 
 -- A class has its members; each of the first roles has the edges below it, and the chains of transitive roles below it.
 -- An individual is the element at its place, and where there is none the number 0.
-pub record IsInterpretation (size count : ℕ) (members : List Member) (roles : List RoleAxiom) (edges : List Edge) (places : List ℕ) (i : Interpretation) : Type 0 where
+pub record IsInterpretation (size count : ℕ) (members : List Member) (roles : List RoleAxiom) (edges : List Edge)
+    (places : List ℕ) (i : Interpretation) : Type 0 where
   pub size_is : i.size ≡ size
   pub classes_are : (a x : ℕ) → i.in_class a x ≡ is_member_of members a x
-  pub roles_are : (s x y : ℕ) → x < size → y < size → i.in_role s x y ≡ (leads_listed count roles edges s x y || has_any_chain size count roles edges s x y)
+  pub roles_are : (s x y : ℕ) → x < size → y < size
+      → i.in_role s x y ≡ (leads_listed count roles edges s x y || has_any_chain size count roles edges s x y)
   pub individuals_are : (a : ℕ) → i.individual a ≡ slice_index_or places a 0

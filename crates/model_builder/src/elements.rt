@@ -27,7 +27,9 @@ pub(crate) fn elements_of<A: Allocator + Copy>(
     prints: &Blocks,
 ) -> Result<Elements, NoMemory>
     requires { IsCurrent tree.now.first (facts_in tree.now.entries) prints.now }
-    ensures numbered { IfOk result (λ e. AreNumbered tree.now.first (facts_in tree.now.entries) (node_count_from tree.now.first (facts_in tree.now.entries)) e.numbers.items e.originals.items) }
+    ensures numbered { IfOk result
+        (λ e. AreNumbered tree.now.first (facts_in tree.now.entries)
+        (node_count_from tree.now.first (facts_in tree.now.entries)) e.numbers.items e.originals.items) }
     ensures few { IfOk result (λ e. length e.originals.items < 2 ^ 32) }
 {
     let mut elements = Elements {
@@ -71,7 +73,8 @@ fn put_node(
     original: Option<u32>,
 ) -> Result<(), NoMemory>
     requires { length originals.old.items < 2 ^ 32 }
-    ensures numbers { OnOk result (numbers.new.items ≡ numbers.old.items ++ number_in (length originals.old.items) original ∷ []) }
+    ensures numbers { OnOk result
+        (numbers.new.items ≡ numbers.old.items ++ number_in (length originals.old.items) original ∷ []) }
     ensures originals { OnOk result (originals.new.items ≡ originals.old.items ++ original_list original) }
 {
     match original {

@@ -47,7 +47,8 @@ pub fn build<A: Allocator + Copy>(
     requires within { IsInLimit rules.now.ontology query.now }
     requires saturated { IsSaturatedTrail rules.now query.now (items_of tree.now.entries) }
     ensures built { IfOk result (λ k. IsBuilt (context_in rules.now) (facts_in tree.now.entries) (meaning k)) }
-    ensures counter_model { IfOk result (λ k. IsCounterModel rules.now.ontology (numbers_in rules.now) query.now (meaning k)) }
+    ensures counter_model { IfOk result
+        (λ k. IsCounterModel rules.now.ontology (numbers_in rules.now) query.now (meaning k)) }
     ensures listed { IfOk result (λ k. IsTrue (uses_listed_names rules.now.ontology k)) }
 {
     let _ = query;
@@ -75,7 +76,8 @@ pub fn interpretation_of_elements<A: Allocator + Copy>(
     count: u32,
 ) -> Result<Interp, NoMemory>
     requires { IsCurrent tree.now.first (facts_in tree.now.entries) prints.now }
-    ensures { IfOk result (λ k. IsOfElements concepts.now roles.now count tree.now.first (facts_in tree.now.entries) (meaning k)) }
+    ensures { IfOk result
+        (λ k. IsOfElements concepts.now roles.now count tree.now.first (facts_in tree.now.entries) (meaning k)) }
 {
     elements_are_few();
     let elements = elements_of(alloc, tree, prints)?;

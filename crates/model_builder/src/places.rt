@@ -22,7 +22,9 @@ pub(crate) fn places_of<A: Allocator + Copy>(
     count: u32,
 ) -> Result<Vec<u32>, NoMemory>
     requires first { count ≤ tree.now.first }
-    requires numbers { numbers.now ≡ map (number_of tree.now.first (facts_in tree.now.entries)) (range_with_len 0 (node_count_from tree.now.first (facts_in tree.now.entries))) }
+    requires numbers { numbers.now
+        ≡ map (number_of tree.now.first (facts_in tree.now.entries))
+        (range_with_len 0 (node_count_from tree.now.first (facts_in tree.now.entries))) }
     ensures { IfOk result (λ places. ArePlaces tree.now.first (facts_in tree.now.entries) count places.items) }
 {
     let mut places = Vec::new(alloc);

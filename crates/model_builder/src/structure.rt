@@ -7,7 +7,8 @@ ghost use Rattle.calculus_specs.specs.Joins.{rep};
 ghost use Rattle.calculus_specs.specs.State.{node_count_from};
 ghost use Rattle.completion_tree.specs.Trail.{facts_in};
 ghost use Rattle.model_builder.specs.Numbered.{number_of};
-ghost use Rattle.model_builder.specs.Collected.{class_in, member_of, members_by, edge_to, edges_by, AreMembers, AreElementEdges};
+ghost use Rattle.model_builder.specs.Collected.{class_in, member_of, members_by, edge_to, edges_by, AreMembers};
+ghost use Rattle.model_builder.specs.Collected.{AreElementEdges};
 
 use crate::{Edge, Member, NoMemory};
 use completion_tree::Tree;
@@ -23,7 +24,8 @@ pub(crate) fn members_of<A: Allocator + Copy>(
     size: u32,
 ) -> Result<Vec<Member>, NoMemory>
     requires { size ≡ length originals.now }
-    ensures { IfOk result (λ members. AreMembers concepts.now (facts_in tree.now.entries) originals.now size members.items) }
+    ensures { IfOk result
+        (λ members. AreMembers concepts.now (facts_in tree.now.entries) originals.now size members.items) }
 {
     let mut members = Vec::new(alloc);
     for element in 0..size {
@@ -87,8 +89,11 @@ pub(crate) fn edges_of<A: Allocator + Copy>(
     size: u32,
 ) -> Result<Vec<Edge>, NoMemory>
     requires size { size ≡ length originals.now }
-    requires numbers { numbers.now ≡ map (number_of tree.now.first (facts_in tree.now.entries)) (range_with_len 0 (node_count_from tree.now.first (facts_in tree.now.entries))) }
-    ensures { IfOk result (λ edges. AreElementEdges tree.now.first (facts_in tree.now.entries) originals.now size edges.items) }
+    requires numbers { numbers.now
+        ≡ map (number_of tree.now.first (facts_in tree.now.entries))
+        (range_with_len 0 (node_count_from tree.now.first (facts_in tree.now.entries))) }
+    ensures { IfOk result
+        (λ edges. AreElementEdges tree.now.first (facts_in tree.now.entries) originals.now size edges.items) }
 {
     let mut edges = Vec::new(alloc);
     for element in 0..size {
@@ -106,7 +111,9 @@ fn put_edges<A: Allocator + Copy>(
     element: u32,
     begun: &[(u32, u32)],
 ) -> Result<(), NoMemory>
-    ensures { OnOk result (edges.new.items ≡ edges.old.items ++ edges_by (rep (facts_in tree.now.entries)) numbers.now element begun.now) }
+    ensures { OnOk result
+        (edges.new.items
+        ≡ edges.old.items ++ edges_by (rep (facts_in tree.now.entries)) numbers.now element begun.now) }
 {
     for edge in begun {
         let end = number_at(numbers, tree.representative(edge.1));

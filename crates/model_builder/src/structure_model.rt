@@ -64,7 +64,8 @@ pub fn interpretation(
     requires ends { All (λ e. e.to < size) edges.now }
     requires places { All (λ x. x < size) places.now }
     requires few { length places.now < 2 ^ 32 }
-    ensures { IfOk result (λ k. IsInterpretation size role_count members.now roles.now edges.now places.now (meaning k)) }
+    ensures { IfOk result
+        (λ k. IsInterpretation size role_count members.now roles.now edges.now places.now (meaning k)) }
 {
     let mut model = Interp::new(alloc, size);
     put_members(&mut model, members)?;

@@ -1,5 +1,6 @@
 -- Names that come in, one after another.
-use Rattle.std.proofs.Common.{◌≡◌, ℕ, suc, ◌+◌, ◌<◌, Bool, true, false, ◌&&◌, ◌||◌, List, [], ◌∷◌, ◌++◌, length, take, get_or, refl, ap, sym, ◌∙◌, subst, arith, inl, inr}
+use Rattle.std.proofs.Common.{◌≡◌, ℕ, suc, ◌+◌, ◌<◌, Bool, true, false, ◌&&◌, ◌||◌, List, [], ◌∷◌, ◌++◌, length, take}
+use Rattle.std.proofs.Common.{get_or, refl, ap, sym, ◌∙◌, subst, arith, inl, inr}
 use Rattle.std.proofs.Math.Seq.{take-suc}
 use Rattle.std.proofs.lemmas.Bool.{cases_Bool}
 use Rattle.std.proofs.lemmas.List.Folds.{list_any-append}
@@ -11,7 +12,8 @@ use Rattle.module_extract.specs.declared.marks.Marks.{Marks}
 use Rattle.module_extract.specs.Marks.{is_listed, has_place, is_marked, HasMarked}
 use Rattle.module_extract.specs.Growth.{HasTaken}
 
-pub same_places : (old new : Marks) (names : List Name) → HasMarked old new names → (n : Name) → has_place new n ≡ has_place old n
+pub same_places : (old new : Marks) (names : List Name) → HasMarked old new names → (n : Name)
+    → has_place new n ≡ has_place old n
 same_places old new names h n = λ j. is_listed (h.same_classes j) (h.same_roles j) n
 
 marked_none : (m : Marks) → HasMarked m m []
@@ -36,7 +38,8 @@ taken_none m waiting = record {
   same_room = refl;
 }
 
-taken_then : (a b c : Marks) (ws xs ys : List Name) (ms ns : List Name) → HasTaken a b ws xs ms → HasTaken b c xs ys ns → HasTaken a c ws ys (ms ++ ns)
+taken_then : (a b c : Marks) (ws xs ys : List Name) (ms ns : List Name) → HasTaken a b ws xs ms → HasTaken b c xs ys ns
+    → HasTaken a c ws ys (ms ++ ns)
 taken_then a b c ws xs ys ms ns f g = record {
   marks = marked_then a b c ms ns f.marks g.marks;
   still_wait = λ n h. g.still_wait n (f.still_wait n h);
@@ -48,7 +51,11 @@ taken_then a b c ws xs ys ms ns f g = record {
 }
 
 -- one name more of a list
-pub taken_more : (a b c : Marks) (ws xs ys : List Name) (names : List Name) (i : ℕ) (d : Name) → i < length names → HasTaken a b ws xs (take i names) → HasTaken b c xs ys (get_or names i d ∷ []) → HasTaken a c ws ys (take (i + 1) names)
+pub taken_more : (a b c : Marks) (ws xs ys : List Name) (names : List Name) (i : ℕ) (d : Name) → i < length names
+    → HasTaken a b ws xs (take i names) → HasTaken b c xs ys (get_or names i d ∷ [])
+    → HasTaken a c ws ys (take (i + 1) names)
 taken_more a b c ws xs ys names i d lt f g =
-    let e : take (i + 1) names ≡ take i names ++ (get_or names i d ∷ []) = let s : i + 1 ≡ suc i = omega arith in ap (λ (k : ℕ). take k names) s ∙ take-suc names i d lt in
-    subst (λ (ns : List Name). HasTaken a c ws ys ns) (sym e) (taken_then a b c ws xs ys (take i names) (get_or names i d ∷ []) f g)
+    let e : take (i + 1) names ≡ take i names ++ (get_or names i d ∷ []) =
+    let s : i + 1 ≡ suc i = omega arith in ap (λ (k : ℕ). take k names) s ∙ take-suc names i d lt in
+    subst (λ (ns : List Name). HasTaken a c ws ys ns) (sym e)
+    (taken_then a b c ws xs ys (take i names) (get_or names i d ∷ []) f g)

@@ -18,7 +18,9 @@ use Rattle.module_extract.specs.declared.growth.Growth.{Growth}
 -- the axiom at a place needs no other look: it is in the module, or local for the names that came in, or has a name
 -- that waits
 abbrev pub is_settled : Growth → ℕ → Axiom → Bool
-is_settled g place a = set.contains g.members.members (place + 1) || is_local (is_marked g.marks) a || list_any (is_among g.pending.items) (axiom_names a)
+is_settled g place a =
+    set.contains g.members.members (place + 1) || is_local (is_marked g.marks) a
+    || list_any (is_among g.pending.items) (axiom_names a)
 
 -- how many names can come in or wait
 abbrev pub room : Growth → ℕ
@@ -42,7 +44,8 @@ pub record IsGrowing (axioms : List Numbered) (q : Query) (members : NumberSet) 
   pub listed : all_listed (length marks.classes.items) (length marks.roles.items) axioms ≡ true
   pub least : (t : NumberSet) → IsClosed axioms q t → IsPart members t
   pub marked_is_name : (n : Name) → is_marked marks n ≡ true → is_among (module_names axioms q members) n ≡ true
-  pub name_is_marked : (n : Name) → is_among (module_names axioms q members) n ≡ true → has_place marks n ≡ true → is_marked marks n ≡ true
+  pub name_is_marked : (n : Name) → is_among (module_names axioms q members) n ≡ true → has_place marks n ≡ true
+      → is_marked marks n ≡ true
 
 -- the module grows from the query
 abbrev pub GrowsFrom : List Numbered → Query → Growth → Type 0
@@ -57,12 +60,14 @@ pub record HasLooked (axioms : List Numbered) (old new : Growth) (places : List 
   pub limit : new.members.limit ≡ old.members.limit
   pub growing : StaysGrowing axioms old new
   pub stays : (place : ℕ) (a : Axiom) → is_settled old place a ≡ true → is_settled new place a ≡ true
-  pub settled : (place : ℕ) (a : Numbered) → Contains places place → slice_get axioms place ≡ Some a → is_settled new place a.axiom ≡ true
+  pub settled : (place : ℕ) (a : Numbered) → Contains places place → slice_get axioms place ≡ Some a
+      → is_settled new place a.axiom ≡ true
   pub same_room : room new ≡ room old
 
 -- the first axioms, up to a count, are settled
 abbrev pub FirstSettled : List Numbered → ℕ → Growth → Type 0
-FirstSettled axioms count g = (place : ℕ) (a : Numbered) → place < count → slice_get axioms place ≡ Some a → is_settled g place a.axiom ≡ true
+FirstSettled axioms count g = (place : ℕ) (a : Numbered) → place < count → slice_get axioms place ≡ Some a
+    → is_settled g place a.axiom ≡ true
 
 -- all axioms are settled
 abbrev pub AllSettled : List Numbered → Growth → Type 0

@@ -1,5 +1,6 @@
 -- Marks of names.
-use Rattle.std.specs.Prelude.{◌≡◌, ℕ, ◌+◌, Bool, false, not, ◌&&◌, ◌||◌, ◌==◌, nat_lt, List, length, slice_index_or, count_by}
+use Rattle.std.specs.Prelude.{◌≡◌, ℕ, ◌+◌, Bool, false, not, ◌&&◌, ◌||◌, ◌==◌, nat_lt, List, length, slice_index_or}
+use Rattle.std.specs.Prelude.{count_by}
 use Rattle.pinpointing_specs.specs.declared.module_laws.Name.{Name}
 use Rattle.pinpointing_specs.specs.declared.module_laws.Name.TheVariants.{Class, Role}
 use Rattle.pinpointing_specs.specs.Signature.{is_among}
@@ -32,7 +33,8 @@ pub record IsUnmarked (classes roles : ℕ) (m : Marks) : Type 0 where
 -- the mark of a number is set, where there is one, and the others are as before
 pub record HasSet (old new : List Bool) (number : ℕ) : Type 0 where
   pub same_length : length new ≡ length old
-  pub set_there : (k : ℕ) → slice_index_or new k false ≡ (slice_index_or old k false || (k == number && nat_lt k (length old)))
+  pub set_there : (k : ℕ)
+      → slice_index_or new k false ≡ (slice_index_or old k false || (k == number && nat_lt k (length old)))
 
 -- those of the names for which there is a mark are marked, and the others are as before
 pub record HasMarked (old new : Marks) (names : List Name) : Type 0 where

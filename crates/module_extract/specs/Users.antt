@@ -10,7 +10,8 @@ use Rattle.module_extract.specs.Marks.{is_listed}
 
 -- the names in the signatures of all these axioms are listed, where so many classes and roles are
 abbrev pub all_listed : ℕ → ℕ → List Numbered → Bool
-all_listed classes roles axioms = list_all (λ (a : Numbered). list_all (is_listed classes roles) (axiom_names a.axiom)) axioms
+all_listed classes roles axioms =
+    list_all (λ (a : Numbered). list_all (is_listed classes roles) (axiom_names a.axiom)) axioms
 
 -- the places that are kept for the name
 abbrev pub places_of : Users → Name → List ℕ
@@ -31,5 +32,6 @@ pub record HasGained (old new : Users) (names : List Name) (place : ℕ) : Type 
 
 -- for each name the places of those of the first axioms, up to a count, that use it are kept, and no others
 pub record IsIndex (axioms : List Numbered) (count : ℕ) (u : Users) : Type 0 where
-  pub all_kept : (n : Name) (place : ℕ) (a : Numbered) → place < count → slice_get axioms place ≡ Some a → is_among (axiom_names a.axiom) n ≡ true → Contains (places_of u n) place
+  pub all_kept : (n : Name) (place : ℕ) (a : Numbered) → place < count → slice_get axioms place ≡ Some a
+      → is_among (axiom_names a.axiom) n ≡ true → Contains (places_of u n) place
   pub within : (n : Name) (p : ℕ) → Contains (places_of u n) p → p < count

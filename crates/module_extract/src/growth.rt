@@ -50,7 +50,8 @@ impl Growth {
 
     /// Lets the names come in.
     fn take_all(&mut self, names: &[Name]) -> Result<(), NoMemory>
-        ensures taken { OnOk result (HasTaken self.old.marks self.new.marks self.old.pending.items self.new.pending.items names.now) }
+        ensures taken { OnOk result
+            (HasTaken self.old.marks self.new.marks self.old.pending.items self.new.pending.items names.now) }
         ensures members { OnOk result (self.new.members ≡ self.old.members) }
     {
         for name in names {
@@ -61,7 +62,8 @@ impl Growth {
 
     /// Lets the name come in.
     fn take(&mut self, name: Name) -> Result<(), NoMemory>
-        ensures taken { OnOk result (HasTaken self.old.marks self.new.marks self.old.pending.items self.new.pending.items (name ∷ [])) }
+        ensures taken { OnOk result
+            (HasTaken self.old.marks self.new.marks self.old.pending.items self.new.pending.items (name ∷ [])) }
         ensures members { OnOk result (self.new.members ≡ self.old.members) }
     {
         if self.marks.mark(name) {

@@ -3,7 +3,8 @@ ghost use Rattle.std.specs.Prelude.{◌≡◌, ◌||◌, not};
 ghost use Rattle.std.specs.List.{list_all};
 ghost use Rattle.shq_terms.specs.Concept.{parts_of};
 ghost use Rattle.pinpointing_specs.specs.declared.module_laws.Name.TheVariants as variants;
-ghost use Rattle.pinpointing_specs.specs.Local.{is_void, is_whole, some_void, all_void, some_whole, all_whole, count_not_void, is_local};
+ghost use Rattle.pinpointing_specs.specs.Local.{is_void, is_whole, some_void, all_void, some_whole, all_whole};
+ghost use Rattle.pinpointing_specs.specs.Local.{count_not_void, is_local};
 ghost use Rattle.module_extract.specs.Marks.{is_marked};
 
 use crate::marks::Marks;

@@ -1,5 +1,6 @@
 // Which names came in.
-ghost use Rattle.std.specs.Prelude.{◌≡◌, ◌+◌, ◌&&◌, not, cond, nat_lt, false, true, count_by, length, IfOk, slice_index_or};
+ghost use Rattle.std.specs.Prelude.{◌≡◌, ◌+◌, ◌&&◌, not, cond, nat_lt, false, true, count_by, length, IfOk};
+ghost use Rattle.std.specs.Prelude.{slice_index_or};
 
 use pinpointing_specs::Name;
 use shq_terms::NoMemory;

@@ -64,7 +64,8 @@ fn push_both(names: &mut Vec<Name>, one: &Concept, other: &Concept) -> Result<()
 
 /// Puts the names of a class expression and of others last.
 fn push_union(names: &mut Vec<Name>, class: &Concept, parts: &[Concept]) -> Result<(), NoMemory>
-    ensures { OnOk result (names.new.items ≡ names.old.items ++ (concept_names class.now ++ parts_names (parts_of parts.now))) }
+    ensures { OnOk result
+        (names.new.items ≡ names.old.items ++ (concept_names class.now ++ parts_names (parts_of parts.now))) }
 {
     push_concept(names, class)?;
     push_concepts(names, parts)

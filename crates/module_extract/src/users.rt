@@ -1,5 +1,6 @@
 // Which axioms use a name.
-ghost use Rattle.std.specs.Prelude.{◌≡◌, ◌<◌, ◌≤◌, ◌∷◌, [], ◌++◌, true, IfOk, OnOk, length, slice_index_or, slice_set, IsTrue, replicate};
+ghost use Rattle.std.specs.Prelude.{◌≡◌, ◌<◌, ◌≤◌, ◌∷◌, [], ◌++◌, true, IfOk, OnOk, length, slice_index_or, slice_set};
+ghost use Rattle.std.specs.Prelude.{IsTrue, replicate};
 ghost use Rattle.std.specs.List.{list_all};
 
 use crate::names::axiom_names;

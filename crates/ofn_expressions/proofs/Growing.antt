@@ -1,11 +1,13 @@
 -- Lists of names only grow.
-use Rattle.std.proofs.Common.{◌≡◌, ℕ, List, [], ◌∷◌, ◌++◌, take, length, ap, ◌∙◌, refl, position, Option, Some, None, arith}
+use Rattle.std.proofs.Common.{◌≡◌, ℕ, List, [], ◌∷◌, ◌++◌, take, length, ap, ◌∙◌, refl, position, Option, Some, None}
+use Rattle.std.proofs.Common.{arith}
 use Rattle.std.proofs.lemmas.List.{take_all}
 use Rattle.std.specs.Str.{bytes_eq}
 use Rattle.shq_terms.specs.Names.{with_at, with_name}
 use Rattle.ofn_expressions.specs.Counts.{State, Grows}
 
-front : {A : Type 0} (xs ys zs : List A) → take (length xs) ys ≡ xs → take (length ys) zs ≡ ys → take (length xs) zs ≡ xs
+front : {A : Type 0} (xs ys zs : List A) → take (length xs) ys ≡ xs → take (length ys) zs ≡ ys
+    → take (length xs) zs ≡ xs
 front [] ys zs a b = refl
 front (x ∷ xs) [] zs a b = let clash : [] ≡ x ∷ xs = a in absurd (cc clash)
 front (x ∷ xs) (y ∷ ys) [] a b = let clash : [] ≡ y ∷ ys = b in absurd (cc clash)

@@ -1,12 +1,15 @@
 -- The tests of class expressions and roles in the order of the walk, and what they stand for.
-use Rattle.std.specs.Prelude.{◌≡◌, ℕ, ◌+◌, Bool, true, false, ◌&&◌, ◌||◌, List, [], ◌∷◌, ◌++◌, drop, length, Option, Some, None, nat_le, nat_lt, nat_eq, position, codes, if◌then◌else◌}
+use Rattle.std.specs.Prelude.{◌≡◌, ℕ, ◌+◌, Bool, true, false, ◌&&◌, ◌||◌, List, [], ◌∷◌, ◌++◌, drop, length, Option}
+use Rattle.std.specs.Prelude.{Some, None, nat_le, nat_lt, nat_eq, position, codes, if◌then◌else◌}
 use Rattle.std.specs.List.{list_all}
 use Rattle.std.specs.Str.{bytes_eq}
 use Rattle.std.specs.Str.Parse.{digits_value}
-use Rattle.shq_terms.specs.Concept.{Concept, top, bottom, name, complement, intersection, union, some_of, all_of, at_least, at_most, exactly, Parts, no_parts, part}
+use Rattle.shq_terms.specs.Concept.{Concept, top, bottom, name, complement, intersection, union, some_of, all_of}
+use Rattle.shq_terms.specs.Concept.{at_least, at_most, exactly, Parts, no_parts, part}
 use Rattle.shq_terms.specs.Uses.{uses_listed, parts_use_listed, axiom_uses_listed}
 use Rattle.shq_terms.specs.declared.axioms.Axiom.{Axiom}
-use Rattle.ofn_tree.specs.Items.{Item, name_item, iri_item, literal_item, sign_item, group_item, Items, no_items, item, items_of}
+use Rattle.ofn_tree.specs.Items.{Item, name_item, iri_item, literal_item, sign_item, group_item, Items, no_items, item}
+use Rattle.ofn_tree.specs.Items.{items_of}
 use Rattle.ofn_expressions.specs.Counts.{Counts}
 use Rattle.ofn_expressions.specs.Walk.{Test, shape, outside, nodes, class, role, number}
 use Rattle.ofn_expressions.specs.Names.{Prefix, item_line, name_tests, iri_of}
@@ -16,7 +19,8 @@ use Rattle.ofn_expressions.specs.declared.construct.Construct.{Construct}
 use Rattle.ofn_expressions.specs.declared.refusal.Refusal.{Refusal}
 use Rattle.ofn_expressions.specs.declared.refusal.Refusal.TheVariants.{Outside, BadShape}
 use Rattle.ofn_expressions.specs.declared.keywords.ClassKeyword.{ClassKeyword}
-use Rattle.ofn_expressions.specs.declared.keywords.ClassKeyword.TheVariants.{Intersection, Union, Complement, Restriction, Cardinality}
+use Rattle.ofn_expressions.specs.declared.keywords.ClassKeyword.TheVariants.{Intersection, Union, Complement}
+use Rattle.ofn_expressions.specs.declared.keywords.ClassKeyword.TheVariants.{Restriction, Cardinality}
 use Rattle.ofn_expressions.specs.declared.keywords.Quantifier.{Quantifier}
 use Rattle.ofn_expressions.specs.declared.keywords.Quantifier.TheVariants as Q
 use Rattle.ofn_expressions.specs.declared.keywords.Bound.{Bound}
@@ -93,7 +97,8 @@ unless_excluded (Some c) line iri = []
 unless_excluded None line iri = role line iri ∷ []
 
 abbrev pub declared_role_tests : List Prefix → Item → List Test
-declared_role_tests ps i = name_tests ps i ++ unless_excluded (excluded_role_name (iri_of ps i)) (item_line i) (iri_of ps i)
+declared_role_tests ps i =
+    name_tests ps i ++ unless_excluded (excluded_role_name (iri_of ps i)) (item_line i) (iri_of ps i)
 
 abbrev pub roles_tests : List Prefix → Items → List Test
 roles_tests ps no_items = []
@@ -187,7 +192,8 @@ or_zero (Some n) = n
 or_zero None = 0
 
 abbrev pub class_named : Counts → List ℕ → Concept
-class_named s iri = if is_thing iri then top else if is_nothing iri then bottom else name (or_zero (place iri s.classes))
+class_named s iri =
+    if is_thing iri then top else if is_nothing iri then bottom else name (or_zero (place iri s.classes))
 
 abbrev pub role_named : Counts → List ℕ → ℕ
 role_named s iri = or_zero (place iri s.roles)
@@ -230,7 +236,8 @@ made_of ps s Intersection is cs = intersection cs
 made_of ps s Union is cs = union cs
 made_of ps s Complement is cs = complement (first cs)
 made_of ps s (Restriction q) (item r is) cs = quantified q (role_of ps s r) (first (behind_one cs))
-made_of ps s (Cardinality b) (item n (item r is)) cs = bounded b (cardinality_of n) (role_of ps s r) (first (behind_one (behind_one cs)))
+made_of ps s (Cardinality b) (item n (item r is)) cs =
+    bounded b (cardinality_of n) (role_of ps s r) (first (behind_one (behind_one cs)))
 made_of ps s k is cs = top
 
 abbrev pub made : List Prefix → Counts → Keyword → Items → Parts → Concept
@@ -292,11 +299,13 @@ MeansGroup ps s k is c = MeansClass s (λ later. made ps later k (items_of is) (
 -- the same by its parts: a quantifier, a role and a filler, or a bound, a number, a role and the filler that there may
 -- be
 abbrev pub MeansRestriction : List Prefix → Counts → Quantifier → Item → Item → Concept → Type 0
-MeansRestriction ps s q r filler c = MeansClass s (λ later. quantified q (role_of ps later r) (concept_of ps later filler)) c
+MeansRestriction ps s q r filler c =
+    MeansClass s (λ later. quantified q (role_of ps later r) (concept_of ps later filler)) c
 
 abbrev pub MeansCardinality : List Prefix → Counts → Bound → Item → Item → List Item → Concept → Type 0
 MeansCardinality ps s b n r filler c =
-    MeansClass s (λ later. bounded b (cardinality_of n) (role_of ps later r) (first (concepts_of ps later (items_of filler)))) c
+    MeansClass s
+    (λ later. bounded b (cardinality_of n) (role_of ps later r) (first (concepts_of ps later (items_of filler)))) c
 
 -- the filler after a number and a role, or else `owl:Thing`
 abbrev pub MeansFiller : List Prefix → Counts → List Item → Concept → Type 0

@@ -47,15 +47,19 @@ spelled (c ∷ cs) w = if bytes_eq w (spelling c) then Some c else spelled cs w
 -- where an axiom may stand
 unfoldable pub excluded_axiom : List ℕ → Option Construct
 excluded_axiom w =
-    spelled (C.Import ∷ C.DisjointObjectProperties ∷ C.InverseObjectProperties ∷ C.InverseFunctionalObjectProperty ∷ C.ReflexiveObjectProperty
-    ∷ C.IrreflexiveObjectProperty ∷ C.SymmetricObjectProperty ∷ C.AsymmetricObjectProperty ∷ C.SubDataPropertyOf ∷ C.EquivalentDataProperties
-    ∷ C.DisjointDataProperties ∷ C.DataPropertyDomain ∷ C.DataPropertyRange ∷ C.FunctionalDataProperty ∷ C.DatatypeDefinition ∷ C.HasKey
+    spelled (C.Import ∷ C.DisjointObjectProperties ∷ C.InverseObjectProperties ∷ C.InverseFunctionalObjectProperty
+    ∷ C.ReflexiveObjectProperty
+    ∷ C.IrreflexiveObjectProperty ∷ C.SymmetricObjectProperty ∷ C.AsymmetricObjectProperty ∷ C.SubDataPropertyOf
+    ∷ C.EquivalentDataProperties
+    ∷ C.DisjointDataProperties ∷ C.DataPropertyDomain ∷ C.DataPropertyRange ∷ C.FunctionalDataProperty
+    ∷ C.DatatypeDefinition ∷ C.HasKey
     ∷ C.NegativeObjectPropertyAssertion ∷ C.DataPropertyAssertion ∷ C.NegativeDataPropertyAssertion ∷ []) w
 
 -- where a class expression may stand
 unfoldable pub excluded_class : List ℕ → Option Construct
 excluded_class w =
-    spelled (C.ObjectOneOf ∷ C.ObjectHasValue ∷ C.ObjectHasSelf ∷ C.DataSomeValuesFrom ∷ C.DataAllValuesFrom ∷ C.DataHasValue
+    spelled
+    (C.ObjectOneOf ∷ C.ObjectHasValue ∷ C.ObjectHasSelf ∷ C.DataSomeValuesFrom ∷ C.DataAllValuesFrom ∷ C.DataHasValue
     ∷ C.DataMinCardinality ∷ C.DataMaxCardinality ∷ C.DataExactCardinality ∷ []) w
 
 -- where a role may stand, as a group

@@ -22,13 +22,21 @@ pub record State : Type 0 where
 -- where a reader goes on from an ontology for which so many axioms and nodes were counted
 abbrev pub first_state : Listed → ℕ → ℕ → State
 first_state o axioms nodes = record {
-  counts = record { axioms = axioms; parts = 0; nodes = nodes; classes = o.classes; roles = o.roles; individuals = o.individuals };
+  counts = record {
+    axioms = axioms;
+    parts = 0;
+    nodes = nodes;
+    classes = o.classes;
+    roles = o.roles;
+    individuals = o.individuals;
+  };
   read = o.axioms;
 }
 
 -- the ontology that was read
 abbrev pub ontology_of : State → Listed
-ontology_of s = record { axioms = s.read; classes = s.counts.classes; roles = s.counts.roles; individuals = s.counts.individuals }
+ontology_of s =
+    record { axioms = s.read; classes = s.counts.classes; roles = s.counts.roles; individuals = s.counts.individuals }
 
 -- one numbered axiom more is counted, or so many parts more
 abbrev pub with_axiom_counted : State → State

@@ -4,7 +4,8 @@ use Rattle.std.specs.List.{list_all}
 use Rattle.ofn_tree.specs.Items.{Item, name_item, iri_item, literal_item, sign_item, group_item, Items, no_items, item}
 use Rattle.ofn_expressions.specs.Counts.{Counts}
 use Rattle.ofn_expressions.specs.Walk.{Test, shape, prefix, outside, individual}
-use Rattle.ofn_expressions.specs.Names.{Prefix, item_line, name_tests, iri_of, has_colon, is_anonymous, prefix_iri, prefix_part}
+use Rattle.ofn_expressions.specs.Names.{Prefix, item_line, name_tests, iri_of, has_colon, is_anonymous, prefix_iri}
+use Rattle.ofn_expressions.specs.Names.{prefix_part}
 use Rattle.ofn_expressions.specs.Classes.{Keeps, place, or_zero}
 use Rattle.ofn_expressions.specs.declared.construct.Construct.TheVariants as C
 
@@ -23,7 +24,8 @@ anonymous_tests line false = []
 -- where the name of an individual must stand: its shape, that it is not anonymous, and then that its prefix is declared
 abbrev pub individual_name_tests : List Prefix → Item → List Test
 individual_name_tests ps (name_item w line) =
-    shape line (has_colon w) ∷ (anonymous_tests line (is_anonymous w) ++ (prefix line (is_some (prefix_iri ps (prefix_part w))) ∷ []))
+    shape line (has_colon w)
+    ∷ (anonymous_tests line (is_anonymous w) ++ (prefix line (is_some (prefix_iri ps (prefix_part w))) ∷ []))
 individual_name_tests ps (iri_item w line) = name_tests ps (iri_item w line)
 individual_name_tests ps (literal_item line) = name_tests ps (literal_item line)
 individual_name_tests ps (sign_item k line) = name_tests ps (sign_item k line)
@@ -56,7 +58,9 @@ AreListedIndividuals s as_ = list_all (λ a. nat_lt a (length s.individuals)) as
 
 -- which individual is meant by a name, whatever names are listed later
 abbrev pub MeansIndividual : List Prefix → Counts → Item → ℕ → Type 0
-MeansIndividual ps s i a = (later : Counts) → Keeps s later → (individual_of ps later i ≡ a) × IsListedIndividual later a
+MeansIndividual ps s i a = (later : Counts) → Keeps s later
+    → (individual_of ps later i ≡ a) × IsListedIndividual later a
 
 abbrev pub MeanIndividuals : List Prefix → Counts → Items → List ℕ → Type 0
-MeanIndividuals ps s is as_ = (later : Counts) → Keeps s later → (individuals_of ps later is ≡ as_) × AreListedIndividuals later as_
+MeanIndividuals ps s is as_ = (later : Counts) → Keeps s later
+    → (individuals_of ps later is ≡ as_) × AreListedIndividuals later as_

@@ -3,7 +3,8 @@ use Rattle.std.specs.Prelude.{ℕ, List, codes, if◌then◌else◌, Option, Som
 use Rattle.std.specs.Str.{bytes_eq}
 use Rattle.ofn_expressions.specs.Constructs.{excluded_class}
 use Rattle.ofn_expressions.specs.declared.construct.Construct.{Construct}
-use Rattle.ofn_expressions.specs.declared.keywords.ClassKeyword.TheVariants.{Intersection, Union, Complement, Restriction, Cardinality}
+use Rattle.ofn_expressions.specs.declared.keywords.ClassKeyword.TheVariants.{Intersection, Union, Complement}
+use Rattle.ofn_expressions.specs.declared.keywords.ClassKeyword.TheVariants.{Restriction, Cardinality}
 use Rattle.ofn_expressions.specs.declared.keywords.Quantifier.TheVariants as Q
 use Rattle.ofn_expressions.specs.declared.keywords.Bound.TheVariants as B
 use Rattle.ofn_expressions.specs.declared.keywords.Keyword.{Keyword}

@@ -1,19 +1,22 @@
 -- The tests of a document or a query, and what a list of them says. A test is judged by what those before it counted.
-use Rattle.std.specs.Prelude.{◌≡◌, ◌≢◌, ℕ, ◌+◌, Bool, false, cond, List, [], ◌∷◌, length, Option, Some, None, Result, Ok, Err, nat_le}
+use Rattle.std.specs.Prelude.{◌≡◌, ◌≢◌, ℕ, ◌+◌, Bool, false, cond, List, [], ◌∷◌, length, Option, Some, None, Result}
+use Rattle.std.specs.Prelude.{Ok, Err, nat_le}
 use Rattle.shq_terms.specs.Names.{with_name}
 use Rattle.shq_terms.specs.declared.add_fault.AddFault.{AddFault}
 use Rattle.shq_terms.specs.declared.add_fault.AddFault.TheVariants as fault
 use Rattle.ofn_expressions.specs.Counts.{Counts, State}
 use Rattle.ofn_expressions.specs.declared.construct.Construct.{Construct}
 use Rattle.ofn_expressions.specs.declared.refusal.Refusal.{Refusal}
-use Rattle.ofn_expressions.specs.declared.refusal.Refusal.TheVariants.{BadShape, UnknownPrefix, PrefixClash, Outside, NotSimple, Limit, NoMemory}
+use Rattle.ofn_expressions.specs.declared.refusal.Refusal.TheVariants.{BadShape, UnknownPrefix, PrefixClash, Outside}
+use Rattle.ofn_expressions.specs.declared.refusal.Refusal.TheVariants.{NotSimple, Limit, NoMemory}
 use Rattle.ofn_expressions.specs.declared.refusal.Which.{Which}
-use Rattle.ofn_expressions.specs.declared.refusal.Which.TheVariants.{Axioms, Classes, Roles, Individuals, Nodes, Number, Parts}
+use Rattle.ofn_expressions.specs.declared.refusal.Which.TheVariants.{Axioms, Classes, Roles, Individuals, Nodes, Number}
+use Rattle.ofn_expressions.specs.declared.refusal.Which.TheVariants.{Parts}
 
 -- Each has its line: that an item has the shape which is asked; that a prefix name is declared; that it is not declared
 -- with another IRI; that no construct outside of the profile stands there; that one more numbered axiom is within the
--- limit; that so many more parts of axioms are; that so many more nodes are; that a class, a role or an individual which
--- is listed here is; that a cardinality is; that the roles which are counted are simple.
+-- limit; that so many more parts of axioms are; that so many more nodes are; that a class, a role or an individual
+-- which is listed here is; that a cardinality is; that the roles which are counted are simple.
 pub data Test : Type 0 where
   shape : ℕ → Bool → Test
   prefix : ℕ → Bool → Test

@@ -6,7 +6,11 @@ ghost use Rattle.ofn_expressions.specs.Counts.{Grows};
 ghost use Rattle.ofn_expressions.specs.Walk.{Tested};
 ghost use Rattle.ofn_expressions.specs.Keywords.{class_keyword};
 ghost use Rattle.ofn_expressions.specs.declared.keywords.Keyword.TheVariants.{Class};
-ghost use Rattle.ofn_expressions.specs.Classes.{class_tests, classes_tests, head_tests, operands_tests, restriction_tests, cardinality_tests, text_group_tests, class_name_tests, declared_class_tests, listed_class, Means, MeanAll, MeansName, MeansGroup, MeansRestriction, MeansCardinality, MeansFiller, NamesClass, fits, node_count, quantified, bounded};
+ghost use Rattle.ofn_expressions.specs.Classes.{class_tests, classes_tests, head_tests, operands_tests};
+ghost use Rattle.ofn_expressions.specs.Classes.{restriction_tests, cardinality_tests, text_group_tests};
+ghost use Rattle.ofn_expressions.specs.Classes.{class_name_tests, declared_class_tests, listed_class, Means, MeanAll};
+ghost use Rattle.ofn_expressions.specs.Classes.{MeansName, MeansGroup, MeansRestriction, MeansCardinality, MeansFiller};
+ghost use Rattle.ofn_expressions.specs.Classes.{NamesClass, fits, node_count, quantified, bounded};
 
 use crate::keywords::{Bound, ClassKeyword, Keyword, Quantifier, class_keyword};
 use crate::names::{item_line, read_iri};

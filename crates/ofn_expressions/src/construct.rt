@@ -1,6 +1,7 @@
 // Constructs of OWL 2 that are left out, since their meaning lies outside of the description logic SHQ.
 ghost use Rattle.std.specs.Prelude.{◌≡◌};
-ghost use Rattle.ofn_expressions.specs.Constructs.{spelling, excluded_axiom, excluded_class, excluded_role, excluded_role_name};
+ghost use Rattle.ofn_expressions.specs.Constructs.{spelling, excluded_axiom, excluded_class, excluded_role};
+ghost use Rattle.ofn_expressions.specs.Constructs.{excluded_role_name};
 
 /// A construct that is left out, named as the OWL 2 functional-style syntax spells it (sections 5 to 9 of the
 /// Structural Specification).

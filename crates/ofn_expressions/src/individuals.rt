@@ -4,7 +4,8 @@ ghost use Rattle.ofn_tree.specs.Items.{items_of};
 ghost use Rattle.ofn_expressions.specs.Counts.{Counts, Grows};
 ghost use Rattle.ofn_expressions.specs.Walk.{Judged, Tested};
 ghost use Rattle.ofn_expressions.specs.Names.{iri_of};
-ghost use Rattle.ofn_expressions.specs.Individuals.{is_anonymous_item, individual_name_tests, individual_tests, individuals_tests, MeansIndividual, MeanIndividuals};
+ghost use Rattle.ofn_expressions.specs.Individuals.{is_anonymous_item, individual_name_tests, individual_tests};
+ghost use Rattle.ofn_expressions.specs.Individuals.{individuals_tests, MeansIndividual, MeanIndividuals};
 
 use crate::names::{item_line, read_iri};
 use crate::{Construct, Prefixes, Reading, Refusal};

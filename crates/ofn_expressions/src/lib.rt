@@ -1,5 +1,5 @@
-//! Names, roles, individuals and class expressions of a document in the functional-style syntax of OWL 2 (Structural Specification,
-//! sections 2, 5 and 8), for the description logic SHQ.
+//! Names, roles, individuals and class expressions of a document in the functional-style syntax of OWL 2 (Structural
+//! Specification, sections 2, 5 and 8), for the description logic SHQ.
 //!
 //! What is read has two definitions. One lists the tests that a text has to pass, in the order of the text: the shapes
 //! of its items, declared prefixes, constructs outside of the profile, and limits, each of which is judged by what the

@@ -3,7 +3,8 @@ ghost use Rattle.std.specs.Prelude.{◌≡◌, ◌≢◌, IfErr, ◌++◌, IfOk,
 ghost use Rattle.ofn_tree.specs.Items.{name_item};
 ghost use Rattle.ofn_expressions.specs.Counts.{Counts};
 ghost use Rattle.ofn_expressions.specs.Walk.{Judged};
-ghost use Rattle.ofn_expressions.specs.Names.{item_line, name_tests, iri_of, has_colon, prefix_part, local_part, full_iri, prefix_iri};
+ghost use Rattle.ofn_expressions.specs.Names.{item_line, name_tests, iri_of, has_colon, prefix_part, local_part};
+ghost use Rattle.ofn_expressions.specs.Names.{full_iri, prefix_iri};
 
 use crate::{Prefixes, Refusal};
 use ofn_tree::{Form, Tree};

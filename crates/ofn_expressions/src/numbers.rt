@@ -5,7 +5,8 @@ ghost use Rattle.std.specs.Char.{digit_value};
 ghost use Rattle.std.specs.Str.Parse.{digits_value};
 ghost use Rattle.ofn_expressions.specs.Counts.{Counts};
 ghost use Rattle.ofn_expressions.specs.Walk.{Judged};
-ghost use Rattle.ofn_expressions.specs.Classes.{is_digit, cardinality_in, number_tests, number_tests_of, cardinality_of, or_zero};
+ghost use Rattle.ofn_expressions.specs.Classes.{is_digit, cardinality_in, number_tests, number_tests_of};
+ghost use Rattle.ofn_expressions.specs.Classes.{cardinality_of, or_zero};
 
 use crate::{Refusal, Which};
 use ofn_tree::{Form, Tree};

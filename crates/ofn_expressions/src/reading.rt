@@ -1,7 +1,9 @@
 // What a reader has counted and listed so far.
-ghost use Rattle.std.specs.Prelude.{◌≡◌, ◌≢◌, ◌↔◌, Err, ◌≤◌, ◌<◌, ◌+◌, ◌∷◌, [], length, IfOk, IfErr, OnOk, OnErr, Some, position};
+ghost use Rattle.std.specs.Prelude.{◌≡◌, ◌≢◌, ◌↔◌, Err, ◌≤◌, ◌<◌, ◌+◌, ◌∷◌, [], length, IfOk, IfErr, OnOk, OnErr, Some};
+ghost use Rattle.std.specs.Prelude.{position};
 ghost use Rattle.std.specs.Str.{bytes_eq};
-ghost use Rattle.ofn_expressions.specs.Counts.{Grows, ClassesAreFull, RolesAreFull, IndividualsAreFull, first_state, ontology_of, with_axiom_counted, with_axiom_read, with_parts_counted};
+ghost use Rattle.ofn_expressions.specs.Counts.{Grows, ClassesAreFull, RolesAreFull, IndividualsAreFull, first_state};
+ghost use Rattle.ofn_expressions.specs.Counts.{ontology_of, with_axiom_counted, with_axiom_read, with_parts_counted};
 ghost use Rattle.ofn_expressions.specs.Classes.{IsListedAxiom};
 ghost use Rattle.ofn_expressions.specs.Walk.{Tested, add_refusal, numbered, parts, nodes, class, role, individual};
 
@@ -28,7 +30,17 @@ impl Model for Reading {
 
     ghost coded = { Prim.hlevel (codes, concept_code) };
 
-    ghost view = { λ r. record { counts = record { axioms = r.axioms; parts = r.parts; nodes = r.nodes; classes = r.ontology.classes; roles = r.ontology.roles; individuals = r.ontology.individuals }; read = r.ontology.axioms } };
+    ghost view = { λ r. record {
+      counts = record {
+        axioms = r.axioms;
+        parts = r.parts;
+        nodes = r.nodes;
+        classes = r.ontology.classes;
+        roles = r.ontology.roles;
+        individuals = r.ontology.individuals;
+      };
+      read = r.ontology.axioms;
+    } };
 
     ghost invariant = { λ r. (r.axioms ≤ 20000) × (r.parts ≤ 500000) × (r.nodes ≤ 262144) };
 }
@@ -150,7 +162,8 @@ impl Reading {
         ensures tests { Tested result self.old (individual line name.now ∷ []) self.new }
         ensures grown { Grows self.old self.new }
         ensures number { IfOk result (λ k. position (bytes_eq name.now) self.new.counts.individuals ≡ Some k) }
-        ensures full { (result ≡ Err (Refusal.Limit Which.Individuals line)) ↔ IndividualsAreFull self.old.counts name.now }
+        ensures full { (result ≡ Err (Refusal.Limit Which.Individuals line))
+            ↔ IndividualsAreFull self.old.counts name.now }
     {
         match self.ontology.add_individual(name) {
             Ok(number) => Ok(number),

@@ -4,7 +4,9 @@ ghost use Rattle.ofn_tree.specs.Items.{items_of};
 ghost use Rattle.ofn_expressions.specs.Counts.{Grows};
 ghost use Rattle.ofn_expressions.specs.Walk.{Tested};
 ghost use Rattle.ofn_expressions.specs.Constructs.{excluded_role_name};
-ghost use Rattle.ofn_expressions.specs.Classes.{role_tests, role_name_tests, roles_tests, role_group_refusal, declared_role_tests, listed_role, unless_excluded, MeansRole, MeanRoles, NamesRole};
+ghost use Rattle.ofn_expressions.specs.Classes.{role_tests, role_name_tests, roles_tests, role_group_refusal};
+ghost use Rattle.ofn_expressions.specs.Classes.{declared_role_tests, listed_role, unless_excluded, MeansRole};
+ghost use Rattle.ofn_expressions.specs.Classes.{MeanRoles, NamesRole};
 
 use crate::construct::{excluded_role, excluded_role_name};
 use crate::names::{item_line, read_iri};

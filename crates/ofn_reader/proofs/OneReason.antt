@@ -8,7 +8,8 @@ use Rattle.ofn_expressions.specs.Counts.{Counts}
 use Rattle.ofn_expressions.specs.Walk.{Test, walked}
 use Rattle.ofn_expressions.specs.Names.{Prefix, predeclared}
 use Rattle.ofn_expressions.specs.declared.refusal.Refusal.{Refusal}
-use Rattle.ofn_expressions.specs.declared.refusal.Refusal.TheVariants.{Text, BadShape, UnknownPrefix, PrefixClash, Outside, NotSimple, Limit, NoMemory}
+use Rattle.ofn_expressions.specs.declared.refusal.Refusal.TheVariants.{Text, BadShape, UnknownPrefix, PrefixClash}
+use Rattle.ofn_expressions.specs.declared.refusal.Refusal.TheVariants.{Outside, NotSimple, Limit, NoMemory}
 use Rattle.ofn_reader.specs.Texts.{text_fault, Fails, IsRefusedBy}
 use Rattle.ofn_reader.specs.Documents.{start, document_tests, IsNoDocument}
 use Rattle.ofn_reader.specs.Queries.{query_tests, class_query_tests, IsRefused, IsNoQuery, IsNoClass, long, refused}
@@ -37,7 +38,8 @@ module _ (tests : List Item → List Test) (s : Counts) (text : List ℕ) where
   same_cause e f (by_test t) (by_fault y b q) = absurd (no_fault text t.items t.end y t.made b)
   same_cause e f (by_test t) (by_test u) =
       let same = same_items text t.items u.items t.end u.end t.made u.made in
-      let told : ◌≡◌ {A = Result Counts Refusal} (Err e) (Err f) = sym t.fails ∙ ap (λ is. walked s (tests is)) same ∙ u.fails in
+      let told : ◌≡◌ {A = Result Counts Refusal} (Err e) (Err f) =
+      sym t.fails ∙ ap (λ is. walked s (tests is)) same ∙ u.fails in
       cc told
 
   refused_once : (e f : Refusal) → IsRefusedBy tests s text e → IsRefusedBy tests s text f → e ≡ f
@@ -50,13 +52,20 @@ module _ (tests : List Item → List Test) (s : Counts) (text : List ℕ) where
   one_reason _ _ (refused e short why) (refused f less because) = refused_once e f why because
 
 pub document_refusals : (text : List ℕ) (e f : Refusal) → IsNoDocument text e → IsNoDocument text f → e ≡ f
-document_refusals text e f why because = refused_once (document_tests predeclared (end_line text)) start text e f why because
+document_refusals text e f why because =
+    refused_once (document_tests predeclared (end_line text)) start text e f why because
 
-pub query_refusals : (ps : List Prefix) (axioms : List Numbered) (s : Counts) (text : List ℕ) (e f : Refusal) → IsNoQuery ps axioms s text e → IsNoQuery ps axioms s text f → e ≡ f
-query_refusals ps axioms s text e f why because = one_reason (query_tests ps axioms s (end_line text)) s text e f why because
+pub query_refusals : (ps : List Prefix) (axioms : List Numbered) (s : Counts) (text : List ℕ) (e f : Refusal)
+    → IsNoQuery ps axioms s text e → IsNoQuery ps axioms s text f → e ≡ f
+query_refusals ps axioms s text e f why because =
+    one_reason (query_tests ps axioms s (end_line text)) s text e f why because
 
-pub class_refusals : (ps : List Prefix) (axioms : List Numbered) (s : Counts) (text : List ℕ) (e f : Refusal) → IsNoClass ps axioms s text e → IsNoClass ps axioms s text f → e ≡ f
-class_refusals ps axioms s text e f why because = one_reason (class_query_tests ps axioms s (end_line text)) s text e f why because
+pub class_refusals : (ps : List Prefix) (axioms : List Numbered) (s : Counts) (text : List ℕ) (e f : Refusal)
+    → IsNoClass ps axioms s text e → IsNoClass ps axioms s text f → e ≡ f
+class_refusals ps axioms s text e f why because =
+    one_reason (class_query_tests ps axioms s (end_line text)) s text e f why because
 
-pub addition_refusals : (ps : List Prefix) (axioms : List Numbered) (s : Counts) (text : List ℕ) (e f : Refusal) → IsNoAddition ps axioms s text e → IsNoAddition ps axioms s text f → e ≡ f
-addition_refusals ps axioms s text e f why because = one_reason (addition_tests ps axioms s (end_line text)) s text e f why because
+pub addition_refusals : (ps : List Prefix) (axioms : List Numbered) (s : Counts) (text : List ℕ) (e f : Refusal)
+    → IsNoAddition ps axioms s text e → IsNoAddition ps axioms s text f → e ≡ f
+addition_refusals ps axioms s text e f why because =
+    one_reason (addition_tests ps axioms s (end_line text)) s text e f why because

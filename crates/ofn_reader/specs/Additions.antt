@@ -1,5 +1,6 @@
 -- What a text says as a numbered axiom that is put last into an ontology.
-use Rattle.std.specs.Prelude.{◌≡◌, ℕ, ◌+◌, ◌^◌, ◌≤◌, Bool, false, List, [], ◌∷◌, ◌++◌, take, length, Some, None, Result, Ok, Err, IfOk, IsTrue}
+use Rattle.std.specs.Prelude.{◌≡◌, ℕ, ◌+◌, ◌^◌, ◌≤◌, Bool, false, List, [], ◌∷◌, ◌++◌, take, length, Some, None, Result}
+use Rattle.std.specs.Prelude.{Ok, Err, IfOk, IsTrue}
 use Rattle.std.specs.List.{list_all}
 use Rattle.shq_terms.specs.Listed.{Listed, with_axiom}
 use Rattle.shq_terms.specs.Uses.{axiom_uses_listed, all_use_listed}
@@ -85,11 +86,14 @@ all_simple_test axioms line new = simple line (all_count_simple (with_added axio
 -- the tests of an axiom that is put into an ontology with these axioms and counts: those in the order of its text, and
 -- after them that for simple roles
 abbrev pub addition_tests : List Prefix → List Numbered → Counts → ℕ → List Item → List Test
-addition_tests ps axioms s end is = added_form_tests ps end is ++ all_simple_test axioms (first_line end is) (first_axiom ps (after_all s (added_form_tests ps end is)) is)
+addition_tests ps axioms s end is =
+    added_form_tests ps end is
+    ++ all_simple_test axioms (first_line end is) (first_axiom ps (after_all s (added_form_tests ps end is)) is)
 
 -- the text is an axiom with these prefixes, for an ontology with these axioms and counts, no test of which fails; after
 -- it are those behind
-pub record IsAddition (ps : List Prefix) (axioms : List Numbered) (s : Counts) (text : List ℕ) (behind : Counts) (a : Axiom) : Type 0 where
+pub record IsAddition (ps : List Prefix) (axioms : List Numbered) (s : Counts) (text : List ℕ) (behind : Counts)
+    (a : Axiom) : Type 0 where
   pub short : length text ≤ 2 ^ 24
   pub items : List Item
   pub end : ℕ
@@ -128,7 +132,8 @@ IsNoAdditionTo kept old text e = IsNoAddition kept.prefixes old.axioms (counts_o
 
 -- the counts of axioms and parts alone have changed
 abbrev pub CountsAlone : State → State → Type 0
-CountsAlone old new = new ≡ record old { counts = record old.counts { axioms = new.counts.axioms; parts = new.counts.parts } }
+CountsAlone old new =
+    new ≡ record old { counts = record old.counts { axioms = new.counts.axioms; parts = new.counts.parts } }
 
 -- What stands after an axiom was read, also where it is refused: the names that were listed stand first, and no axiom
 -- was put.
@@ -151,7 +156,8 @@ ItemSays ps s i a = SaysAxiom s (λ later. added_axiom ps later i) a
 -- whatever tests say of what was read, they and the test for simple roles say it of the result
 abbrev pub TestsAllRoles : List Numbered → ℕ → Result Axiom Refusal → Result Axiom Refusal → Type 0
 TestsAllRoles axioms line read result =
-    (s new : Counts) (ts : List Test) (as_ : List Axiom) → Judged read s ts new → IfOk read (λ a. as_ ≡ a ∷ []) → Judged result s (ts ++ all_simple_test axioms line as_) new
+    (s new : Counts) (ts : List Test) (as_ : List Axiom) → Judged read s ts new → IfOk read (λ a. as_ ≡ a ∷ [])
+    → Judged result s (ts ++ all_simple_test axioms line as_) new
 
 -- the names of the axiom are listed in the ontology
 abbrev pub IsListedIn : Listed → Axiom → Type 0
@@ -166,7 +172,8 @@ PutsAxiom old (Err e) new (Err f) = e ≡ f
 
 -- there are so many names, and the axioms use no others
 abbrev pub MayCut : Listed → ℕ → ℕ → ℕ → Type 0
-MayCut o classes roles individuals = (classes ≤ length o.classes) × (roles ≤ length o.roles) × (individuals ≤ length o.individuals) × IsTrue (all_use_listed classes roles individuals o.axioms)
+MayCut o classes roles individuals = (classes ≤ length o.classes) × (roles ≤ length o.roles)
+    × (individuals ≤ length o.individuals) × IsTrue (all_use_listed classes roles individuals o.axioms)
 
 -- what the tests of an axiom say on an ontology
 abbrev pub addition_walk : List Prefix → Listed → ℕ → List Item → Result Counts Refusal

@@ -4,11 +4,14 @@ use Rattle.shq_terms.specs.Concept.{part_list}
 use Rattle.shq_terms.specs.declared.axioms.Axiom.{Axiom}
 use Rattle.shq_terms.specs.declared.axioms.Axiom.TheVariants as A
 use Rattle.shq_terms.specs.declared.axioms.Numbered.{Numbered}
-use Rattle.ofn_tree.specs.Items.{Item, name_item, iri_item, literal_item, sign_item, group_item, Items, no_items, item, items_of}
+use Rattle.ofn_tree.specs.Items.{Item, name_item, iri_item, literal_item, sign_item, group_item, Items, no_items, item}
+use Rattle.ofn_tree.specs.Items.{items_of}
 use Rattle.ofn_expressions.specs.Counts.{Counts, State}
 use Rattle.ofn_expressions.specs.Walk.{Test, shape, outside, numbered, parts}
 use Rattle.ofn_expressions.specs.Names.{Prefix, iri_of}
-use Rattle.ofn_expressions.specs.Classes.{item_count, each_class, joined, class_tests, classes_tests, class_name_tests, role_tests, roles_tests, class_named, concept_of, concepts_of, role_of, roles_of, Keeps, IsListedAxiom}
+use Rattle.ofn_expressions.specs.Classes.{item_count, each_class, joined, class_tests, classes_tests, class_name_tests}
+use Rattle.ofn_expressions.specs.Classes.{role_tests, roles_tests, class_named, concept_of, concepts_of, role_of}
+use Rattle.ofn_expressions.specs.Classes.{roles_of, Keeps, IsListedAxiom}
 use Rattle.ofn_expressions.specs.Individuals.{individual_tests, individuals_tests, individual_of, individuals_of}
 use Rattle.ofn_reader.specs.Keywords.{axiom_keyword}
 use Rattle.ofn_reader.specs.Groups.{without_annotations}
@@ -40,11 +43,12 @@ abbrev pub pair_count : ℕ → ℕ
 pair_count n = n * (n - 1) / 2
 
 -- How many parts an axiom will have, told by its kind and the number of its items, before they are read. The parts of
--- an axiom are the inclusions and ranges of which a search makes rows, and the facts that an assertion gives; a law of a
--- crate above says that an axiom that is made of so many items has exactly so many. Equivalent classes are each in the
--- next, and the last in the first; disjoint classes are each in the complement of each later one; of a disjoint union,
--- its first class is in the union of the others, each of them is in the first, and they are disjoint. Individuals that
--- are the same are each the same as the next, and those that are different are each apart from each later one.
+-- an axiom are the inclusions and ranges of which a search makes rows, and the facts that an assertion gives; a law of
+-- a crate above says that an axiom that is made of so many items has exactly so many. Equivalent classes are each in
+-- the next, and the last in the first; disjoint classes are each in the complement of each later one; of a disjoint
+-- union, its first class is in the union of the others, each of them is in the first, and they are disjoint.
+-- Individuals that are the same are each the same as the next, and those that are different are each apart from each
+-- later one.
 abbrev pub parts_by_item_count : AxiomKind → ℕ → ℕ
 parts_by_item_count K.SubClassOf n = 1
 parts_by_item_count K.EquivalentClasses n = n
@@ -183,7 +187,8 @@ member_made ps s (item c (item a is)) = A.Member (concept_of ps s c) (individual
 member_made ps s _ = []
 
 abbrev pub pair_made : List Prefix → Counts → Items → List Axiom
-pair_made ps s (item r (item a (item b is))) = A.Pair (role_of ps s r) (individual_of ps s a) (individual_of ps s b) ∷ []
+pair_made ps s (item r (item a (item b is))) =
+    A.Pair (role_of ps s r) (individual_of ps s a) (individual_of ps s b) ∷ []
 pair_made ps s _ = []
 
 abbrev pub axiom_made : List Prefix → Counts → AxiomKind → Items → List Axiom

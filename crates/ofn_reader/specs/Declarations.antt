@@ -1,6 +1,7 @@
 -- The tests of declarations of entities.
 use Rattle.std.specs.Prelude.{ℕ, false, List, [], ◌∷◌, Some, None, nat_eq}
-use Rattle.ofn_tree.specs.Items.{Item, name_item, iri_item, literal_item, sign_item, group_item, Items, no_items, item, items_of}
+use Rattle.ofn_tree.specs.Items.{Item, name_item, iri_item, literal_item, sign_item, group_item, Items, no_items, item}
+use Rattle.ofn_tree.specs.Items.{items_of}
 use Rattle.ofn_expressions.specs.Walk.{Test, shape}
 use Rattle.ofn_expressions.specs.Names.{Prefix}
 use Rattle.ofn_expressions.specs.Classes.{item_count, declared_class_tests, declared_role_tests}
@@ -21,8 +22,8 @@ abbrev pub declared_individuals_tests : List Prefix → Items → List Test
 declared_individuals_tests ps no_items = []
 declared_individuals_tests ps (item i is) = individual_tests ps i
 
--- An entity is a group of one item. A class, a role and an individual are listed as names; of the others the item is not
--- looked at.
+-- An entity is a group of one item. A class, a role and an individual are listed as names; of the others the item is
+-- not looked at.
 abbrev pub entity_group_tests : List Prefix → EntityKeyword → ℕ → Items → List Test
 entity_group_tests ps E.Class line is = shape line (nat_eq (item_count is) 1) ∷ declared_classes_tests ps is
 entity_group_tests ps E.Role line is = shape line (nat_eq (item_count is) 1) ∷ declared_roles_tests ps is

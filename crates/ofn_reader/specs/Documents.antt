@@ -38,7 +38,8 @@ document_prefixes ps is = prefixes_behind ps (prefix_groups is)
 -- after them stands one group `Ontology`; nothing is read after it
 abbrev pub ontology_tests : List Prefix → ℕ → List Item → List Test
 ontology_tests ps end [] = shape end false ∷ []
-ontology_tests ps end (i ∷ is) = shape (item_line i) (is_group (codes "Ontology") i) ∷ axioms_tests ps (axiom_items (inner_items i))
+ontology_tests ps end (i ∷ is) =
+    shape (item_line i) (is_group (codes "Ontology") i) ∷ axioms_tests ps (axiom_items (inner_items i))
 
 abbrev pub ontology_axioms : List Prefix → Counts → List Item → List Numbered
 ontology_axioms ps s [] = []
@@ -46,7 +47,8 @@ ontology_axioms ps s (i ∷ is) = axioms_in ps s (axiom_items (inner_items i))
 
 -- the tests of a document whose text ends on a line, in the order of the text
 abbrev pub form_tests : List Prefix → ℕ → List Item → List Test
-form_tests ps end is = prefixes_tests ps (prefix_groups is) ++ ontology_tests (document_prefixes ps is) end (behind_prefixes is)
+form_tests ps end is =
+    prefixes_tests ps (prefix_groups is) ++ ontology_tests (document_prefixes ps is) end (behind_prefixes is)
 
 -- its numbered axioms
 abbrev pub document_axioms : List Prefix → Counts → List Item → List Numbered
@@ -63,14 +65,20 @@ all_simple_tests axioms = simple_tests (all_role_axioms axioms) axioms
 
 -- the tests of a document: those in the order of its text, and after them those for simple roles
 abbrev pub document_tests : List Prefix → ℕ → List Item → List Test
-document_tests ps end is = form_tests ps end is ++ all_simple_tests (document_axioms ps (after_all start (form_tests ps end is)) is)
+document_tests ps end is =
+    form_tests ps end is ++ all_simple_tests (document_axioms ps (after_all start (form_tests ps end is)) is)
 
 -- these tests of the items hold, and the items say an ontology and what a query takes over
 abbrev pub DocumentIsRead : (List Item → List Test) → List Item → Listed → DocumentContext → Type 0
 DocumentIsRead tests is o kept =
     (behind : Counts)
     × (walked start (tests is) ≡ Ok behind)
-    × (o ≡ record { axioms = document_axioms predeclared behind is; classes = behind.classes; roles = behind.roles; individuals = behind.individuals })
+    × (o ≡ record {
+      axioms = document_axioms predeclared behind is;
+      classes = behind.classes;
+      roles = behind.roles;
+      individuals = behind.individuals;
+    })
     × (kept ≡ record { prefixes = document_prefixes predeclared is; nodes = behind.nodes })
 
 -- The text up to the end is a document, no test of which fails. It lists the axioms and names of o. A query on it takes
@@ -80,7 +88,13 @@ pub record IsDocument (text : List ℕ) (o : Listed) (kept : DocumentContext) (e
   pub made : HasItems text items end
   pub behind : Counts
   pub holds : walked start (document_tests predeclared (end_line text) items) ≡ Ok behind
-  pub listed : o ≡ record { axioms = document_axioms predeclared behind items; classes = behind.classes; roles = behind.roles; individuals = behind.individuals }
+  pub listed : o
+      ≡ record {
+        axioms = document_axioms predeclared behind items;
+        classes = behind.classes;
+        roles = behind.roles;
+        individuals = behind.individuals;
+      }
   pub takes : kept ≡ record { prefixes = document_prefixes predeclared items; nodes = behind.nodes }
 
 -- why a text is no document

@@ -5,7 +5,8 @@ use Rattle.ofn_expressions.specs.Constructs.{excluded_axiom}
 use Rattle.ofn_expressions.specs.declared.construct.Construct.{Construct}
 use Rattle.ofn_reader.specs.declared.keywords.AxiomKind.TheVariants as K
 use Rattle.ofn_reader.specs.declared.keywords.AxiomKeyword.{AxiomKeyword}
-use Rattle.ofn_reader.specs.declared.keywords.AxiomKeyword.TheVariants.{Numbered, Declaration, Annotation, Excluded, Unknown}
+use Rattle.ofn_reader.specs.declared.keywords.AxiomKeyword.TheVariants.{Numbered, Declaration, Annotation, Excluded}
+use Rattle.ofn_reader.specs.declared.keywords.AxiomKeyword.TheVariants.{Unknown}
 use Rattle.ofn_reader.specs.declared.keywords.EntityKeyword.{EntityKeyword}
 use Rattle.ofn_reader.specs.declared.keywords.EntityKeyword.TheVariants as E
 

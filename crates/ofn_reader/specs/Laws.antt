@@ -16,41 +16,57 @@ use Rattle.ofn_reader.specs.Additions.{IsAddition, IsNoAddition}
 -- the ontology of a document, what queries take over, and its end
 abbrev pub DocumentsAreUnique : Type 0
 DocumentsAreUnique =
-    (text : List ℕ) (o p : Listed) (j k : DocumentContext) (d e : ℕ) → IsDocument text o j d → IsDocument text p k e → (o ≡ p) × (j ≡ k) × (d ≡ e)
+    (text : List ℕ) (o p : Listed) (j k : DocumentContext) (d e : ℕ) → IsDocument text o j d → IsDocument text p k e
+    → (o ≡ p) × (j ≡ k) × (d ≡ e)
 
 abbrev pub DocumentsAreNotRefused : Type 0
-DocumentsAreNotRefused = (text : List ℕ) (o : Listed) (k : DocumentContext) (d : ℕ) (e : Refusal) → IsDocument text o k d → IsNoDocument text e → ⊥
+DocumentsAreNotRefused = (text : List ℕ) (o : Listed) (k : DocumentContext) (d : ℕ) (e : Refusal)
+    → IsDocument text o k d → IsNoDocument text e → ⊥
 
 -- the counts after a query, and its two expressions
 abbrev pub QueriesAreUnique : Type 0
-QueriesAreUnique = (ps : List Prefix) (axioms : List Numbered) (s : Counts) (text : List ℕ) (a b : Counts) (p q : Query) → IsQuery ps axioms s text a p → IsQuery ps axioms s text b q → (a ≡ b) × (p ≡ q)
+QueriesAreUnique = (ps : List Prefix) (axioms : List Numbered) (s : Counts) (text : List ℕ) (a b : Counts) (p q : Query)
+    → IsQuery ps axioms s text a p → IsQuery ps axioms s text b q → (a ≡ b) × (p ≡ q)
 
 abbrev pub QueriesAreNotRefused : Type 0
-QueriesAreNotRefused = (ps : List Prefix) (axioms : List Numbered) (s : Counts) (text : List ℕ) (a : Counts) (q : Query) (e : Refusal) → IsQuery ps axioms s text a q → IsNoQuery ps axioms s text e → ⊥
+QueriesAreNotRefused = (ps : List Prefix) (axioms : List Numbered) (s : Counts) (text : List ℕ) (a : Counts) (q : Query)
+    (e : Refusal)
+    → IsQuery ps axioms s text a q → IsNoQuery ps axioms s text e → ⊥
 
 -- the counts after a class expression, and the expression
 abbrev pub ClassesAreUnique : Type 0
-ClassesAreUnique = (ps : List Prefix) (axioms : List Numbered) (s : Counts) (text : List ℕ) (a b : Counts) (c d : Concept) → IsClass ps axioms s text a c → IsClass ps axioms s text b d → (a ≡ b) × (c ≡ d)
+ClassesAreUnique = (ps : List Prefix) (axioms : List Numbered) (s : Counts) (text : List ℕ) (a b : Counts)
+    (c d : Concept)
+    → IsClass ps axioms s text a c → IsClass ps axioms s text b d → (a ≡ b) × (c ≡ d)
 
 abbrev pub ClassesAreNotRefused : Type 0
-ClassesAreNotRefused = (ps : List Prefix) (axioms : List Numbered) (s : Counts) (text : List ℕ) (a : Counts) (c : Concept) (e : Refusal) → IsClass ps axioms s text a c → IsNoClass ps axioms s text e → ⊥
+ClassesAreNotRefused = (ps : List Prefix) (axioms : List Numbered) (s : Counts) (text : List ℕ) (a : Counts)
+    (c : Concept) (e : Refusal)
+    → IsClass ps axioms s text a c → IsNoClass ps axioms s text e → ⊥
 
 -- a text is refused for one reason at most
 abbrev pub DocumentRefusalsAreUnique : Type 0
 DocumentRefusalsAreUnique = (text : List ℕ) (e f : Refusal) → IsNoDocument text e → IsNoDocument text f → e ≡ f
 
 abbrev pub QueryRefusalsAreUnique : Type 0
-QueryRefusalsAreUnique = (ps : List Prefix) (axioms : List Numbered) (s : Counts) (text : List ℕ) (e f : Refusal) → IsNoQuery ps axioms s text e → IsNoQuery ps axioms s text f → e ≡ f
+QueryRefusalsAreUnique = (ps : List Prefix) (axioms : List Numbered) (s : Counts) (text : List ℕ) (e f : Refusal)
+    → IsNoQuery ps axioms s text e → IsNoQuery ps axioms s text f → e ≡ f
 
 abbrev pub ClassRefusalsAreUnique : Type 0
-ClassRefusalsAreUnique = (ps : List Prefix) (axioms : List Numbered) (s : Counts) (text : List ℕ) (e f : Refusal) → IsNoClass ps axioms s text e → IsNoClass ps axioms s text f → e ≡ f
+ClassRefusalsAreUnique = (ps : List Prefix) (axioms : List Numbered) (s : Counts) (text : List ℕ) (e f : Refusal)
+    → IsNoClass ps axioms s text e → IsNoClass ps axioms s text f → e ≡ f
 
 -- the counts after an axiom that is put into an ontology, and the axiom
 abbrev pub AdditionsAreUnique : Type 0
-AdditionsAreUnique = (ps : List Prefix) (axioms : List Numbered) (s : Counts) (text : List ℕ) (a b : Counts) (p q : Axiom) → IsAddition ps axioms s text a p → IsAddition ps axioms s text b q → (a ≡ b) × (p ≡ q)
+AdditionsAreUnique = (ps : List Prefix) (axioms : List Numbered) (s : Counts) (text : List ℕ) (a b : Counts)
+    (p q : Axiom)
+    → IsAddition ps axioms s text a p → IsAddition ps axioms s text b q → (a ≡ b) × (p ≡ q)
 
 abbrev pub AdditionsAreNotRefused : Type 0
-AdditionsAreNotRefused = (ps : List Prefix) (axioms : List Numbered) (s : Counts) (text : List ℕ) (a : Counts) (p : Axiom) (e : Refusal) → IsAddition ps axioms s text a p → IsNoAddition ps axioms s text e → ⊥
+AdditionsAreNotRefused = (ps : List Prefix) (axioms : List Numbered) (s : Counts) (text : List ℕ) (a : Counts)
+    (p : Axiom) (e : Refusal)
+    → IsAddition ps axioms s text a p → IsNoAddition ps axioms s text e → ⊥
 
 abbrev pub AdditionRefusalsAreUnique : Type 0
-AdditionRefusalsAreUnique = (ps : List Prefix) (axioms : List Numbered) (s : Counts) (text : List ℕ) (e f : Refusal) → IsNoAddition ps axioms s text e → IsNoAddition ps axioms s text f → e ≡ f
+AdditionRefusalsAreUnique = (ps : List Prefix) (axioms : List Numbered) (s : Counts) (text : List ℕ) (e f : Refusal)
+    → IsNoAddition ps axioms s text e → IsNoAddition ps axioms s text f → e ≡ f

@@ -1,5 +1,6 @@
 -- What a text says as a query on a document: an axiom, or a class expression.
-use Rattle.std.specs.Prelude.{◌≡◌, ◌≢◌, ℕ, ◌^◌, ◌≤◌, ◌<◌, Bool, true, false, List, [], ◌∷◌, ◌++◌, length, Some, None, Result, Ok, Err, IfOk, nat_eq}
+use Rattle.std.specs.Prelude.{◌≡◌, ◌≢◌, ℕ, ◌^◌, ◌≤◌, ◌<◌, Bool, true, false, List, [], ◌∷◌, ◌++◌, length, Some, None}
+use Rattle.std.specs.Prelude.{Result, Ok, Err, IfOk, nat_eq}
 use Rattle.shq_terms.specs.Concept.{Concept, top}
 use Rattle.shq_terms.specs.Listed.{Listed}
 use Rattle.shq_terms.specs.declared.axioms.Numbered.{Numbered}
@@ -30,8 +31,10 @@ use Rattle.ofn_reader.specs.declared.keywords.AxiomKeyword.TheVariants as W
 -- A query is an axiom `SubClassOf` or `ClassAssertion`, which is not numbered and has no parts. One that is left out is
 -- outside; each other is no query.
 abbrev pub query_group_tests : List Prefix → AxiomKeyword → ℕ → Items → List Test
-query_group_tests ps (W.Numbered K.SubClassOf) line is = shape line (nat_eq (item_count is) 2) ∷ joined (each_class ps is)
-query_group_tests ps (W.Numbered K.Member) line is = shape line (nat_eq (item_count is) 2) ∷ class_and_individual_tests ps is
+query_group_tests ps (W.Numbered K.SubClassOf) line is =
+    shape line (nat_eq (item_count is) 2) ∷ joined (each_class ps is)
+query_group_tests ps (W.Numbered K.Member) line is =
+    shape line (nat_eq (item_count is) 2) ∷ class_and_individual_tests ps is
 query_group_tests ps (W.Excluded c) line is = outside line c ∷ []
 query_group_tests ps _ line is = shape line false ∷ []
 
@@ -40,7 +43,8 @@ abbrev pub query_items_tests : List Prefix → AxiomKeyword → ℕ → List Ite
 query_items_tests ps k line is = query_group_tests ps k line (items_of is)
 
 abbrev pub axiom_query_tests : List Prefix → Item → List Test
-axiom_query_tests ps (group_item (Some w) is line) = query_group_tests ps (axiom_keyword w) line (without_annotations is)
+axiom_query_tests ps (group_item (Some w) is line) =
+    query_group_tests ps (axiom_keyword w) line (without_annotations is)
 axiom_query_tests ps (group_item None is line) = shape line false ∷ []
 axiom_query_tests ps (name_item w line) = shape line false ∷ []
 axiom_query_tests ps (iri_item w line) = shape line false ∷ []
@@ -71,7 +75,8 @@ pair_in ps s _ = []
 
 -- the class expression and the individual of a query on this individual alone: whether it is in the class
 abbrev pub member_in : List Prefix → Counts → Items → List Query
-member_in ps s (item c (item a is)) = record { sub = top; sup = concept_of ps s c; on = Individual (individual_of ps s a) } ∷ []
+member_in ps s (item c (item a is)) =
+    record { sub = top; sup = concept_of ps s c; on = Individual (individual_of ps s a) } ∷ []
 member_in ps s _ = []
 
 abbrev pub group_query : List Prefix → Counts → AxiomKeyword → Items → List Query
@@ -117,19 +122,31 @@ roles_test axioms line rs = simple line (are_simple (all_role_axioms axioms) rs)
 -- them that the roles which it counts are simple
 abbrev pub query_tests : List Prefix → List Numbered → Counts → ℕ → List Item → List Test
 query_tests ps axioms s end is =
-    query_form_tests ps end is ++ roles_test axioms (first_line end is) (counted_by_first (first_query ps (after_all s (query_form_tests ps end is)) is))
+    query_form_tests ps end is
+    ++ roles_test axioms (first_line end is)
+    (counted_by_first (first_query ps (after_all s (query_form_tests ps end is)) is))
 
 -- the same for a class expression
 abbrev pub class_query_tests : List Prefix → List Numbered → Counts → ℕ → List Item → List Test
 class_query_tests ps axioms s end is =
-    class_form_tests ps end is ++ roles_test axioms (first_line end is) (counted_in_first (first_class ps (after_all s (class_form_tests ps end is)) is))
+    class_form_tests ps end is
+    ++ roles_test axioms (first_line end is)
+    (counted_in_first (first_class ps (after_all s (class_form_tests ps end is)) is))
 
 -- the counts from which a query on the document goes on
 abbrev pub query_start : Listed → ℕ → Counts
-query_start o nodes = record { axioms = length o.axioms; parts = 0; nodes = nodes; classes = o.classes; roles = o.roles; individuals = o.individuals }
+query_start o nodes = record {
+  axioms = length o.axioms;
+  parts = 0;
+  nodes = nodes;
+  classes = o.classes;
+  roles = o.roles;
+  individuals = o.individuals;
+}
 
 -- the text is a query on a document with these prefixes, axioms and counts, no test of which fails; after it are those
-pub record IsQuery (ps : List Prefix) (axioms : List Numbered) (s : Counts) (text : List ℕ) (behind : Counts) (q : Query) : Type 0 where
+pub record IsQuery (ps : List Prefix) (axioms : List Numbered) (s : Counts) (text : List ℕ) (behind : Counts)
+    (q : Query) : Type 0 where
   pub short : length text ≤ 2 ^ 24
   pub items : List Item
   pub end : ℕ
@@ -138,7 +155,8 @@ pub record IsQuery (ps : List Prefix) (axioms : List Numbered) (s : Counts) (tex
   pub pair : first_query ps behind items ≡ q ∷ []
 
 -- the same for a class expression
-pub record IsClass (ps : List Prefix) (axioms : List Numbered) (s : Counts) (text : List ℕ) (behind : Counts) (c : Concept) : Type 0 where
+pub record IsClass (ps : List Prefix) (axioms : List Numbered) (s : Counts) (text : List ℕ) (behind : Counts)
+    (c : Concept) : Type 0 where
   pub short : length text ≤ 2 ^ 24
   pub items : List Item
   pub end : ℕ
@@ -175,7 +193,8 @@ read_simple line x (Ok false) = Err (NotSimple line)
 read_simple line x (Err e) = Err NoMemory
 
 -- whatever tests say of what was read, they and the test of the roles that it counts say it of the result
-abbrev pub TestsRoles : {X : Type 0} → (List X → List ℕ) → List Numbered → ℕ → Result X Refusal → Result X Refusal → Type 0
+abbrev pub TestsRoles : {X : Type 0} → (List X → List ℕ) → List Numbered → ℕ → Result X Refusal → Result X Refusal
+    → Type 0
 TestsRoles {X = X} counted axioms line read result =
     (s new : Counts) (ts : List Test) (xs : List X)
     → Judged read s ts new
@@ -208,7 +227,8 @@ MeansQuery ps s i q = Asks s (λ later. query_in ps later i) q
 -- which class expression and which individual two items stand for
 abbrev pub MeansMember : List Prefix → Counts → Item → Item → Concept → ℕ → Type 0
 MeansMember ps s c a d n =
-    (later : Counts) → Keeps s later → (concept_of ps later c ≡ d) × (individual_of ps later a ≡ n) × IsListed later d × IsListedIndividual later n
+    (later : Counts) → Keeps s later
+    → (concept_of ps later c ≡ d) × (individual_of ps later a ≡ n) × IsListed later d × IsListedIndividual later n
 
 -- what the tests of a query on a document with these names and axioms say, whose expressions have so many nodes
 abbrev pub query_walk : List Prefix → ℕ → Listed → ℕ → List Item → Result Counts Refusal
@@ -220,17 +240,23 @@ class_walk ps nodes o end is = walked (query_start o nodes) (class_query_tests p
 -- the items are a query, whose names are listed last
 abbrev pub QueryIsRead : List Prefix → ℕ → Listed → ℕ → List Item → Listed → Query → Type 0
 QueryIsRead ps nodes old end is new q =
-    (behind : Counts) × (query_walk ps nodes old end is ≡ Ok behind) × (first_query ps behind is ≡ q ∷ []) × IsListedQuery behind q × (new ≡ record old { classes = behind.classes; roles = behind.roles; individuals = behind.individuals })
+    (behind : Counts) × (query_walk ps nodes old end is ≡ Ok behind) × (first_query ps behind is ≡ q ∷ [])
+    × IsListedQuery behind q
+    × (new ≡ record old { classes = behind.classes; roles = behind.roles; individuals = behind.individuals })
 
 abbrev pub ClassIsRead : List Prefix → ℕ → Listed → ℕ → List Item → Listed → Concept → Type 0
 ClassIsRead ps nodes old end is new c =
-    (behind : Counts) × (class_walk ps nodes old end is ≡ Ok behind) × (first_class ps behind is ≡ c ∷ []) × IsListed behind c × (new ≡ record old { classes = behind.classes; roles = behind.roles; individuals = behind.individuals })
+    (behind : Counts) × (class_walk ps nodes old end is ≡ Ok behind) × (first_class ps behind is ≡ c ∷ [])
+    × IsListed behind c
+    × (new ≡ record old { classes = behind.classes; roles = behind.roles; individuals = behind.individuals })
 
 -- The text is a query on a document, with the names and axioms of the old ontology. Its names are listed in the new
 -- one, which else is the old one.
 abbrev pub IsQueryOn : DocumentContext → Listed → List ℕ → Listed → Query → Type 0
 IsQueryOn kept old text new q =
-    (behind : Counts) × IsQuery kept.prefixes old.axioms (query_start old kept.nodes) text behind q × IsListedQuery behind q × (new ≡ record old { classes = behind.classes; roles = behind.roles; individuals = behind.individuals })
+    (behind : Counts) × IsQuery kept.prefixes old.axioms (query_start old kept.nodes) text behind q
+    × IsListedQuery behind q
+    × (new ≡ record old { classes = behind.classes; roles = behind.roles; individuals = behind.individuals })
 
 abbrev pub IsNoQueryOn : DocumentContext → Listed → List ℕ → Refusal → Type 0
 IsNoQueryOn kept old text e = IsNoQuery kept.prefixes old.axioms (query_start old kept.nodes) text e
@@ -238,7 +264,8 @@ IsNoQueryOn kept old text e = IsNoQuery kept.prefixes old.axioms (query_start ol
 -- the same for a class expression
 abbrev pub IsClassOn : DocumentContext → Listed → List ℕ → Listed → Concept → Type 0
 IsClassOn kept old text new c =
-    (behind : Counts) × IsClass kept.prefixes old.axioms (query_start old kept.nodes) text behind c × IsListed behind c × (new ≡ record old { classes = behind.classes; roles = behind.roles; individuals = behind.individuals })
+    (behind : Counts) × IsClass kept.prefixes old.axioms (query_start old kept.nodes) text behind c × IsListed behind c
+    × (new ≡ record old { classes = behind.classes; roles = behind.roles; individuals = behind.individuals })
 
 abbrev pub IsNoClassOn : DocumentContext → Listed → List ℕ → Refusal → Type 0
 IsNoClassOn kept old text e = IsNoClass kept.prefixes old.axioms (query_start old kept.nodes) text e

@@ -4,7 +4,9 @@ ghost use Rattle.shq_terms.specs.Listed.{with_names_cut};
 ghost use Rattle.ofn_expressions.specs.Walk.{Tested, RefusalAgrees};
 ghost use Rattle.ofn_expressions.specs.Classes.{IsListedAxiom};
 ghost use Rattle.ofn_expressions.specs.declared.refusal.Refusal.TheVariants.{NoMemory};
-ghost use Rattle.ofn_reader.specs.Additions.{added_items_tests, added_tests, added_form_tests, first_axiom, addition_walk, AdditionIsRead, IsAdditionTo, IsNoAdditionTo, ListsMore, GroupSays, ItemSays, TestsAllRoles, IsListedIn, PutsAxiom, MayCut};
+ghost use Rattle.ofn_reader.specs.Additions.{added_items_tests, added_tests, added_form_tests, first_axiom};
+ghost use Rattle.ofn_reader.specs.Additions.{addition_walk, AdditionIsRead, IsAdditionTo, IsNoAdditionTo, ListsMore};
+ghost use Rattle.ofn_reader.specs.Additions.{GroupSays, ItemSays, TestsAllRoles, IsListedIn, PutsAxiom, MayCut};
 
 use crate::axioms::read_operands_of;
 use crate::groups::without_annotations;
@@ -161,7 +163,8 @@ fn read_axiom_on(
     prefixes: &Prefixes,
     ontology: &mut Ontology,
 ) -> Result<(u32, u32), Refusal>
-    ensures axiom { IfOk result (λ r. AdditionIsRead prefixes.now ontology.old end_line items.now ontology.new r.0 r.1) }
+    ensures axiom { IfOk result
+        (λ r. AdditionIsRead prefixes.now ontology.old end_line items.now ontology.new r.0 r.1) }
     ensures within { IfOk result (λ r. r.1 ≤ MAX_NODES) }
     ensures refused { IfErr result (RefusalAgrees (addition_walk prefixes.now ontology.old end_line items.now)) }
     ensures unchanged { OnErr result (ontology.new ≡ ontology.old) }

@@ -2,7 +2,8 @@
 ghost use Rattle.std.specs.Prelude.{◌≡◌, ◌<◌, ◌+◌, IfOk, OnOk, length};
 ghost use Rattle.ofn_tree.specs.Items.{items_of};
 ghost use Rattle.ofn_expressions.specs.Walk.{Tested};
-ghost use Rattle.ofn_reader.specs.Axioms.{numbered_tests, axiom_items_tests, axiom_tests, axioms_tests, axiom_in, axioms_in, AddsAxioms, AddsAxiomsLater, AddsGroup, ItemsSay};
+ghost use Rattle.ofn_reader.specs.Axioms.{numbered_tests, axiom_items_tests, axiom_tests, axioms_tests, axiom_in};
+ghost use Rattle.ofn_reader.specs.Axioms.{axioms_in, AddsAxioms, AddsAxiomsLater, AddsGroup, ItemsSay};
 ghost use Rattle.ofn_reader.specs.Additions.{ListsMore};
 ghost use Rattle.ofn_reader.specs.declared.keywords.AxiomKeyword.TheVariants as W;
 

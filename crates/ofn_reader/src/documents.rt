@@ -5,7 +5,9 @@ ghost use Rattle.ofn_expressions.specs.Counts.{Counts};
 ghost use Rattle.ofn_expressions.specs.Walk.{Judged, Tested, RefusalAgrees, walked};
 ghost use Rattle.ofn_expressions.specs.Names.{predeclared};
 ghost use Rattle.ofn_reader.specs.Axioms.{AddsAxioms};
-ghost use Rattle.ofn_reader.specs.Documents.{start, is_prefix_group, ontology_tests, ontology_axioms, form_tests, all_simple_tests, document_tests, document_axioms, document_prefixes, DocumentIsRead, IsDocument, IsNoDocument};
+ghost use Rattle.ofn_reader.specs.Documents.{start, is_prefix_group, ontology_tests, ontology_axioms, form_tests};
+ghost use Rattle.ofn_reader.specs.Documents.{all_simple_tests, document_tests, document_axioms, document_prefixes};
+ghost use Rattle.ofn_reader.specs.Documents.{DocumentIsRead, IsDocument, IsNoDocument};
 ghost use Rattle.ofn_expressions.specs.declared.refusal.Refusal.TheVariants.{NoMemory};
 
 use crate::axioms::read_axioms;

@@ -2,7 +2,8 @@
 ghost use Rattle.std.specs.Prelude.{◌≡◌, ◌≤◌, length, codes};
 ghost use Rattle.std.specs.List.{prefix_len};
 ghost use Rattle.ofn_tree.specs.Items.{items_of};
-ghost use Rattle.ofn_reader.specs.Groups.{is_group, inner_items, is_annotation, without_annotations, is_iri_or_name, behind_name, axiom_items};
+ghost use Rattle.ofn_reader.specs.Groups.{is_group, inner_items, is_annotation, without_annotations, is_iri_or_name};
+ghost use Rattle.ofn_reader.specs.Groups.{behind_name, axiom_items};
 
 use ofn_tree::{Form, Tree};
 

@@ -4,7 +4,8 @@
 ghost use Rattle.std.specs.Prelude.{◌≡◌, ◌-◌, ◌≤◌, min, length, IsTrue};
 ghost use Rattle.shq_terms.specs.Uses.{all_use_listed};
 ghost use Rattle.shq_terms.specs.Concept.{parts_of};
-ghost use Rattle.ofn_reader.specs.Held.{expressions, all_expressions, axiom_expressions, expression_count, kind_of, items_in, parts_in, parts_held, counts_of};
+ghost use Rattle.ofn_reader.specs.Held.{expressions, all_expressions, axiom_expressions, expression_count, kind_of};
+ghost use Rattle.ofn_reader.specs.Held.{items_in, parts_in, parts_held, counts_of};
 
 use crate::keywords::AxiomKind;
 use crate::parts::{MANY, parts_by_item_count};
@@ -144,7 +145,9 @@ fn parts_held(axioms: &[Numbered]) -> u32
 /// Goes on from all that the ontology holds.
 pub(crate) fn reading_of(ontology: Ontology) -> Reading
     ensures state { result ≡ record { counts = counts_of ontology; read = ontology.axioms } }
-    ensures listed { IsTrue (all_use_listed (length ontology.classes) (length ontology.roles) (length ontology.individuals) ontology.axioms) }
+    ensures listed { IsTrue
+        (all_use_listed (length ontology.classes) (length ontology.roles) (length ontology.individuals)
+        ontology.axioms) }
 {
     let axioms = ontology.axiom_count();
     let nodes = expressions_held(ontology.axioms());

@@ -1,5 +1,8 @@
 // A text says one thing at most, and is refused only where it says nothing.
-ghost use Rattle.ofn_reader.specs.Laws.{DocumentsAreUnique, DocumentsAreNotRefused, QueriesAreUnique, QueriesAreNotRefused, ClassesAreUnique, ClassesAreNotRefused, DocumentRefusalsAreUnique, QueryRefusalsAreUnique, ClassRefusalsAreUnique, AdditionsAreUnique, AdditionsAreNotRefused, AdditionRefusalsAreUnique};
+ghost use Rattle.ofn_reader.specs.Laws.{DocumentsAreUnique, DocumentsAreNotRefused, QueriesAreUnique};
+ghost use Rattle.ofn_reader.specs.Laws.{QueriesAreNotRefused, ClassesAreUnique, ClassesAreNotRefused};
+ghost use Rattle.ofn_reader.specs.Laws.{DocumentRefusalsAreUnique, QueryRefusalsAreUnique, ClassRefusalsAreUnique};
+ghost use Rattle.ofn_reader.specs.Laws.{AdditionsAreUnique, AdditionsAreNotRefused, AdditionRefusalsAreUnique};
 
 /// A text is the document of one ontology at most, with one list of prefixes, one count of nodes and one end.
 pub fn documents_are_unique()

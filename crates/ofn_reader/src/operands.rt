@@ -7,7 +7,8 @@ ghost use Rattle.ofn_expressions.specs.Counts.{Grows};
 ghost use Rattle.ofn_expressions.specs.Walk.{Tested};
 ghost use Rattle.ofn_expressions.specs.Classes.{classes_tests, role_tests, roles_tests};
 ghost use Rattle.ofn_expressions.specs.Individuals.{individuals_tests};
-ghost use Rattle.ofn_reader.specs.Axioms.{axiom_fits, class_pair_tests, role_pair_tests, role_then_class_tests, member_tests, pair_tests, name_then_classes_tests, operand_tests, ItemsSay};
+ghost use Rattle.ofn_reader.specs.Axioms.{axiom_fits, class_pair_tests, role_pair_tests, role_then_class_tests};
+ghost use Rattle.ofn_reader.specs.Axioms.{member_tests, pair_tests, name_then_classes_tests, operand_tests, ItemsSay};
 ghost use Rattle.ofn_reader.specs.Queries.{MeansPair, MeansMember};
 ghost use Rattle.ofn_reader.specs.declared.keywords.AxiomKind.TheVariants as K;
 
@@ -245,7 +246,8 @@ pub(crate) fn read_member(
 ) -> Result<Membership, Refusal>
     ensures tests { Tested result state.old (member_tests prefixes.now class.now individual.now) state.new }
     ensures grown { Grows state.old state.new }
-    ensures value { IfOk result (λ m. MeansMember prefixes.now state.new.counts class.now individual.now m.class m.individual) }
+    ensures value { IfOk result
+        (λ m. MeansMember prefixes.now state.new.counts class.now individual.now m.class m.individual) }
 {
     let class = read_class(alloc, class, prefixes, state)?;
     let individual = read_individual(alloc, individual, prefixes, state);

@@ -2,7 +2,9 @@
 ghost use Rattle.std.specs.Prelude.{◌≡◌, OnOk, option_map};
 ghost use Rattle.ofn_expressions.specs.Counts.{Counts};
 ghost use Rattle.ofn_expressions.specs.Walk.{Judged};
-ghost use Rattle.ofn_reader.specs.Prefixes.{prefix_in, declared_name, declared_iri, is_equals, is_equals_kind, clash_tests, entry_tests, with_declared, with_entry, prefix_tests, with_prefix, prefixes_tests, prefixes_behind};
+ghost use Rattle.ofn_reader.specs.Prefixes.{prefix_in, declared_name, declared_iri, is_equals, is_equals_kind};
+ghost use Rattle.ofn_reader.specs.Prefixes.{clash_tests, entry_tests, with_declared, with_entry, prefix_tests};
+ghost use Rattle.ofn_reader.specs.Prefixes.{with_prefix, prefixes_tests, prefixes_behind};
 
 use crate::groups::inner_items;
 use ofn_expressions::{Prefixes, Refusal, item_line};

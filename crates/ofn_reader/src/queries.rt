@@ -8,7 +8,11 @@ ghost use Rattle.shq_terms.specs.Concept.{top};
 ghost use Rattle.ofn_expressions.specs.declared.refusal.Refusal.TheVariants.{NoMemory};
 ghost use Rattle.ofn_reader.specs.Axioms.{member_tests};
 ghost use Rattle.ofn_reader.specs.Texts.{HasItems};
-ghost use Rattle.ofn_reader.specs.Queries.{query_items_tests, axiom_query_tests, query_form_tests, class_form_tests, counted_by_first, counted_in_first, first_line, first_query, first_class, query_walk, class_walk, QueryIsRead, ClassIsRead, IsQueryOn, IsNoQueryOn, IsClassOn, IsNoClassOn, QueryTextIsRefused, TestsRoles, read_alone, read_simple, MeansGroupQuery, MeansQuery, Asks, member_in, IsListedQuery};
+ghost use Rattle.ofn_reader.specs.Queries.{query_items_tests, axiom_query_tests, query_form_tests, class_form_tests};
+ghost use Rattle.ofn_reader.specs.Queries.{counted_by_first, counted_in_first, first_line, first_query, first_class};
+ghost use Rattle.ofn_reader.specs.Queries.{query_walk, class_walk, QueryIsRead, ClassIsRead, IsQueryOn, IsNoQueryOn};
+ghost use Rattle.ofn_reader.specs.Queries.{IsClassOn, IsNoClassOn, QueryTextIsRefused, TestsRoles, read_alone};
+ghost use Rattle.ofn_reader.specs.Queries.{read_simple, MeansGroupQuery, MeansQuery, Asks, member_in, IsListedQuery};
 
 use crate::groups::without_annotations;
 use crate::keywords::{AxiomKeyword, AxiomKind, axiom_keyword};
@@ -45,7 +49,8 @@ fn read_member_query(
 ) -> Result<Query, Refusal>
     ensures tests { Tested result state.old (member_tests prefixes.now class.now individual.now) state.new }
     ensures grown { Grows state.old state.new }
-    ensures value { IfOk result (Asks state.new.counts (λ later. member_in prefixes.now later (items_of (class.now ∷ individual.now ∷ [])))) }
+    ensures value { IfOk result
+        (Asks state.new.counts (λ later. member_in prefixes.now later (items_of (class.now ∷ individual.now ∷ [])))) }
 {
     let member = read_member(alloc, class, individual, prefixes, state)?;
     Ok(member_query(member))

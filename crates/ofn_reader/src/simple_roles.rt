@@ -160,7 +160,8 @@ fn axioms_count_simple(roles: &RolesWith<'_>, axioms: &[Numbered]) -> bool
 
 // Whether each role that one of the axioms or one more counts is simple.
 fn all_count_simple(roles: &RolesWith<'_>, axioms: &[Numbered], axiom: &Axiom) -> bool
-    ensures { result ≡ (list_all (counts_simple roles.now) axioms.now && are_simple roles.now (counted_by «axiom».now)) }
+    ensures { result
+        ≡ (list_all (counts_simple roles.now) axioms.now && are_simple roles.now (counted_by «axiom».now)) }
 {
     axioms_count_simple(roles, axioms) && axiom_counts_simple(roles, axiom)
 }

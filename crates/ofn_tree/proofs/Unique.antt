@@ -1,7 +1,8 @@
 -- Items that are made of the same marks are equal.
 use Rattle.std.proofs.Common.{◌≡◌, List, [], ◌∷◌, ◌++◌, refl, ap, sym, ◌∙◌, append_assoc}
 use Rattle.ofn_tree.specs.Token.{PlainToken}
-use Rattle.ofn_tree.specs.Items.{Item, name_item, iri_item, literal_item, sign_item, group_item, Items, no_items, item, items_of, Mark, closing, written, written_all, IsTree}
+use Rattle.ofn_tree.specs.Items.{Item, name_item, iri_item, literal_item, sign_item, group_item, Items, no_items, item}
+use Rattle.ofn_tree.specs.Items.{items_of, Mark, closing, written, written_all, IsTree}
 
 -- no item begins with a closing bracket
 closes_no_item : (i : Item) (r s : List Mark) → closing ∷ s ≡ written i ++ r → ⊥
@@ -44,13 +45,19 @@ mutual
       let both = same_items is js r s inside in
       (cc (both.0), both.1)
 
-  same_items : (is js : Items) (r s : List Mark) → written_all is ++ closing ∷ r ≡ written_all js ++ closing ∷ s → (is ≡ js) × (r ≡ s)
+  same_items : (is js : Items) (r s : List Mark) → written_all is ++ closing ∷ r ≡ written_all js ++ closing ∷ s
+      → (is ≡ js) × (r ≡ s)
   same_items no_items no_items r s e = (refl, cc)
-  same_items no_items (item j js) r s e = absurd (closes_no_item j (written_all js ++ closing ∷ s) r (e ∙ append_assoc (written j) (written_all js) (closing ∷ s)))
-  same_items (item i is) no_items r s e = absurd (closes_no_item i (written_all is ++ closing ∷ r) s (sym e ∙ append_assoc (written i) (written_all is) (closing ∷ r)))
+  same_items no_items (item j js) r s e =
+      absurd
+      (closes_no_item j (written_all js ++ closing ∷ s) r (e ∙ append_assoc (written j) (written_all js) (closing ∷ s)))
+  same_items (item i is) no_items r s e =
+      absurd (closes_no_item i (written_all is ++ closing ∷ r) s
+      (sym e ∙ append_assoc (written i) (written_all is) (closing ∷ r)))
   same_items (item i is) (item j js) r s e =
       let opened : written i ++ (written_all is ++ closing ∷ r) ≡ written j ++ (written_all js ++ closing ∷ s) =
-      sym (append_assoc (written i) (written_all is) (closing ∷ r)) ∙ e ∙ append_assoc (written j) (written_all js) (closing ∷ s) in
+      sym (append_assoc (written i) (written_all is) (closing ∷ r)) ∙ e
+      ∙ append_assoc (written j) (written_all js) (closing ∷ s) in
       let first = same_item i j _ _ opened in
       let rest = same_items is js r s first.1 in
       (cc (first.0, rest.0), rest.1)
@@ -66,5 +73,6 @@ list_of-items (i ∷ is) = ap (λ js. i ∷ js) (list_of-items is)
 
 pub unique : (ts : List PlainToken) (is js : List Item) → IsTree ts is → IsTree ts js → is ≡ js
 unique ts is js p q =
-    let closed : written_all (items_of is) ++ closing ∷ [] ≡ written_all (items_of js) ++ closing ∷ [] = ap (λ (l : List Mark). l ++ closing ∷ []) (p.made ∙ sym q.made) in
+    let closed : written_all (items_of is) ++ closing ∷ [] ≡ written_all (items_of js) ++ closing ∷ [] =
+    ap (λ (l : List Mark). l ++ closing ∷ []) (p.made ∙ sym q.made) in
     sym (list_of-items is) ∙ ap list_of ((same_items (items_of is) (items_of js) [] [] closed).0) ∙ list_of-items js

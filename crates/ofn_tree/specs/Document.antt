@@ -1,5 +1,6 @@
 -- The tokens that belong to the document: those up to the bracket that closes its group `Ontology`, or all.
-use Rattle.std.specs.Prelude.{ℕ, ◌+◌, ◌-◌, List, [], ◌∷◌, length, Bool, true, false, ◌&&◌, nat_eq, Option, Result, Ok, Err, if◌then◌else◌, codes, bytes_eq}
+use Rattle.std.specs.Prelude.{ℕ, ◌+◌, ◌-◌, List, [], ◌∷◌, length, Bool, true, false, ◌&&◌, nat_eq, Option, Result, Ok}
+use Rattle.std.specs.Prelude.{Err, if◌then◌else◌, codes, bytes_eq}
 use Rattle.std.specs.Result.{result_ok}
 use Rattle.ofn_tree.specs.declared.token.Kind.{Kind}
 use Rattle.ofn_tree.specs.declared.token.Kind.TheVariants.{OpenBracket, CloseBracket, String, Carets, Name}
@@ -56,7 +57,11 @@ document_after OpenBracket m = if nat_eq m.depth 0 then is_document_name m.lates
 document_after _ m = m.document
 
 abbrev pub met_after : Kind → List ℕ → Met → Met
-met_after kind text m = record { depth = depth_after kind m.depth; document = document_after kind m; latest = latest_after kind text m.latest }
+met_after kind text m = record {
+  depth = depth_after kind m.depth;
+  document = document_after kind m;
+  latest = latest_after kind text m.latest;
+}
 
 -- the tokens of a document, and the place after the last byte that was read
 pub record DocumentTokens : Type 0 where

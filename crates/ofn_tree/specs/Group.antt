@@ -53,4 +53,5 @@ EndsDocumentOrInput input r = EndsDocument r.tokens ⊎ (r.place_behind ≡ leng
 
 -- No token follows the first bracket that closes such a group.
 abbrev pub EndsAtFirstDocument : List PlainToken → Type 0
-EndsAtFirstDocument ts = (front rest : List PlainToken) (t : PlainToken) → ts ≡ front ++ t ∷ rest → EndsDocument (front ++ t ∷ []) → rest ≡ []
+EndsAtFirstDocument ts = (front rest : List PlainToken) (t : PlainToken) → ts ≡ front ++ t ∷ rest
+    → EndsDocument (front ++ t ∷ []) → rest ≡ []

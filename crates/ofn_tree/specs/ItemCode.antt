@@ -5,7 +5,8 @@ use Rattle.std.specs.Coded.{Coded, code_by}
 use base.Stored.{Gv, gnil, gnum, gcons}
 use denote.Struct.Codes.{itself}
 use Rattle.ofn_tree.specs.declared.token.Kind.{Kind}
-use Rattle.ofn_tree.specs.declared.token.Kind.TheVariants.{OpenBracket, CloseBracket, Equals, Iri, String, Tag, Carets, Name}
+use Rattle.ofn_tree.specs.declared.token.Kind.TheVariants.{OpenBracket, CloseBracket, Equals, Iri, String, Tag, Carets}
+use Rattle.ofn_tree.specs.declared.token.Kind.TheVariants.{Name}
 use Rattle.ofn_tree.specs.Items.{Item, name_item, iri_item, literal_item, sign_item, group_item, Items, no_items, item}
 
 abbrev text_code : List ℕ → Gv
@@ -79,7 +80,8 @@ abbrev mutual
   decode (gcons (gnum (suc (suc zero))) (gcons (gnum l) g)) = literal_item l
   decode (gcons (gnum (suc (suc (suc zero)))) (gcons (gnum l) g)) = sign_from g l
   decode (gcons (gnum (suc (suc (suc (suc zero))))) (gcons (gnum l) g)) = group_item None (decode_all g) l
-  decode (gcons (gnum (suc (suc (suc (suc (suc n)))))) (gcons (gnum l) (gcons w g))) = group_item (Some (text_from w)) (decode_all g) l
+  decode (gcons (gnum (suc (suc (suc (suc (suc n)))))) (gcons (gnum l) (gcons w g))) =
+      group_item (Some (text_from w)) (decode_all g) l
   decode (gcons h g) = literal_item 0
 
   decode_all : Gv → Items

@@ -1,7 +1,9 @@
 -- The items of a text as plain trees, and the marks of which they are made.
-use Rattle.std.specs.Prelude.{◌≡◌, ℕ, zero, suc, ◌+◌, ◌≤◌, max, List, [], ◌∷◌, ◌++◌, Bool, true, false, ◌&&◌, if◌then◌else◌, Option, Some, None}
+use Rattle.std.specs.Prelude.{◌≡◌, ℕ, zero, suc, ◌+◌, ◌≤◌, max, List, [], ◌∷◌, ◌++◌, Bool, true, false, ◌&&◌}
+use Rattle.std.specs.Prelude.{if◌then◌else◌, Option, Some, None}
 use Rattle.ofn_tree.specs.declared.token.Kind.{Kind}
-use Rattle.ofn_tree.specs.declared.token.Kind.TheVariants.{OpenBracket, CloseBracket, Equals, Iri, String, Tag, Carets, Name}
+use Rattle.ofn_tree.specs.declared.token.Kind.TheVariants.{OpenBracket, CloseBracket, Equals, Iri, String, Tag, Carets}
+use Rattle.ofn_tree.specs.declared.token.Kind.TheVariants.{Name}
 use Rattle.ofn_tree.specs.Token.{PlainToken, is_open, is_name, is_string, is_tag, is_carets, is_datatype}
 
 -- Each item has its line, which is that of its first token.

@@ -1,11 +1,13 @@
 -- A text cut into pieces: whitespace, comments, and at each place the longest token that its form allows. All that
 -- parts two tokens is ASCII, so the text is cut byte by byte.
-use Rattle.std.specs.Prelude.{ℕ, zero, suc, ◌+◌, List, [], ◌∷◌, Bool, true, false, not, ◌&&◌, ◌||◌, nat_eq, nat_lt, Option, Some, None, if◌then◌else◌, length, take, drop, slice_index, count_by}
+use Rattle.std.specs.Prelude.{ℕ, zero, suc, ◌+◌, List, [], ◌∷◌, Bool, true, false, not, ◌&&◌, ◌||◌, nat_eq, nat_lt}
+use Rattle.std.specs.Prelude.{Option, Some, None, if◌then◌else◌, length, take, drop, slice_index, count_by}
 use Rattle.std.specs.List.{prefix_len, starts_with}
 use Rattle.std.specs.Char.{is_ascii_alphanumeric}
 use Rattle.std.specs.Str.Lossy.{utf8_valid_len}
 use Rattle.ofn_tree.specs.declared.token.Kind.{Kind}
-use Rattle.ofn_tree.specs.declared.token.Kind.TheVariants.{OpenBracket, CloseBracket, Equals, Iri, String, Tag, Carets, Name}
+use Rattle.ofn_tree.specs.declared.token.Kind.TheVariants.{OpenBracket, CloseBracket, Equals, Iri, String, Tag, Carets}
+use Rattle.ofn_tree.specs.declared.token.Kind.TheVariants.{Name}
 use Rattle.ofn_tree.specs.declared.fault.TextFault.{TextFault}
 use Rattle.ofn_tree.specs.declared.fault.TextFault.TheVariants.{BadUtf8, BadToken}
 use Rattle.ofn_tree.specs.Token.{PlainToken}
@@ -26,7 +28,9 @@ is_iri_byte b = is_printing b && not (nat_eq b 60) && not (nat_eq b 62) && not (
 
 -- of a name: none of `( ) = < > " # @ ^`
 abbrev pub is_name_byte : ℕ → Bool
-is_name_byte b = is_printing b && not (nat_eq b 40) && not (nat_eq b 41) && not (nat_eq b 61) && not (nat_eq b 60) && not (nat_eq b 62) && not (nat_eq b 34) && not (nat_eq b 35) && not (nat_eq b 64) && not (nat_eq b 94)
+is_name_byte b =
+    is_printing b && not (nat_eq b 40) && not (nat_eq b 41) && not (nat_eq b 61) && not (nat_eq b 60)
+    && not (nat_eq b 62) && not (nat_eq b 34) && not (nat_eq b 35) && not (nat_eq b 64) && not (nat_eq b 94)
 
 -- of a tag after its `@`: an ASCII letter or digit, or `-`
 abbrev pub is_tag_byte : ℕ → Bool
@@ -76,7 +80,9 @@ cut_short (b ∷ bs) = wrong
 
 -- after a `<`, whose IRI would have n bytes: those, and then `>`
 abbrev pub iri_at : ℕ → List ℕ → Cut
-iri_at n bs = if nat_eq (slice_index bs n) 62 then token (record { kind = Iri; text = take n bs; more = n + 1 }) else cut_short (drop n bs)
+iri_at n bs =
+    if nat_eq (slice_index bs n) 62 then token (record { kind = Iri; text = take n bs; more = n + 1 })
+    else cut_short (drop n bs)
 
 -- how a string goes on: its end is after so many bytes, a character breaks it, or the bytes end
 pub data Quoted : Type 0 where
@@ -108,7 +114,9 @@ tag_at n b bs = if nat_eq n 0 then cut_short bs else token (record { kind = Tag;
 
 -- after a `^`, which is b: another
 abbrev pub carets_at : ℕ → List ℕ → Cut
-carets_at b bs = if nat_eq (slice_index bs 0) 94 then token (record { kind = Carets; text = b ∷ take 1 bs; more = 1 }) else cut_short bs
+carets_at b bs =
+    if nat_eq (slice_index bs 0) 94 then token (record { kind = Carets; text = b ∷ take 1 bs; more = 1 })
+    else cut_short bs
 
 -- a name that begins with b and goes on for n bytes
 abbrev pub name_at : ℕ → ℕ → List ℕ → Cut
@@ -175,7 +183,8 @@ pieces_with end unended place line rest = faulty (unended_fault end line) ∷ []
 abbrev pub pieces_from : Option ℕ → ℕ → ℕ → ℕ → List ℕ → List Piece
 pieces_from end k place line [] = end_pieces end
 pieces_from end (suc k) place line (b ∷ bs) = pieces_from end k (place + 1) (line_behind b line) bs
-pieces_from end zero place line (b ∷ bs) = pieces_with end (cut_at b bs) place line (λ n. pieces_from end n (place + 1) (line_behind b line) bs)
+pieces_from end zero place line (b ∷ bs) =
+    pieces_with end (cut_at b bs) place line (λ n. pieces_from end n (place + 1) (line_behind b line) bs)
 
 -- the longest front of a text that is UTF-8
 abbrev pub utf8_front : List ℕ → List ℕ

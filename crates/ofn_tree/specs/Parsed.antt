@@ -21,15 +21,18 @@ pub record IsItems (end depth : ℕ) (ts rest : List PlainToken) (is : List Item
   pub same_fault : bracket_fault end depth ts ≡ bracket_fault end depth rest
 
 -- The same for a group with this name and line, where the tokens begin with its opening bracket.
-pub record IsGroup (end depth : ℕ) (head : Option (List ℕ)) (line : ℕ) (ts rest : List PlainToken) (i : Item) : Type 0 where
+pub record IsGroup (end depth : ℕ) (head : Option (List ℕ)) (line : ℕ) (ts rest : List PlainToken) (i : Item) :
+    Type 0 where
   pub made : written i ++ marks rest ≡ opening head line ∷ marks (drop 1 ts)
   pub nested : nesting i + depth ≤ 64
   pub same_fault : bracket_fault end depth ts ≡ bracket_fault end depth rest
 
 -- With so many brackets open before them, the tokens from one place up to another make these items.
 abbrev pub ReadsItems : ℕ → ℕ → List Token → ℕ → ℕ → List Item → Type 0
-ReadsItems end depth tokens start behind is = IsItems end depth (tokens_from tokens start) (tokens_from tokens behind) is
+ReadsItems end depth tokens start behind is =
+    IsItems end depth (tokens_from tokens start) (tokens_from tokens behind) is
 
 -- The same for a group with this name and line, whose opening bracket stands at the first place.
 abbrev pub ReadsGroup : ℕ → ℕ → Option (List ℕ) → ℕ → List Token → ℕ → ℕ → Item → Type 0
-ReadsGroup end depth head line tokens start behind i = IsGroup end depth head line (tokens_from tokens start) (tokens_from tokens behind) i
+ReadsGroup end depth head line tokens start behind i =
+    IsGroup end depth head line (tokens_from tokens start) (tokens_from tokens behind) i

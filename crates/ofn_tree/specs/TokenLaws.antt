@@ -1,10 +1,13 @@
 -- How tokens lie in a text: what stands between them, and how long they are.
-use Rattle.std.specs.Prelude.{◌≡◌, ℕ, ◌+◌, ◌-◌, ◌≤◌, Bool, true, false, not, ◌&&◌, ◌||◌, List, [], ◌∷◌, ◌++◌, length, take, drop, nat_eq, codes}
+use Rattle.std.specs.Prelude.{◌≡◌, ℕ, ◌+◌, ◌-◌, ◌≤◌, Bool, true, false, not, ◌&&◌, ◌||◌, List, [], ◌∷◌, ◌++◌, length}
+use Rattle.std.specs.Prelude.{take, drop, nat_eq, codes}
 use Rattle.std.specs.List.{list_all}
 use Rattle.ofn_tree.specs.declared.token.Kind.{Kind}
-use Rattle.ofn_tree.specs.declared.token.Kind.TheVariants.{OpenBracket, CloseBracket, Equals, Iri, String, Tag, Carets, Name}
+use Rattle.ofn_tree.specs.declared.token.Kind.TheVariants.{OpenBracket, CloseBracket, Equals, Iri, String, Tag, Carets}
+use Rattle.ofn_tree.specs.declared.token.Kind.TheVariants.{Name}
 use Rattle.ofn_tree.specs.Token.{PlainToken}
-use Rattle.ofn_tree.specs.Lexemes.{is_whitespace, is_comment_byte, is_iri_byte, is_tag_byte, is_name_byte, utf8_front, mark_len}
+use Rattle.ofn_tree.specs.Lexemes.{is_whitespace, is_comment_byte, is_iri_byte, is_tag_byte, is_name_byte, utf8_front}
+use Rattle.ofn_tree.specs.Lexemes.{mark_len}
 use Rattle.ofn_tree.specs.Document.{DocumentTokens}
 use Rattle.ofn_tree.specs.Spans.{width}
 
@@ -19,7 +22,8 @@ EndsLine at_end (b ∷ bs) = is_comment_byte b ≡ false
 pub data IsGap (at_end : Bool) : List ℕ → Type 0 where
   nothing : IsGap at_end []
   space : (b : ℕ) (rest : List ℕ) → is_whitespace b ≡ true → IsGap at_end rest → IsGap at_end (b ∷ rest)
-  comment : (text rest : List ℕ) → list_all is_comment_byte text ≡ true → EndsLine at_end rest → IsGap at_end rest → IsGap at_end (35 ∷ (text ++ rest))
+  comment : (text rest : List ℕ) → list_all is_comment_byte text ≡ true → EndsLine at_end rest → IsGap at_end rest
+      → IsGap at_end (35 ∷ (text ++ rest))
 
 -- the bytes of a text between two places
 abbrev pub bytes_between : List ℕ → ℕ → ℕ → List ℕ
@@ -28,7 +32,8 @@ bytes_between text start end = take (end - start) (drop start text)
 -- Between two places of a text there are only whitespace and comments before the tokens, between them and after them.
 abbrev pub HaveGaps : List ℕ → ℕ → List PlainToken → ℕ → Type 0
 HaveGaps text start [] end = IsGap true (bytes_between text start end)
-HaveGaps text start (t ∷ ts) end = IsGap false (bytes_between text start t.start) × HaveGaps text (t.start + width t) ts end
+HaveGaps text start (t ∷ ts) end = IsGap false (bytes_between text start t.start)
+    × HaveGaps text (t.start + width t) ts end
 
 -- Up to the place after the last byte that was read there are only whitespace and comments round the tokens of an
 -- input, but for a byte order mark at its start.

@@ -1,7 +1,8 @@
 // Bytes of a text, and its lines.
 ghost use Rattle.std.specs.Prelude.{◌≡◌, ◌≤◌, ◌∷◌, [], length};
 ghost use Rattle.std.specs.List.{prefix_len};
-ghost use Rattle.ofn_tree.specs.Lexemes.{is_whitespace, is_iri_byte, is_name_byte, is_tag_byte, is_comment_byte, is_line_feed, line_feeds, end_line};
+ghost use Rattle.ofn_tree.specs.Lexemes.{is_whitespace, is_iri_byte, is_name_byte, is_tag_byte, is_comment_byte};
+ghost use Rattle.ofn_tree.specs.Lexemes.{is_line_feed, line_feeds, end_line};
 
 pub(crate) fn is_whitespace(byte: u8) -> bool
     ensures { result ≡ is_whitespace byte }

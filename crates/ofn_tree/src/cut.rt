@@ -2,7 +2,8 @@
 ghost use Rattle.std.specs.Prelude.{◌≡◌, ◌<◌, ◌≤◌, ◌∷◌, [], true, false, length, slice_index, drop, IfSome};
 ghost use Rattle.std.specs.List.{prefix_len};
 ghost use Rattle.std.specs.Str.{IsCharBoundary};
-ghost use Rattle.ofn_tree.specs.Lexemes.{is_iri_byte, is_comment_byte, cut_short, iri_at, quoted, string_at, front_tag, carets_at, front_name, sign_at, cut_at, gap};
+ghost use Rattle.ofn_tree.specs.Lexemes.{is_iri_byte, is_comment_byte, cut_short, iri_at, quoted, string_at, front_tag};
+ghost use Rattle.ofn_tree.specs.Lexemes.{carets_at, front_name, sign_at, cut_at, gap};
 ghost use Rattle.ofn_tree.specs.Scanned.{cut_of, quoted_of, IsCutWithin, ClosesWithin, HasFeeds, ClosesBehind};
 
 use crate::Kind;

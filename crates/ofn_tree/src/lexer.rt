@@ -1,9 +1,11 @@
 // A text cut into tokens.
-ghost use Rattle.std.specs.Prelude.{◌≡◌, ℕ, List, ◌<◌, ◌≤◌, ◌+◌, ◌-◌, ◌^◌, true, Some, None, is_some, not, IfOk, IfErr, length};
+ghost use Rattle.std.specs.Prelude.{◌≡◌, ℕ, List, ◌<◌, ◌≤◌, ◌+◌, ◌-◌, ◌^◌, true, Some, None, is_some, not, IfOk, IfErr};
+ghost use Rattle.std.specs.Prelude.{length};
 ghost use Rattle.std.specs.Str.{IsUtf8, IsCharBoundary};
 ghost use Rattle.ofn_tree.specs.Token.{plain_token};
 ghost use Rattle.ofn_tree.specs.Lexemes.{utf8_front, bad_byte_line, mark_len, unended_fault};
-ghost use Rattle.ofn_tree.specs.Document.{DocumentTokens, nothing_met, is_last, met_after, behind_name, behind_carets, is_document_name, latest_after, reading};
+ghost use Rattle.ofn_tree.specs.Document.{DocumentTokens, nothing_met, is_last, met_after, behind_name, behind_carets};
+ghost use Rattle.ofn_tree.specs.Document.{is_document_name, latest_after, reading};
 ghost use Rattle.ofn_tree.specs.Spans.{AreSlices, HaveLines};
 ghost use Rattle.ofn_tree.specs.TokenLaws.{HaveOnlyGaps, AreLongest};
 ghost use Rattle.ofn_tree.specs.Group.{EndsDocumentOrInput, EndsAtFirstDocument};

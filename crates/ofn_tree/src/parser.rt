@@ -1,7 +1,10 @@
 // The tree of a text's brackets.
-ghost use Rattle.std.specs.Prelude.{◌≡◌, ◌<◌, ◌≤◌, ◌++◌, ◌+◌, ◌∷◌, [], true, false, List, IfOk, IfErr, OnOk, None, Some, length, map};
-ghost use Rattle.ofn_tree.specs.Token.{plain_token, tokens_from, PlainToken, is_open, is_close, is_name, is_string, is_tag, is_carets, is_datatype};
-ghost use Rattle.ofn_tree.specs.Items.{Item, IsTree, written, nesting, mark_of, begins_with_open, begins_with_datatype, begins_with_type, literal_rest, rest_behind};
+ghost use Rattle.std.specs.Prelude.{◌≡◌, ◌<◌, ◌≤◌, ◌++◌, ◌+◌, ◌∷◌, [], true, false, List, IfOk, IfErr, OnOk, None};
+ghost use Rattle.std.specs.Prelude.{Some, length, map};
+ghost use Rattle.ofn_tree.specs.Token.{plain_token, tokens_from, PlainToken, is_open, is_close, is_name, is_string};
+ghost use Rattle.ofn_tree.specs.Token.{is_tag, is_carets, is_datatype};
+ghost use Rattle.ofn_tree.specs.Items.{Item, IsTree, written, nesting, mark_of, begins_with_open, begins_with_datatype};
+ghost use Rattle.ofn_tree.specs.Items.{begins_with_type, literal_rest, rest_behind};
 ghost use Rattle.ofn_tree.specs.Form.{head_text};
 ghost use Rattle.ofn_tree.specs.Parsed.{begins_with_close, begins_with_head, ReadsItems, ReadsGroup};
 ghost use Rattle.ofn_tree.specs.Faults.{TellsFault, bracket_fault};

@@ -1,10 +1,13 @@
 -- The canonical text of class expressions, axioms and ontologies (OWL 2 Structural Specification, sections 8 and 9, in
 -- functional-style syntax): full IRIs, one blank between items, the filler of a cardinality always written.
 use Rattle.std.specs.Prelude.{ℕ, List, [], ◌∷◌, ◌++◌, codes, decimal, slice_index_or}
-use Rattle.shq_terms.specs.Concept.{Concept, top, bottom, name, complement, intersection, union, some_of, all_of, at_least, at_most, exactly, Parts, no_parts, part, parts_of}
+use Rattle.shq_terms.specs.Concept.{Concept, top, bottom, name, complement, intersection, union, some_of, all_of}
+use Rattle.shq_terms.specs.Concept.{at_least, at_most, exactly, Parts, no_parts, part, parts_of}
 use Rattle.shq_terms.specs.Listed.{Listed}
 use Rattle.shq_terms.specs.declared.axioms.Axiom.{Axiom}
-use Rattle.shq_terms.specs.declared.axioms.Axiom.TheVariants.{SubClassOf, EquivalentClasses, DisjointClasses, DisjointUnion, SubRole, EquivalentRoles, Domain, Range, Functional, Transitive, Member, Pair, SameAll, Different}
+use Rattle.shq_terms.specs.declared.axioms.Axiom.TheVariants.{SubClassOf, EquivalentClasses, DisjointClasses}
+use Rattle.shq_terms.specs.declared.axioms.Axiom.TheVariants.{DisjointUnion, SubRole, EquivalentRoles, Domain, Range}
+use Rattle.shq_terms.specs.declared.axioms.Axiom.TheVariants.{Functional, Transitive, Member, Pair, SameAll, Different}
 use Rattle.shq_terms.specs.declared.axioms.Numbered.{Numbered}
 
 -- an IRI between `<` and `>`
@@ -44,9 +47,12 @@ abbrev mutual
   concept_text o (union cs) = group_text (codes "ObjectUnionOf") (part_texts o cs)
   concept_text o (some_of r c) = group_text (codes "ObjectSomeValuesFrom") (role_text o r ∷ concept_text o c ∷ [])
   concept_text o (all_of r c) = group_text (codes "ObjectAllValuesFrom") (role_text o r ∷ concept_text o c ∷ [])
-  concept_text o (at_least n r c) = group_text (codes "ObjectMinCardinality") (decimal n ∷ role_text o r ∷ concept_text o c ∷ [])
-  concept_text o (at_most n r c) = group_text (codes "ObjectMaxCardinality") (decimal n ∷ role_text o r ∷ concept_text o c ∷ [])
-  concept_text o (exactly n r c) = group_text (codes "ObjectExactCardinality") (decimal n ∷ role_text o r ∷ concept_text o c ∷ [])
+  concept_text o (at_least n r c) =
+      group_text (codes "ObjectMinCardinality") (decimal n ∷ role_text o r ∷ concept_text o c ∷ [])
+  concept_text o (at_most n r c) =
+      group_text (codes "ObjectMaxCardinality") (decimal n ∷ role_text o r ∷ concept_text o c ∷ [])
+  concept_text o (exactly n r c) =
+      group_text (codes "ObjectExactCardinality") (decimal n ∷ role_text o r ∷ concept_text o c ∷ [])
 
   pub part_texts : Listed → Parts → List (List ℕ)
   part_texts o no_parts = []
@@ -84,7 +90,8 @@ axiom_text o (Range r c) = group_text (codes "ObjectPropertyRange") (role_text o
 axiom_text o (Functional r) = group_text (codes "FunctionalObjectProperty") (role_text o r ∷ [])
 axiom_text o (Transitive r) = group_text (codes "TransitiveObjectProperty") (role_text o r ∷ [])
 axiom_text o (Member c a) = group_text (codes "ClassAssertion") (concept_text o c ∷ individual_text o a ∷ [])
-axiom_text o (Pair r a b) = group_text (codes "ObjectPropertyAssertion") (role_text o r ∷ individual_text o a ∷ individual_text o b ∷ [])
+axiom_text o (Pair r a b) =
+    group_text (codes "ObjectPropertyAssertion") (role_text o r ∷ individual_text o a ∷ individual_text o b ∷ [])
 axiom_text o (SameAll as_) = group_text (codes "SameIndividual") (individual_texts o as_)
 axiom_text o (Different as_) = group_text (codes "DifferentIndividuals") (individual_texts o as_)
 
@@ -107,4 +114,7 @@ axiom_lines o (a ∷ as_) = line (axiom_text o a.axiom) ++ axiom_lines o as_
 -- a document: the declarations of the classes, of the roles and of the individuals in list order, and the axioms
 abbrev pub ontology_text : Listed → List ℕ
 ontology_text o =
-    line (codes "Ontology(") ++ (declaration_lines (codes "Class") o.classes ++ (declaration_lines (codes "ObjectProperty") o.roles ++ (declaration_lines (codes "NamedIndividual") o.individuals ++ (axiom_lines o o.axioms ++ line (codes ")")))))
+    line (codes "Ontology(")
+    ++ (declaration_lines (codes "Class") o.classes
+    ++ (declaration_lines (codes "ObjectProperty") o.roles
+    ++ (declaration_lines (codes "NamedIndividual") o.individuals ++ (axiom_lines o o.axioms ++ line (codes ")")))))

@@ -1,14 +1,22 @@
 -- Small expressions, axioms and ontologies.
 use Rattle.std.specs.Prelude.{ℕ, List, [], ◌∷◌, ◌++◌, codes}
-use Rattle.shq_terms.specs.Concept.{Concept, top, bottom, name, complement, intersection, union, some_of, all_of, at_least, at_most, exactly, parts_of}
+use Rattle.shq_terms.specs.Concept.{Concept, top, bottom, name, complement, intersection, union, some_of, all_of}
+use Rattle.shq_terms.specs.Concept.{at_least, at_most, exactly, parts_of}
 use Rattle.shq_terms.specs.Listed.{Listed}
 use Rattle.ofn_writer.specs.Canonical.{line}
 use Rattle.shq_terms.specs.declared.axioms.Axiom.{Axiom}
-use Rattle.shq_terms.specs.declared.axioms.Axiom.TheVariants.{SubClassOf, EquivalentClasses, DisjointClasses, DisjointUnion, SubRole, EquivalentRoles, Domain, Range, Functional, Transitive, Member, Pair, SameAll, Different}
+use Rattle.shq_terms.specs.declared.axioms.Axiom.TheVariants.{SubClassOf, EquivalentClasses, DisjointClasses}
+use Rattle.shq_terms.specs.declared.axioms.Axiom.TheVariants.{DisjointUnion, SubRole, EquivalentRoles, Domain, Range}
+use Rattle.shq_terms.specs.declared.axioms.Axiom.TheVariants.{Functional, Transitive, Member, Pair, SameAll, Different}
 
 -- classes A and B, roles R and S, individuals a and b
 abbrev pub names : Listed
-names = record { axioms = []; classes = codes "A" ∷ codes "B" ∷ []; roles = codes "R" ∷ codes "S" ∷ []; individuals = codes "a" ∷ codes "b" ∷ [] }
+names = record {
+  axioms = [];
+  classes = codes "A" ∷ codes "B" ∷ [];
+  roles = codes "R" ∷ codes "S" ∷ [];
+  individuals = codes "a" ∷ codes "b" ∷ [];
+}
 
 abbrev pub exactly_twenty : Concept
 exactly_twenty = exactly 20 1 (intersection (parts_of (name 0 ∷ complement (name 1) ∷ [])))
@@ -64,7 +72,8 @@ two = Different (0 ∷ 1 ∷ [])
 -- three axioms over classes A and B, a role R and an individual a
 abbrev pub small : Listed
 small = record {
-  axioms = record { «axiom» = SubClassOf (name 1) (name 0); line = 3 } ∷ record { «axiom» = Transitive 0; line = 7 } ∷ record { «axiom» = Member (name 0) 0; line = 8 } ∷ [];
+  axioms = record { «axiom» = SubClassOf (name 1) (name 0); line = 3 } ∷ record { «axiom» = Transitive 0; line = 7 }
+      ∷ record { «axiom» = Member (name 0) 0; line = 8 } ∷ [];
   classes = codes "A" ∷ codes "B" ∷ [];
   roles = codes "R" ∷ [];
   individuals = codes "a" ∷ [];

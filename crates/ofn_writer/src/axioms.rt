@@ -2,7 +2,8 @@
 ghost use Rattle.std.specs.Prelude.{◌≡◌, ◌<◌, ◌++◌, ◌∷◌, [], OnOk, OnErr, IsTrue, length, nat_lt};
 ghost use Rattle.std.specs.List.{list_all};
 ghost use Rattle.shq_terms.specs.Uses.{axiom_uses_listed};
-ghost use Rattle.ofn_writer.specs.Canonical.{concept_text, class_texts, role_text, role_texts, individual_text, individual_texts, spaced, items_text, axiom_text};
+ghost use Rattle.ofn_writer.specs.Canonical.{concept_text, class_texts, role_text, role_texts, individual_text};
+ghost use Rattle.ofn_writer.specs.Canonical.{individual_texts, spaced, items_text, axiom_text};
 ghost use Rattle.ofn_writer.specs.Puts.{Puts, PutsGroup, UsesListed, PartsUseListed};
 
 use crate::NoMemory;
@@ -16,7 +17,9 @@ pub(crate) fn put_axiom(
     axiom: &Axiom,
     ontology: &Ontology,
 ) -> Result<(), NoMemory>
-    requires { IsTrue (axiom_uses_listed (length ontology.now.classes) (length ontology.now.roles) (length ontology.now.individuals) «axiom».now) }
+    requires { IsTrue
+        (axiom_uses_listed (length ontology.now.classes) (length ontology.now.roles) (length ontology.now.individuals)
+        «axiom».now) }
     ensures { OnOk result (Puts out.old out.new (axiom_text ontology.now «axiom».now)) }
 {
     match axiom {
@@ -183,7 +186,9 @@ fn put_membership(
 ) -> Result<(), NoMemory>
     requires class { UsesListed ontology.now class.now }
     requires individual { individual < length ontology.now.individuals }
-    ensures { OnOk result (PutsGroup out.old out.new keyword.now (concept_text ontology.now class.now ∷ individual_text ontology.now individual ∷ [])) }
+    ensures { OnOk result
+        (PutsGroup out.old out.new keyword.now
+        (concept_text ontology.now class.now ∷ individual_text ontology.now individual ∷ [])) }
 {
     put(out, keyword)?;
     put(out, b"(")?;
@@ -204,7 +209,9 @@ fn put_role_assertion(
     requires role { role < length ontology.now.roles }
     requires from { from < length ontology.now.individuals }
     requires to { to < length ontology.now.individuals }
-    ensures { OnOk result (PutsGroup out.old out.new keyword.now (role_text ontology.now role ∷ individual_text ontology.now from ∷ individual_text ontology.now to ∷ [])) }
+    ensures { OnOk result
+        (PutsGroup out.old out.new keyword.now
+        (role_text ontology.now role ∷ individual_text ontology.now from ∷ individual_text ontology.now to ∷ [])) }
 {
     put(out, keyword)?;
     put(out, b"(")?;
@@ -268,7 +275,9 @@ fn put_spaced_individuals(
 ///
 /// `NoMemory`. Nothing is appended then.
 pub fn axiom_text(out: &mut Vec<u8>, axiom: &Axiom, ontology: &Ontology) -> Result<(), NoMemory>
-    requires { IsTrue (axiom_uses_listed (length ontology.now.classes) (length ontology.now.roles) (length ontology.now.individuals) «axiom».now) }
+    requires { IsTrue
+        (axiom_uses_listed (length ontology.now.classes) (length ontology.now.roles) (length ontology.now.individuals)
+        «axiom».now) }
     ensures text { OnOk result (out.new.items ≡ out.old.items ++ axiom_text ontology.now «axiom».now) }
     ensures unchanged { OnErr result (out.new.items ≡ out.old.items) }
 {

@@ -1,7 +1,8 @@
 // The text of class expressions (OWL 2 Structural Specification, section 8).
 ghost use Rattle.std.specs.Prelude.{◌≡◌, ◌<◌, ◌++◌, ◌∷◌, [], OnOk, OnErr, IsTrue, length};
 ghost use Rattle.shq_terms.specs.Uses.{uses_listed};
-ghost use Rattle.ofn_writer.specs.Canonical.{spaced, items_text, concept_text, class_texts, restriction_items, bounded_items};
+ghost use Rattle.ofn_writer.specs.Canonical.{spaced, items_text, concept_text, class_texts, restriction_items};
+ghost use Rattle.ofn_writer.specs.Canonical.{bounded_items};
 ghost use Rattle.ofn_writer.specs.Puts.{Puts, PutsGroup, UsesListed, PartsUseListed};
 
 use crate::NoMemory;

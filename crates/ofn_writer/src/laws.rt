@@ -1,7 +1,9 @@
 // Texts that were written by hand.
 ghost use Rattle.std.specs.Prelude.{◌≡◌, codes};
 ghost use Rattle.ofn_writer.specs.Canonical.{concept_text, axiom_text, ontology_text};
-ghost use Rattle.ofn_writer.specs.Examples.{names, exactly_twenty, exactly_twenty_text, all_but, all_but_text, wide, nothing, apart, split, lower, equal, left, right, single, inside, joined, one, two, small, small_text};
+ghost use Rattle.ofn_writer.specs.Examples.{names, exactly_twenty, exactly_twenty_text, all_but, all_but_text, wide};
+ghost use Rattle.ofn_writer.specs.Examples.{nothing, apart, split, lower, equal, left, right, single, inside, joined};
+ghost use Rattle.ofn_writer.specs.Examples.{one, two, small, small_text};
 
 /// Each clause is an example of its own.
 pub fn examples_hold()

@@ -1,7 +1,8 @@
 // The text of ontologies (OWL 2 Structural Specification, section 3.7).
 ghost use Rattle.std.specs.Prelude.{◌≡◌, ◌++◌, ◌∷◌, [], OnOk, OnErr, IsTrue, length, codes};
 ghost use Rattle.shq_terms.specs.Uses.{axiom_uses_listed};
-ghost use Rattle.ofn_writer.specs.Canonical.{iri_text, group_text, line, declaration_text, declaration_lines, axiom_text, axiom_lines, ontology_text};
+ghost use Rattle.ofn_writer.specs.Canonical.{iri_text, group_text, line, declaration_text, declaration_lines};
+ghost use Rattle.ofn_writer.specs.Canonical.{axiom_text, axiom_lines, ontology_text};
 ghost use Rattle.ofn_writer.specs.Puts.{Puts};
 
 use crate::NoMemory;
@@ -45,7 +46,8 @@ fn put_roles(out: &mut Vec<u8>, ontology: &Ontology) -> Result<(), NoMemory>
 }
 
 fn put_individuals(out: &mut Vec<u8>, ontology: &Ontology) -> Result<(), NoMemory>
-    ensures { OnOk result (Puts out.old out.new (declaration_lines (codes "NamedIndividual") ontology.now.individuals)) }
+    ensures { OnOk result
+        (Puts out.old out.new (declaration_lines (codes "NamedIndividual") ontology.now.individuals)) }
 {
     for individual in 0..ontology.individual_count() {
         put_declaration(
@@ -58,7 +60,9 @@ fn put_individuals(out: &mut Vec<u8>, ontology: &Ontology) -> Result<(), NoMemor
 }
 
 fn put_axiom_line(out: &mut Vec<u8>, axiom: &Axiom, ontology: &Ontology) -> Result<(), NoMemory>
-    requires { IsTrue (axiom_uses_listed (length ontology.now.classes) (length ontology.now.roles) (length ontology.now.individuals) «axiom».now) }
+    requires { IsTrue
+        (axiom_uses_listed (length ontology.now.classes) (length ontology.now.roles) (length ontology.now.individuals)
+        «axiom».now) }
     ensures { OnOk result (Puts out.old out.new (line (axiom_text ontology.now «axiom».now))) }
 {
     put_axiom(out, axiom, ontology)?;

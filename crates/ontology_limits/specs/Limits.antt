@@ -2,11 +2,14 @@
 -- them.
 use Rattle.std.specs.Prelude.{◌≡◌, ℕ, ◌+◌, ◌≤◌, Bool, true, ◌&&◌, List, [], ◌∷◌, length, nat_le, nat_lt}
 use Rattle.std.specs.List.{list_all}
-use Rattle.role_box.specs.Concept.{Concept, top, bottom, name, complement, intersection, union, some_of, all_of, at_least, at_most, exactly, Parts, no_parts, part, parts_of, part_list}
+use Rattle.role_box.specs.Concept.{Concept, top, bottom, name, complement, intersection, union, some_of, all_of}
+use Rattle.role_box.specs.Concept.{at_least, at_most, exactly, Parts, no_parts, part, parts_of, part_list}
 use Rattle.role_box.specs.Listed.{Listed}
 use Rattle.role_box.specs.Uses.{uses_listed, all_use_listed}
 use Rattle.role_box.specs.Axiom.{Axiom}
-use Rattle.role_box.specs.Axiom.TheVariants.{SubClassOf, EquivalentClasses, DisjointClasses, DisjointUnion, SubRole, EquivalentRoles, Domain, Range, Functional, Transitive, Member, Pair, SameAll, Different}
+use Rattle.role_box.specs.Axiom.TheVariants.{SubClassOf, EquivalentClasses, DisjointClasses, DisjointUnion, SubRole}
+use Rattle.role_box.specs.Axiom.TheVariants.{EquivalentRoles, Domain, Range, Functional, Transitive, Member, Pair}
+use Rattle.role_box.specs.Axiom.TheVariants.{SameAll, Different}
 use Rattle.role_box.specs.Numbered.{Numbered}
 use Rattle.role_box.specs.Query.{Query}
 use Rattle.role_box.specs.On.{On}
@@ -84,7 +87,9 @@ is_on_listed individuals (Individual a) = nat_lt a individuals
 -- The same of an ontology and a query on it, where the ontology lists the names of both.
 pub record IsInLimit (o : Listed) (q : Query) : Type 0 where
   pub ontology : IsOntologyInLimit o
-  pub listed : (uses_listed (length o.classes) (length o.roles) q.sub && uses_listed (length o.classes) (length o.roles) q.sup) ≡ true
+  pub listed :
+      (uses_listed (length o.classes) (length o.roles) q.sub && uses_listed (length o.classes) (length o.roles) q.sup)
+      ≡ true
   pub items : (has_enough_parts q.sub && has_enough_parts q.sup) ≡ true
   pub counts : (has_counts_within 100 q.sub && has_counts_within 100 q.sup) ≡ true
   pub simple : are_simple (all_role_axioms o.axioms) (counted_by_query q) ≡ true

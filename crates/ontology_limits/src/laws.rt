@@ -1,5 +1,6 @@
 // What follows from the limits.
-ghost use Rattle.ontology_limits.specs.Laws.{SimpleRolesStaySimple, CountsStaySimple, QueryCountsStaySimple, EachAxiomIsInLimit};
+ghost use Rattle.ontology_limits.specs.Laws.{SimpleRolesStaySimple, CountsStaySimple, QueryCountsStaySimple};
+ghost use Rattle.ontology_limits.specs.Laws.{EachAxiomIsInLimit};
 
 /// A role that is simple by all axioms of an ontology (OWL 2 Structural Specification, section 11.2) is simple by any
 /// of them: fewer axioms lead from fewer transitive roles to it.

@@ -1,5 +1,6 @@
 -- From what a search found to the list that is written.
-use Rattle.std.proofs.Common.{◌≡◌, ℕ, ◌-◌, Bool, true, false, List, length, get_or, cond, Result, Ok, Err, refl, sym, subst, inr}
+use Rattle.std.proofs.Common.{◌≡◌, ℕ, ◌-◌, Bool, true, false, List, length, get_or, cond, Result, Ok, Err, refl, sym}
+use Rattle.std.proofs.Common.{subst, inr}
 use Rattle.std.specs.Prelude.{IfOk, OnErr}
 use Rattle.std.specs.List.{Contains, All}
 use Rattle.std.proofs.lemmas.List.Elements.{Contains-get_or}
@@ -27,12 +28,17 @@ use Rattle.pinpointing_jobs.specs.Searched.{IsSearched}
 use Rattle.pinpointing_jobs.specs.Written.{AreOfAxioms, AreFoundRepairs, AreFound, IsWritten, IsCountOf, IsToldCount}
 use Rattle.pinpointing_jobs.proofs.RepairSets.{from_justification, from_repair, alone_is_repair, has_repairs, holds}
 
-pub found_limits : (o : Listed) (f : Found) (sets : List Limited) → AreOfAxioms o f → AreFoundRepairs f sets → All (λ (s : Limited). s.limit ≡ length o.axioms) sets
-found_limits o f sets are found k d lt = are.leaves (get_or sets k d) ((found.repairs (get_or sets k d)).0 (Contains-get_or sets k d lt)).0
+pub found_limits : (o : Listed) (f : Found) (sets : List Limited) → AreOfAxioms o f → AreFoundRepairs f sets
+    → All (λ (s : Limited). s.limit ≡ length o.axioms) sets
+found_limits o f sets are found k d lt =
+    are.leaves (get_or sets k d) ((found.repairs (get_or sets k d)).0 (Contains-get_or sets k d lt)).0
 
 -- the text of the repairs that were found
-pub repairs_written : {T : Type 0} (w : Wanted) (o : Listed) (f : Found) (items sets : List Limited) (r : Result (Status × T) NoMemory) (text : T → List ℕ) → w ≡ Repairs → items ≡ sets → AreFoundRepairs f sets
-    → IfOk r (λ a. text a.1 ≡ listing_text o w f.finished items) → IfOk r (λ a. a.0 ≡ end_status f.finished) → IfOk r (λ a. IsWritten w o f a.0 (text a.1))
+pub repairs_written : {T : Type 0} (w : Wanted) (o : Listed) (f : Found) (items sets : List Limited)
+    (r : Result (Status × T) NoMemory) (text : T → List ℕ)
+    → w ≡ Repairs → items ≡ sets → AreFoundRepairs f sets
+    → IfOk r (λ a. text a.1 ≡ listing_text o w f.finished items) → IfOk r (λ a. a.0 ≡ end_status f.finished)
+    → IfOk r (λ a. IsWritten w o f a.0 (text a.1))
 repairs_written w o f items sets (Ok a) text is same found written ends = record {
   sets = items;
   are_found = subst (λ (v : Wanted). AreFound v f items) (sym is) (subst (AreFoundRepairs f) (sym same) found);
@@ -45,7 +51,9 @@ module _ (o : Listed) (q : Asked) (budget : ℕ) (log : List Entry) (f : Found) 
   pub of_axioms_found : AreOfAxioms o f
   of_axioms_found = record {
     one_limit = s.limits;
-    justifications = λ k d lt. (s.justifications (get_or f.justifications.items k d) (Contains-get_or f.justifications.items k d lt)).limit_is;
+    justifications =
+        λ k d lt. (s.justifications (get_or f.justifications.items k d)
+        (Contains-get_or f.justifications.items k d lt)).limit_is;
     leaves = λ l listed. (s.leaves l listed).limit_is;
   }
 
@@ -56,14 +64,19 @@ module _ (o : Listed) (q : Asked) (budget : ℕ) (log : List Entry) (f : Found) 
     order = s.order;
     all = λ j. (
       λ listed. s.justifications j listed,
-      λ x. listed_minimal (holds o q) (length o.axioms) f.justifications.items f.leaves.items (grows o.axioms q) (s.explored finished) j x.limit_is (from_justification o q j x),
+      λ x. listed_minimal (holds o q) (length o.axioms) f.justifications.items f.leaves.items (grows o.axioms q)
+          (s.explored finished) j x.limit_is (from_justification o q j x),
     );
   }
 
-  repair_is_leaf : f.finished ≡ true → (r : Limited) → r.limit ≡ length o.axioms → IsMinimalRemoval (holds o q) r → Contains f.leaves.items r
-  repair_is_leaf finished = removal_is_leaf (holds o q) (length o.axioms) f.justifications.items f.leaves.items (grows o.axioms q) (s.explored finished)
+  repair_is_leaf : f.finished ≡ true → (r : Limited) → r.limit ≡ length o.axioms → IsMinimalRemoval (holds o q) r
+      → Contains f.leaves.items r
+  repair_is_leaf finished =
+      removal_is_leaf (holds o q) (length o.axioms) f.justifications.items f.leaves.items (grows o.axioms q)
+      (s.explored finished)
 
-  some_repairs_only : (sets : List Limited) → AreFoundRepairs f sets → (r : Limited) → Contains sets r → IsRepairSet o q r
+  some_repairs_only : (sets : List Limited) → AreFoundRepairs f sets → (r : Limited) → Contains sets r
+      → IsRepairSet o q r
   some_repairs_only sets found r listed =
       let both = (found.repairs r).0 listed in
       alone_is_repair o q f.justifications.items s.justifications r (s.leaves r both.0) both.1
@@ -77,7 +90,8 @@ module _ (o : Listed) (q : Asked) (budget : ℕ) (log : List Entry) (f : Found) 
           let removal = from_repair o q r x in
           (found.repairs r).1 (
             repair_is_leaf finished r x.limit_is removal,
-            removal_is_hit_alone (holds o q) (length o.axioms) f.justifications.items f.leaves.items (grows o.axioms q) (s.explored finished) r x.limit_is removal,
+            removal_is_hit_alone (holds o q) (length o.axioms) f.justifications.items f.leaves.items (grows o.axioms q)
+                (s.explored finished) r x.limit_is removal,
           ),
     );
   }
@@ -99,7 +113,10 @@ module _ (o : Listed) (q : Asked) (budget : ℕ) (log : List Entry) (f : Found) 
   some_repairs : f.finished ≡ false → (sets : List Limited) → AreFoundRepairs f sets → HasSome Repairs o q log sets
   some_repairs unfinished sets found =
       let nodes = nodes_of log in
-      let settled = subst (λ (b : Bool). AreSettled f.justifications.items f.leaves.items nodes (cond b (length nodes) (length nodes - 1))) unfinished s.settled in
+      let settled =
+      subst
+      (λ (b : Bool). AreSettled f.justifications.items f.leaves.items nodes (cond b (length nodes) (length nodes - 1)))
+      unfinished s.settled in
       record {
         order = found.order;
         some = some_repairs_only sets found;
@@ -107,19 +124,24 @@ module _ (o : Listed) (q : Asked) (budget : ℕ) (log : List Entry) (f : Found) 
           labels = f.justifications.items;
           justifications = s.justifications;
           known = are_known unfinished;
-          repairs = has_repairs o q f.justifications.items s.justifications f.leaves.items nodes sets settled found.repairs;
+          repairs =
+              has_repairs o q f.justifications.items s.justifications f.leaves.items nodes sets settled found.repairs;
         };
       }
 
   -- ---- what is written
 
-  listing : (w : Wanted) (sets : List Limited) → AreFound w f sets → (b : Bool) → f.finished ≡ b → IsListing w o q budget log sets b
-  listing Justifications sets e true finished = (subst (HasAll Justifications o q) (sym e) (all_justifications finished), shows_all finished)
-  listing Justifications sets e false unfinished = (subst (HasSome Justifications o q log) (sym e) (some_justifications unfinished), s.spent unfinished)
+  listing : (w : Wanted) (sets : List Limited) → AreFound w f sets → (b : Bool) → f.finished ≡ b
+      → IsListing w o q budget log sets b
+  listing Justifications sets e true finished =
+      (subst (HasAll Justifications o q) (sym e) (all_justifications finished), shows_all finished)
+  listing Justifications sets e false unfinished =
+      (subst (HasSome Justifications o q log) (sym e) (some_justifications unfinished), s.spent unfinished)
   listing Repairs sets found true finished = (all_repairs finished sets found, shows_all finished)
   listing Repairs sets found false unfinished = (some_repairs unfinished sets found, s.spent unfinished)
 
-  pub is_listed : (w : Wanted) (st : Status) (out : List ℕ) → IsWritten w o f st out → IsListAnswer w o q budget log st out
+  pub is_listed : (w : Wanted) (st : Status) (out : List ℕ) → IsWritten w o f st out
+      → IsListAnswer w o q budget log st out
   is_listed w st out x = record {
     sets = x.sets;
     finished = f.finished;
@@ -129,7 +151,8 @@ module _ (o : Listed) (q : Asked) (budget : ℕ) (log : List Entry) (f : Found) 
     listing = listing w x.sets x.are_found f.finished refl;
   }
 
-  count_is : (number : ℕ) (out : List ℕ) (b : Bool) → f.finished ≡ b → IsCountOf number o f out b → IsCount number o q budget log out b
+  count_is : (number : ℕ) (out : List ℕ) (b : Bool) → f.finished ≡ b → IsCountOf number o f out b
+      → IsCount number o q budget log out b
   count_is number out true finished x = record {
     justifications = f.justifications.items;
     repairs = x.repairs;
@@ -138,18 +161,33 @@ module _ (o : Listed) (q : Asked) (budget : ℕ) (log : List Entry) (f : Found) 
     all_repairs = all_repairs finished x.repairs x.are_found;
     shows = shows_all finished;
   }
-  count_is number out false unfinished x = record { text = x; spent = s.spent unfinished; justifications = f.justifications.items; are_some = s.justifications; known = are_known unfinished }
+  count_is number out false unfinished x = record {
+    text = x;
+    spent = s.spent unfinished;
+    justifications = f.justifications.items;
+    are_some = s.justifications;
+    known = are_known unfinished;
+  }
 
-  pub is_counted : (number : ℕ) (st : Status) (out : List ℕ) → IsToldCount number o f st out → IsCounted number o q budget log st out
-  is_counted number st out x = record { finished = f.finished; status = x.status; honest = s.honest; count = count_is number out f.finished refl x.count }
+  pub is_counted : (number : ℕ) (st : Status) (out : List ℕ) → IsToldCount number o f st out
+      → IsCounted number o q budget log st out
+  is_counted number st out x = record {
+    finished = f.finished;
+    status = x.status;
+    honest = s.honest;
+    count = count_is number out f.finished refl x.count;
+  }
 
   -- ---- of what a call answers
 
-  pub all_listed : {T : Type 0} (w : Wanted) (r : Result (Status × T) NoMemory) (text : T → List ℕ) → IfOk r (λ a. IsWritten w o f a.0 (text a.1)) → IfOk r (λ a. IsListAnswer w o q budget log a.0 (text a.1))
+  pub all_listed : {T : Type 0} (w : Wanted) (r : Result (Status × T) NoMemory) (text : T → List ℕ)
+      → IfOk r (λ a. IsWritten w o f a.0 (text a.1)) → IfOk r (λ a. IsListAnswer w o q budget log a.0 (text a.1))
   all_listed w (Ok a) text written = is_listed w a.0 (text a.1) written
   all_listed w (Err e) text written = tt
 
-  pub all_counted : {T : Type 0} (number : ℕ) (r : Result (Status × T) NoMemory) (text : T → List ℕ) → IfOk r (λ a. IsToldCount number o f a.0 (text a.1)) → IfOk r (λ a. IsCounted number o q budget log a.0 (text a.1))
+  pub all_counted : {T : Type 0} (number : ℕ) (r : Result (Status × T) NoMemory) (text : T → List ℕ)
+      → IfOk r (λ a. IsToldCount number o f a.0 (text a.1))
+      → IfOk r (λ a. IsCounted number o q budget log a.0 (text a.1))
   all_counted number (Ok a) text told = is_counted number a.0 (text a.1) told
   all_counted number (Err e) text told = tt
 

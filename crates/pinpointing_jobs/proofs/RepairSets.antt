@@ -41,12 +41,18 @@ module _ (o : Listed) (q : Asked) where
 
 -- ---- beside justifications
 
-module _ (o : Listed) (q : Asked) (justifications : List Limited) (each : (j : Limited) → Contains justifications j → IsJustificationSet o q j) where
+module _ (o : Listed) (q : Asked) (justifications : List Limited)
+    (each : (j : Limited) → Contains justifications j → IsJustificationSet o q j) where
   -- a justification is part of what a set leaves, if it has none of its members
-  left_over : (j s : Limited) → Contains justifications j → s.limit ≡ length o.axioms → AreApart j.members s.members → FollowsFrom o.axioms q (rest s)
+  left_over : (j s : Limited) → Contains justifications j → s.limit ≡ length o.axioms → AreApart j.members s.members
+      → FollowsFrom o.axioms q (rest s)
   left_over j s listed e apart =
       let just = (each j listed).is_one in
-      grows o.axioms q j.members (rest s) (λ k in_j. let inside = just.within k in_j in to_rest s k inside.0 (subst (λ (n : ℕ). k ≤ n) (sym e) inside.1) (apart k in_j)) just.yes_set
+      grows o.axioms q j.members (rest s)
+      (λ k in_j.
+      let inside = just.within k in_j in
+      to_rest s k inside.0 (subst (λ (n : ℕ). k ≤ n) (sym e) inside.1) (apart k in_j))
+      just.yes_set
 
   -- a leaf of which each member is hit alone is a repair
   pub alone_is_repair : (l : Limited) → IsLeaf o q l → IsHitAlone justifications l → IsRepairSet o q l
@@ -68,7 +74,8 @@ module _ (o : Listed) (q : Asked) (justifications : List Limited) (each : (j : L
   repair_meets r j repair listed apart = (from_repair o q r repair).ends (left_over j r listed repair.limit_is apart)
 
   -- the leaves in which each member is hit alone are all that the settled nodes make known
-  pub has_repairs : (leaves nodes sets : List Limited) → AreSettled justifications leaves nodes (length nodes - 1) → AreRepairs justifications leaves sets → HasRepairsOf o q justifications nodes sets
+  pub has_repairs : (leaves nodes sets : List Limited) → AreSettled justifications leaves nodes (length nodes - 1)
+      → AreRepairs justifications leaves sets → HasRepairsOf o q justifications nodes sets
   has_repairs leaves nodes sets settled found place d lt repair alone =
       elim (settled place d (omega arith) (omega arith)) [
         | inl leaf ↦ (found (slice_index_or nodes place d)).1 (leaf, alone)

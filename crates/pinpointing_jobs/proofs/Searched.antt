@@ -1,5 +1,7 @@
 -- From what an asker answered to what a search found.
-use Rattle.std.proofs.Common.{◌≡◌, ◌⊎◌, ℕ, zero, suc, ◌+◌, ◌-◌, ◌*◌, ◌^◌, ◌<◌, ◌≤◌, Bool, true, false, List, [], ◌∷◌, ◌++◌, length, get_or, Result, Ok, Err, refl, ap, sym, ◌∙◌, subst, arith, inl, inr, length-append}
+use Rattle.std.proofs.Common.{◌≡◌, ◌⊎◌, ℕ, zero, suc, ◌+◌, ◌-◌, ◌*◌, ◌^◌, ◌<◌, ◌≤◌, Bool, true, false, List, [], ◌∷◌}
+use Rattle.std.proofs.Common.{◌++◌, length, get_or, Result, Ok, Err, refl, ap, sym, ◌∙◌, subst, arith, inl, inr}
+use Rattle.std.proofs.Common.{length-append}
 use Rattle.std.specs.Prelude.{◌||◌, slice_get, IfOk, OnErr}
 use Rattle.std.specs.List.{Contains, list_any}
 use Rattle.std.proofs.Math.Bool.{or-true}
@@ -30,7 +32,8 @@ use Rattle.run_log.specs.declared.entry.Entry.{Entry}
 use Rattle.run_log.specs.declared.entry.Entry.TheVariants.{Test, Node}
 use Rattle.run_log.specs.declared.entry.TestEnd.TheVariants as E
 use Rattle.run_log.specs.Entries.{cost_of, spent_of, nodes_of, is_spent, IsAnswered}
-use Rattle.run_log.specs.HonestLog.{IsAxiomSet, IsHonestEntry, EachIsHonest, IsJustificationSet, EndsWhenSpent, AreTreeNodes, AsksFewPerNode, IsHonestWithin, IsPinpointingLog}
+use Rattle.run_log.specs.HonestLog.{IsAxiomSet, IsHonestEntry, EachIsHonest, IsJustificationSet, EndsWhenSpent}
+use Rattle.run_log.specs.HonestLog.{AreTreeNodes, AsksFewPerNode, IsHonestWithin, IsPinpointingLog}
 use Rattle.run_log.specs.Shown.{IsShownYes, IsShownNo}
 use Rattle.query_asker.specs.OracleLists.{OracleLists}
 use Rattle.query_asker.specs.AskerLists.{AskerLists, AskerOrigin, origin_of}
@@ -60,7 +63,8 @@ few_asks size nodes asks small within few =
 -- ---- the log
 
 -- what stands behind the items of another list
-slice_get-append : {X : Type 0} (xs ys : List X) (place : ℕ) → slice_get (xs ++ ys) (length xs + place) ≡ slice_get ys place
+slice_get-append : {X : Type 0} (xs ys : List X) (place : ℕ)
+    → slice_get (xs ++ ys) (length xs + place) ≡ slice_get ys place
 slice_get-append {X = X} [] ys place = let e : 0 + place ≡ place = omega arith in ap (slice_get ys) e
 slice_get-append {X = X} (x ∷ xs) ys place =
     let e : length (x ∷ xs) + place ≡ suc (length xs + place) = omega arith in
@@ -78,11 +82,18 @@ module _ (a : AskerLists) (is_log : IsAskerLog a) where
   within = omega (arith, is_log.within, spent_both)
 
   spent_before : list_any is_spent a.gained ≡ true → list_any is_spent (a.before ++ a.gained) ≡ true
-  spent_before any = list_any-append is_spent a.before a.gained ∙ ap (λ (b : Bool). list_any is_spent a.before || b) any ∙ or-true (list_any is_spent a.before)
+  spent_before any =
+      list_any-append is_spent a.before a.gained ∙ ap (λ (b : Bool). list_any is_spent a.before || b) any
+      ∙ or-true (list_any is_spent a.before)
 
   ends : EndsWhenSpent (left_at_first a) a.gained
   ends = record {
-    is_last = λ place e at spent. omega (arith, is_log.ends.is_last (length a.before + place) e (slice_get-append a.before a.gained place ∙ at) spent, length-append a.before a.gained);
+    is_last =
+        λ place e at spent. omega (
+          arith,
+          is_log.ends.is_last (length a.before + place) e (slice_get-append a.before a.gained place ∙ at) spent,
+          length-append a.before a.gained,
+        );
     is_whole = λ any. omega (arith, is_log.ends.is_whole (spent_before any), spent_both);
   }
 
@@ -92,47 +103,69 @@ module _ (a : AskerLists) (is_log : IsAskerLog a) where
 -- ---- what the log shows
 
 -- each node is an entry
-node_entry : (log : List Entry) (k : ℕ) (d : Limited) → k < length (nodes_of log) → Contains log (Node (get_or (nodes_of log) k d))
+node_entry : (log : List Entry) (k : ℕ) (d : Limited) → k < length (nodes_of log)
+    → Contains log (Node (get_or (nodes_of log) k d))
 node_entry [] k d lt = absurd (omega (arith, lt))
 node_entry (Test s q steps e ∷ log) k d lt = let at = node_entry log k d lt in (suc at.0, omega (arith, at.1), at.2)
 node_entry (Node s ∷ log) zero d lt = (0, omega arith, refl)
-node_entry (Node s ∷ log) (suc k) d lt = let at = node_entry log k d (omega (arith, lt)) in (suc at.0, omega (arith, at.1), at.2)
+node_entry (Node s ∷ log) (suc k) d lt =
+    let at = node_entry log k d (omega (arith, lt)) in (suc at.0, omega (arith, at.1), at.2)
 
-node_set : (o : Listed) (log : List Entry) (node : Limited) → EachIsHonest o log → Contains (nodes_of log) node → IsAxiomSet o node
+node_set : (o : Listed) (log : List Entry) (node : Limited) → EachIsHonest o log → Contains (nodes_of log) node
+    → IsAxiomSet o node
 node_set o log node honest at =
-    let entry : Contains log (Node node) = subst (λ (n : Limited). Contains log (Node n)) at.2 (node_entry log at.0 node at.1) in
+    let entry : Contains log (Node node) =
+    subst (λ (n : Limited). Contains log (Node n)) at.2 (node_entry log at.0 node at.1) in
     All-contains (IsHonestEntry o) log (Node node) honest entry
 
-in_both : (s m : NumberSet) (k : ℕ) → set.contains (set.intersection s m) k ≡ true → (set.contains s k ≡ true) × (set.contains m k ≡ true)
-in_both s m k h = and_parts (set.contains s k) (set.contains m k) (sym (set.contains-intersection nat_cmp_total s m k) ∙ h)
+in_both : (s m : NumberSet) (k : ℕ) → set.contains (set.intersection s m) k ≡ true
+    → (set.contains s k ≡ true) × (set.contains m k ≡ true)
+in_both s m k h =
+    and_parts (set.contains s k) (set.contains m k) (sym (set.contains-intersection nat_cmp_total s m k) ∙ h)
 
 -- a part of a smallest set of which a claim holds is that set, if it holds of the part
-pub whole_part : (holds : NumberSet → Type 0) (s : Limited) (l : NumberSet) → ((t u : NumberSet) → IsPart t u → holds t → holds u) → IsMinimalYes holds s → holds l → IsPart l s.members → l ≡ s.members
+pub whole_part : (holds : NumberSet → Type 0) (s : Limited) (l : NumberSet)
+    → ((t u : NumberSet) → IsPart t u → holds t → holds u) → IsMinimalYes holds s → holds l → IsPart l s.members
+    → l ≡ s.members
 whole_part holds s l grow smallest claim part =
     set_of_parts l s.members part
     (λ k in_s. elim (cases_Bool (set.contains l k)) [
       | inl there ↦ there
-      | inr out ↦ absurd (smallest.needed k in_s (grow l (set.remove s.members k) (λ i in_l. to_without s.members k i (λ e. true≢false (sym in_l ∙ ap (set.contains l) e ∙ out)) (part i in_l)) claim))
+      | inr out ↦
+          absurd (smallest.needed k in_s
+          (grow l (set.remove s.members k)
+          (λ i in_l. to_without s.members k i (λ e. true≢false (sym in_l ∙ ap (set.contains l) e ∙ out)) (part i in_l))
+          claim))
     ])
 
-module _ (a : AskerLists) (is_log : IsAskerLog a) (is_module : IsLocalModule a.ontology.axioms a.query a.local_part) where
+module _ (a : AskerLists) (is_log : IsAskerLog a)
+    (is_module : IsLocalModule a.ontology.axioms a.query a.local_part) where
   abbrev follows : NumberSet → Type 0
   follows = FollowsFrom a.ontology.axioms a.query
 
-  module _ (m : NumberSet) (is : IsLocalModule a.ontology.axioms a.query m) (s : NumberSet) (x : IsShownNoIn a.gained a.query m s) where
+  module _ (m : NumberSet) (is : IsLocalModule a.ontology.axioms a.query m) (s : NumberSet)
+      (x : IsShownNoIn a.gained a.query m s) where
     has_common : IsPart (set.intersection s a.local_part) x.tested.members
     has_common k h = let both = in_both s a.local_part k h in x.has_part k both.0 (is_module.least m is.closed k both.1)
 
-    answered : IsAnswered a.gained (record { limit = length a.ontology.axioms; members = set.intersection s a.local_part }) a.query
+    answered : IsAnswered a.gained
+        (record { limit = length a.ontology.axioms; members = set.intersection s a.local_part }) a.query
     answered = (Test x.tested a.query x.steps E.No, x.is_no, (refl, has_common))
 
     follows_not : ¬ follows s
     follows_not f =
         let common : Limited = record { limit = length a.ontology.axioms; members = set.intersection s a.local_part } in
-        (no_by_log a is_log common x.tested a.query x.steps x.is_no has_common).0 (keeps a.ontology.axioms a.query a.local_part is_module s f)
+        (no_by_log a is_log common x.tested a.query x.steps x.is_no has_common).0
+        (keeps a.ontology.axioms a.query a.local_part is_module s f)
 
-  of_rest : (m : NumberSet) (node : Limited) → IsShownNo a.gained a.query m node.members → IsShownNoIn a.gained a.query m (rest node)
-  of_rest m node x = record { tested = x.tested; steps = x.steps; is_no = x.is_no; has_part = λ k outside in_m. x.has_rest k in_m (in_rest node k outside) }
+  of_rest : (m : NumberSet) (node : Limited) → IsShownNo a.gained a.query m node.members
+      → IsShownNoIn a.gained a.query m (rest node)
+  of_rest m node x = record {
+    tested = x.tested;
+    steps = x.steps;
+    is_no = x.is_no;
+    has_part = λ k outside in_m. x.has_rest k in_m (in_rest node k outside);
+  }
 
   module _ (f : Found) (found : IsFound (asker_meaning a) f) where
     abbrev listed_sets : List Limited
@@ -144,19 +177,26 @@ module _ (a : AskerLists) (is_log : IsAskerLog a) (is_module : IsLocalModule a.o
     abbrev IsTold : Limited → Type 0
     IsTold node = IsSettled listed_sets f.leaves.items node ⊎ (follows (rest node) ⊎ IsLeftOut a (rest node))
 
-    beside : (node j : Limited) → node.limit ≡ length a.ontology.axioms → Contains listed_sets j → ((k : ℕ) → set.contains j.members k ≡ true → set.contains node.members k ≡ false) → follows (rest node)
+    beside : (node j : Limited) → node.limit ≡ length a.ontology.axioms → Contains listed_sets j
+        → ((k : ℕ) → set.contains j.members k ≡ true → set.contains node.members k ≡ false) → follows (rest node)
     beside node j limit at apart =
         let smallest = found.smallest j at in
         grows a.ontology.axioms a.query j.members (rest node)
-        (λ k in_j. let inside = smallest.within k in_j in to_rest node k inside.0 (omega (arith, inside.1, limit, found.just_limits j at)) (apart k in_j)) smallest.yes_set
+        (λ k in_j.
+        let inside = smallest.within k in_j in
+        to_rest node k inside.0 (omega (arith, inside.1, limit, found.just_limits j at)) (apart k in_j))
+        smallest.yes_set
 
-    not_shown : (t : NumberSet) → ((l : Limited) → Contains f.leaves.items l → ¬ IsPart l.members t) → (m : NumberSet) (node : Limited) → IsLocalModule a.ontology.axioms a.query m → node.limit ≡ length a.ontology.axioms → IsPart node.members t
+    not_shown : (t : NumberSet) → ((l : Limited) → Contains f.leaves.items l → ¬ IsPart l.members t)
+        → (m : NumberSet) (node : Limited) → IsLocalModule a.ontology.axioms a.query m
+        → node.limit ≡ length a.ontology.axioms → IsPart node.members t
         → IsTold node → ¬ IsShownNo a.gained a.query m node.members
     not_shown t outside m node is limit part told x =
         let shown = of_rest m node x in
         let never = follows_not m is (rest node) shown in
         elim told [
-          | inl settled ↦ elim settled [ inl leaf ↦ outside node leaf part | inr apart ↦ never (beside node apart.0 limit apart.1 apart.2) ]
+          | inl settled ↦ elim settled
+              [ inl leaf ↦ outside node leaf part | inr apart ↦ never (beside node apart.0 limit apart.1 apart.2) ]
           | inr left ↦ elim left [ inl claim ↦ never claim | inr unknown ↦ unknown (answered m is (rest node) shown) ]
         ]
 
@@ -168,72 +208,109 @@ module _ (a : AskerLists) (is_log : IsAskerLog a) (is_module : IsLocalModule a.o
           meets = lacks.1;
           no_leaf = λ m node is at part.
               let told = found.left_open unfinished at.0 node at.1 in
-              not_shown lacks.0 (λ l leaf inside. lacks.2 (l, leaf, inside)) m node is (node_set a.ontology a.gained node is_log.honest at).limit_is part (subst IsTold at.2 told);
+              not_shown lacks.0 (λ l leaf inside. lacks.2 (l, leaf, inside)) m node is
+              (node_set a.ontology a.gained node is_log.honest at).limit_is part (subst IsTold at.2 told);
         }
 
     -- ---- what was found
 
-    module _ (m j : NumberSet) (is : IsLocalModule a.ontology.axioms a.query m) (x : IsShownJustification a.gained a.query m j) where
+    module _ (m j : NumberSet) (is : IsLocalModule a.ontology.axioms a.query m)
+        (x : IsShownJustification a.gained a.query m j) where
       abbrev whole_j : Limited
       whole_j = of_axioms a.ontology.axioms j
 
       named : IsAxiomSet a.ontology x.follows.enough
-      named = (All-contains (IsHonestEntry a.ontology) a.gained (Test x.follows.tested a.query x.follows.steps (E.Yes x.follows.enough)) is_log.honest x.follows.is_yes).1.of_axioms
+      named =
+          (All-contains (IsHonestEntry a.ontology) a.gained
+          (Test x.follows.tested a.query x.follows.steps (E.Yes x.follows.enough)) is_log.honest
+          x.follows.is_yes).1.of_axioms
 
       j_follows : follows j
-      j_follows = subst follows x.follows.is_set (yes_by_log a is_log x.follows.enough x.follows.tested a.query x.follows.steps x.follows.enough x.follows.is_yes named.limit_is (λ k h. h)).2
+      j_follows =
+          subst follows x.follows.is_set
+          (yes_by_log a is_log x.follows.enough x.follows.tested a.query x.follows.steps x.follows.enough
+          x.follows.is_yes named.limit_is (λ k h. h)).2
 
       j_smallest : IsMinimalYes follows whole_j
       j_smallest = record {
-        within = λ k in_j. let inside = named.within k (subst (λ (s : NumberSet). set.contains s k ≡ true) (sym x.follows.is_set) in_j) in (inside.0, omega (arith, inside.1, named.limit_is));
+        within =
+            λ k in_j.
+            let inside =
+            named.within k (subst (λ (s : NumberSet). set.contains s k ≡ true) (sym x.follows.is_set) in_j) in
+            (inside.0, omega (arith, inside.1, named.limit_is));
         yes_set = j_follows;
         needed = λ k in_j. follows_not m is (set.remove j k) (x.needed k in_j);
       }
 
       by_part : (l : Limited) → Contains listed_sets l → IsPart l.members j → Contains listed_sets whole_j
       by_part l at part =
-          let members = whole_part follows whole_j l.members (grows a.ontology.axioms a.query) j_smallest (found.smallest l at).yes_set part in
+          let members =
+          whole_part follows whole_j l.members (grows a.ontology.axioms a.query) j_smallest
+          (found.smallest l at).yes_set part in
           subst (Contains listed_sets) (same_limited l whole_j (found.just_limits l at) members) at
 
-      not_cut : (kept : Limited) (n : ℕ) → IsPart kept.members j → follows kept.members → set.contains kept.members n ≡ true → IsLeftOut a (set.remove kept.members n) → ⊥
+      not_cut : (kept : Limited) (n : ℕ) → IsPart kept.members j → follows kept.members
+          → set.contains kept.members n ≡ true → IsLeftOut a (set.remove kept.members n) → ⊥
       not_cut kept n part claim member unknown =
-          let members = whole_part follows whole_j kept.members (grows a.ontology.axioms a.query) j_smallest claim part in
-          subst (λ (s : NumberSet). IsLeftOut a (set.remove s n)) members unknown (answered m is (set.remove j n) (x.needed n (part n member)))
+          let members =
+          whole_part follows whole_j kept.members (grows a.ontology.axioms a.query) j_smallest claim part in
+          subst (λ (s : NumberSet). IsLeftOut a (set.remove s n)) members unknown
+          (answered m is (set.remove j n) (x.needed n (part n member)))
 
       by_found : (b : Bool) → HasFoundIn (asker_meaning a) listed_sets j b → Contains listed_sets whole_j
       by_found true part = by_part part.0 part.1 part.2
-      by_found false either = elim either [ inl part ↦ by_part part.0 part.1 part.2 | inr cut ↦ absurd (not_cut cut.0 cut.2.number cut.1 cut.2.still cut.2.member cut.2.unknown) ]
+      by_found false either = elim either [
+        | inl part ↦ by_part part.0 part.1 part.2
+        | inr cut ↦ absurd (not_cut cut.0 cut.2.number cut.1 cut.2.still cut.2.member cut.2.unknown)
+      ]
 
-    pub all_shown : (b : AskerLists) → b.gained ≡ [] → ListsAllShown (asker_meaning b) (asker_meaning a) f → HasAllShown a.ontology a.query a.gained listed_sets
+    pub all_shown : (b : AskerLists) → b.gained ≡ [] → ListsAllShown (asker_meaning b) (asker_meaning a) f
+        → HasAllShown a.ontology a.query a.gained listed_sets
     all_shown b none lists m j is x =
         elim (lists j x.follows) [
-          | inl before ↦ let at = subst (λ (l : List Entry). Contains l (Test before.tested b.query before.steps (E.Yes before.enough))) none before.is_yes in absurd (omega (arith, at.1))
+          | inl before ↦
+              let at =
+              subst (λ (l : List Entry). Contains l (Test before.tested b.query before.steps (E.Yes before.enough)))
+              none before.is_yes in
+              absurd (omega (arith, at.1))
           | inr found' ↦ by_found m j is x f.finished found'
         ]
 
 -- ---- the log and the lists
 
 module _ (a : AskerLists) (is_log : IsAskerLog a)
-    (asked : a.asks ≤ (length a.ontology.axioms + 1) * length (nodes_of a.gained)) (small : length a.ontology.axioms ≤ 20000) (budget_small : a.budget < 2 ^ 32) where
+    (asked : a.asks ≤ (length a.ontology.axioms + 1) * length (nodes_of a.gained))
+    (small : length a.ontology.axioms ≤ 20000) (budget_small : a.budget < 2 ^ 32) where
   pub few : AsksFewPerNode a.ontology a.gained
   few =
-      let nodes_few : length (nodes_of a.gained) < 2 ^ 32 = omega (arith, nodes_cost a.gained, within a is_log, budget_small) in
+      let nodes_few : length (nodes_of a.gained) < 2 ^ 32 =
+      omega (arith, nodes_cost a.gained, within a is_log, budget_small) in
       elim is_log.few [
         | inl le ↦ omega (arith, le, asked)
-        | inr full ↦ absurd (omega (arith, full, few_asks (length a.ontology.axioms) (length (nodes_of a.gained)) a.asks small nodes_few asked))
+        | inr full ↦ absurd (omega (
+          arith,
+          full,
+          few_asks (length a.ontology.axioms) (length (nodes_of a.gained)) a.asks small nodes_few asked,
+        ))
       ]
 
 -- smallest sets from which the query follows, and the nodes of a tree with these labels
-module _ (a : AskerLists) (labels : List Limited) (limits : (j : Limited) → Contains labels j → j.limit ≡ length a.ontology.axioms)
+module _ (a : AskerLists) (labels : List Limited)
+    (limits : (j : Limited) → Contains labels j → j.limit ≡ length a.ontology.axioms)
     (smallest : (j : Limited) → Contains labels j → IsMinimalYes (FollowsFrom a.ontology.axioms a.query) j) where
   pub just : (j : Limited) → Contains labels j → IsJustificationSet a.ontology a.query j
   just j listed = to_justification a.ontology a.query j (limits j listed) (smallest j listed)
 
   pub tree : AreNodes labels (nodes_of a.gained) → AreTreeNodes a.ontology a.query a.gained
-  tree nodes = record { labels = labels; justifications = λ k d lt. just (get_or labels k d) (Contains-get_or labels k d lt); nodes = nodes }
+  tree nodes = record {
+    labels = labels;
+    justifications = λ k d lt. just (get_or labels k d) (Contains-get_or labels k d lt);
+    nodes = nodes;
+  }
 
 module _ (a : AskerLists) (is_log : IsAskerLog a) (is_module : IsLocalModule a.ontology.axioms a.query a.local_part)
-    (asked : a.asks ≤ (length a.ontology.axioms + 1) * length (nodes_of a.gained)) (small : length a.ontology.axioms ≤ 20000) (budget_small : a.budget < 2 ^ 32) where
+    (asked : a.asks ≤ (length a.ontology.axioms + 1) * length (nodes_of a.gained))
+    (small : length a.ontology.axioms ≤ 20000) (budget_small : a.budget < 2 ^ 32) where
   honest_by : AreTreeNodes a.ontology a.query a.gained → IsPinpointingLog a.ontology a.query (left_at_first a) a.gained
   honest_by nodes = record {
     budget_kept = budget_kept a is_log;
@@ -244,32 +321,45 @@ module _ (a : AskerLists) (is_log : IsAskerLog a) (is_module : IsLocalModule a.o
     in_module = record { local_part = a.local_part; is_module = is_module; within = is_log.in_module };
   }
 
-module _ (a : AskerLists) (f : Found) (is_log : IsAskerLog a) (found : IsFound (asker_meaning a) f) (is_module : IsLocalModule a.ontology.axioms a.query a.local_part)
-    (asked : a.asks ≤ (length a.ontology.axioms + 1) * length (nodes_of a.gained)) (small : length a.ontology.axioms ≤ 20000) (budget_small : a.budget < 2 ^ 32)
-    (begun : AskerLists) (fresh_log : begun.gained ≡ []) (lists : ListsAllShown (asker_meaning begun) (asker_meaning a) f) where
+module _ (a : AskerLists) (f : Found) (is_log : IsAskerLog a) (found : IsFound (asker_meaning a) f)
+    (is_module : IsLocalModule a.ontology.axioms a.query a.local_part)
+    (asked : a.asks ≤ (length a.ontology.axioms + 1) * length (nodes_of a.gained))
+    (small : length a.ontology.axioms ≤ 20000) (budget_small : a.budget < 2 ^ 32)
+    (begun : AskerLists) (fresh_log : begun.gained ≡ [])
+    (lists : ListsAllShown (asker_meaning begun) (asker_meaning a) f) where
   honest : IsPinpointingLog a.ontology a.query (left_at_first a) a.gained
-  honest = honest_by a is_log is_module asked small budget_small (tree a f.justifications.items found.just_limits found.smallest found.nodes)
+  honest =
+      honest_by a is_log is_module asked small budget_small
+      (tree a f.justifications.items found.just_limits found.smallest found.nodes)
 
   leaf : (l : Limited) → Contains f.leaves.items l → IsLeaf a.ontology a.query l
-  leaf l listed = record { limit_is = found.leaf_limits l listed; within = (found.ends l listed).0; ends = (found.ends l listed).1 }
+  leaf l listed =
+      record { limit_is = found.leaf_limits l listed; within = (found.ends l listed).0; ends = (found.ends l listed).1 }
 
   -- ---- a finished search
 
-  yes_shown : f.finished ≡ true → (j : NumberSet) → IsJustification a.ontology.axioms a.query j → IsShownYes a.gained a.query j
+  yes_shown : f.finished ≡ true → (j : NumberSet) → IsJustification a.ontology.axioms a.query j
+      → IsShownYes a.gained a.query j
   yes_shown finished j x =
       let s = of_axioms a.ontology.axioms j in
       found.shown_yes s (found.all finished s refl x)
 
-  no_shown : f.finished ≡ true → (m r : NumberSet) → IsLocalModule a.ontology.axioms a.query m → IsRepair a.ontology.axioms a.query r → IsShownNo a.gained a.query m r
+  no_shown : f.finished ≡ true → (m r : NumberSet) → IsLocalModule a.ontology.axioms a.query m
+      → IsRepair a.ontology.axioms a.query r → IsShownNo a.gained a.query m r
   no_shown finished m r is x =
       let s = of_axioms a.ontology.axioms r in
-      let listed = removal_is_leaf (FollowsFrom a.ontology.axioms a.query) (length a.ontology.axioms) f.justifications.items f.leaves.items (grows a.ontology.axioms a.query) (found.explored finished) s refl x in
+      let listed =
+      removal_is_leaf (FollowsFrom a.ontology.axioms a.query) (length a.ontology.axioms) f.justifications.items
+      f.leaves.items (grows a.ontology.axioms a.query) (found.explored finished) s refl x in
       let shown = found.shown_no s listed in
       record {
         tested = shown.tested;
         steps = shown.steps;
         is_no = shown.is_no;
-        has_rest = λ k in_m out_r. let inside = is.within k in_m in shown.has_part k (to_rest s k inside.0 inside.1 out_r) (is.least a.local_part is_module.closed k in_m);
+        has_rest =
+            λ k in_m out_r.
+            let inside = is.within k in_m in
+            shown.has_part k (to_rest s k inside.0 inside.1 out_r) (is.least a.local_part is_module.closed k in_m);
       }
 
   pub searched : IsSearched a.ontology a.query (left_at_first a) a.gained f
@@ -292,14 +382,17 @@ module _ (a : AskerLists) (f : Found) (is_log : IsAskerLog a) (found : IsFound (
 -- ---- of what a call answers
 
 -- what an asker is made of
-pub record IsMadeOf (o : Listed) (q : Asked) (budget : ℕ) (m : NumberSet) (before : List Entry) (a : AskerLists) : Type 0 where
+pub record IsMadeOf (o : Listed) (q : Asked) (budget : ℕ) (m : NumberSet) (before : List Entry) (a : AskerLists) :
+    Type 0 where
   pub ontology : a.ontology ≡ o
   pub query : a.query ≡ q
   pub budget_is : a.budget ≡ budget
   pub local_part : a.local_part ≡ m
   pub before_is : a.before ≡ before
 
-pub is_made_of : (o : Listed) (q : Asked) (budget : ℕ) (m : NumberSet) (before : List Entry) (a : AskerLists) → origin_of a ≡ record { ontology = o; query = q; budget = budget; local_part = m; before = before } → IsMadeOf o q budget m before a
+pub is_made_of : (o : Listed) (q : Asked) (budget : ℕ) (m : NumberSet) (before : List Entry) (a : AskerLists)
+    → origin_of a ≡ record { ontology = o; query = q; budget = budget; local_part = m; before = before }
+    → IsMadeOf o q budget m before a
 is_made_of o q budget m before a e = record {
   ontology = ap (λ (x : AskerOrigin). x.ontology) e;
   query = ap (λ (x : AskerOrigin). x.query) e;
@@ -308,38 +401,70 @@ is_made_of o q budget m before a e = record {
   before_is = ap (λ (x : AskerOrigin). x.before) e;
 }
 
-pub left_is : (o : Listed) (q : Asked) (budget : ℕ) (m : NumberSet) (before : List Entry) (a : AskerLists) → IsMadeOf o q budget m before a → left_at_first a ≡ budget - spent_of before
-left_is o q budget m before a of = ap (λ (n : ℕ). n - spent_of a.before) of.budget_is ∙ ap (λ (log : List Entry). budget - spent_of log) of.before_is
+pub left_is : (o : Listed) (q : Asked) (budget : ℕ) (m : NumberSet) (before : List Entry) (a : AskerLists)
+    → IsMadeOf o q budget m before a → left_at_first a ≡ budget - spent_of before
+left_is o q budget m before a of =
+    ap (λ (n : ℕ). n - spent_of a.before) of.budget_is ∙ ap (λ (log : List Entry). budget - spent_of log) of.before_is
 
 abbrev pub fresh : Listed → Asked → ℕ → NumberSet → List Entry → AskerLists
-fresh o q budget m before = record { ontology = o; query = q; budget = budget; local_part = m; before = before; gained = []; asks = 0 }
+fresh o q budget m before =
+    record { ontology = o; query = q; budget = budget; local_part = m; before = before; gained = []; asks = 0 }
 
 -- one that was made of an oracle
-pub made_fresh : (o : Listed) (q : Asked) (budget : ℕ) (m : NumberSet) (before : List Entry) (oracle : OracleLists) (begun : AskerLists)
-    → begun ≡ record { ontology = oracle.ontology; query = q; budget = oracle.budget; local_part = m; before = oracle.log; gained = []; asks = 0 } → oracle ≡ record { ontology = o; budget = budget; log = before } → begun ≡ fresh o q budget m before
+pub made_fresh : (o : Listed) (q : Asked) (budget : ℕ) (m : NumberSet) (before : List Entry) (oracle : OracleLists)
+    (begun : AskerLists)
+    → begun ≡ record {
+      ontology = oracle.ontology;
+      query = q;
+      budget = oracle.budget;
+      local_part = m;
+      before = oracle.log;
+      gained = [];
+      asks = 0;
+    } → oracle ≡ record { ontology = o; budget = budget; log = before } → begun ≡ fresh o q budget m before
 made_fresh o q budget m before oracle begun made is =
-    made ∙ ap (λ (x : OracleLists). record { ontology = x.ontology; query = q; budget = x.budget; local_part = m; before = x.log; gained = []; asks = 0 }) is
+    made ∙ ap
+    (λ (x : OracleLists). record {
+      ontology = x.ontology;
+      query = q;
+      budget = x.budget;
+      local_part = m;
+      before = x.log;
+      gained = [];
+      asks = 0;
+    })
+    is
 
 -- what follows is told within the local module
-pub module_keeps_answers : (o p : Listed) (q : Asked) (m : NumberSet) → p ≡ o → IsLocalModule o.axioms q m → KeepsAnswers p.axioms q m
+pub module_keeps_answers : (o p : Listed) (q : Asked) (m : NumberSet) → p ≡ o → IsLocalModule o.axioms q m
+    → KeepsAnswers p.axioms q m
 module_keeps_answers o p q m e is =
-    subst (λ (l : Listed). KeepsAnswers l.axioms q m) (sym e) (λ s. (keeps o.axioms q m is s, grows o.axioms q (set.intersection s m) s (intersection_part s m)))
+    subst (λ (l : Listed). KeepsAnswers l.axioms q m) (sym e)
+    (λ s. (keeps o.axioms q m is s, grows o.axioms q (set.intersection s m) s (intersection_part s m)))
 
 -- an asker that begins with no asks and no nodes makes few asks for each node
-pub asks_few : (o : Listed) (q : Asked) (budget : ℕ) (m : NumberSet) (before : List Entry) (begun ended : AskerLists) → begun ≡ fresh o q budget m before → AsksFew (length ended.ontology.axioms) (asker_meaning begun) (asker_meaning ended)
+pub asks_few : (o : Listed) (q : Asked) (budget : ℕ) (m : NumberSet) (before : List Entry) (begun ended : AskerLists)
+    → begun ≡ fresh o q budget m before
+    → AsksFew (length ended.ontology.axioms) (asker_meaning begun) (asker_meaning ended)
     → ended.asks ≤ (length ended.ontology.axioms + 1) * length (nodes_of ended.gained)
 asks_few o q budget m before begun ended e few =
-    let from : AsksFew (length ended.ontology.axioms) (asker_meaning (fresh o q budget m before)) (asker_meaning ended) = subst (λ (x : AskerLists). AsksFew (length ended.ontology.axioms) (asker_meaning x) (asker_meaning ended)) e few in
+    let from :
+    AsksFew (length ended.ontology.axioms) (asker_meaning (fresh o q budget m before)) (asker_meaning ended) =
+    subst (λ (x : AskerLists). AsksFew (length ended.ontology.axioms) (asker_meaning x) (asker_meaning ended)) e few in
     omega (arith, from)
 
-pub along : (P : Listed → Asked → ℕ → List Entry → Type 0) (o p : Listed) (q r : Asked) (b c : ℕ) (log more : List Entry) → o ≡ p → q ≡ r → b ≡ c → log ≡ more → P o q b log → P p r c more
+pub along : (P : Listed → Asked → ℕ → List Entry → Type 0) (o p : Listed) (q r : Asked) (b c : ℕ)
+    (log more : List Entry)
+    → o ≡ p → q ≡ r → b ≡ c → log ≡ more → P o q b log → P p r c more
 along P o p q r b c log more same_o same_q same_b same_log h =
     subst (λ (l : Listed). P l r c more) same_o
     (subst (λ (k : Asked). P o k c more) same_q
     (subst (λ (n : ℕ). P o q n more) same_b
     (subst (λ (l : List Entry). P o q b l) same_log h)))
 
-module _ (o : Listed) (q : Asked) (budget : ℕ) (m : NumberSet) (before : List Entry) (begun ended : AskerLists) (log : List Entry) (made : begun ≡ fresh o q budget m before) (same : origin_of ended ≡ origin_of begun) (is_log : IsAskerLog ended)
+module _ (o : Listed) (q : Asked) (budget : ℕ) (m : NumberSet) (before : List Entry) (begun ended : AskerLists)
+    (log : List Entry) (made : begun ≡ fresh o q budget m before) (same : origin_of ended ≡ origin_of begun)
+    (is_log : IsAskerLog ended)
     (log_is : log ≡ ended.before ++ ended.gained) (is_module : IsLocalModule o.axioms q m) where
   of : IsMadeOf o q budget m before ended
   of = is_made_of o q budget m before ended (same ∙ ap origin_of made)
@@ -347,7 +472,8 @@ module _ (o : Listed) (q : Asked) (budget : ℕ) (m : NumberSet) (before : List 
   moved : IsLocalModule ended.ontology.axioms ended.query ended.local_part
   moved =
       subst (λ (l : Listed). IsLocalModule l.axioms ended.query ended.local_part) (sym of.ontology)
-      (subst (λ (k : Asked). IsLocalModule o.axioms k ended.local_part) (sym of.query) (subst (λ (s : NumberSet). IsLocalModule o.axioms q s) (sym of.local_part) is_module))
+      (subst (λ (k : Asked). IsLocalModule o.axioms k ended.local_part) (sym of.query)
+      (subst (λ (s : NumberSet). IsLocalModule o.axioms q s) (sym of.local_part) is_module))
 
   more : log ≡ before ++ ended.gained
   more = log_is ∙ ap (λ (l : List Entry). l ++ ended.gained) of.before_is
@@ -355,7 +481,9 @@ module _ (o : Listed) (q : Asked) (budget : ℕ) (m : NumberSet) (before : List 
   left : left_at_first ended ≡ budget - spent_of before
   left = left_is o q budget m before ended of
 
-  pub all_begun : length o.axioms ≤ 20000 → budget < 2 ^ 32 → (r : Result Found NoMemory) → OnErr r (HasTree (asker_meaning ended)) → AsksFew (length ended.ontology.axioms) (asker_meaning begun) (asker_meaning ended)
+  pub all_begun : length o.axioms ≤ 20000 → budget < 2 ^ 32 → (r : Result Found NoMemory)
+      → OnErr r (HasTree (asker_meaning ended))
+      → AsksFew (length ended.ontology.axioms) (asker_meaning begun) (asker_meaning ended)
       → OnErr r (GainsBegun o q budget before log)
   all_begun small budget_small (Ok f) begun_tree asked = tt
   all_begun small budget_small (Err e) begun_tree asked =
@@ -363,43 +491,58 @@ module _ (o : Listed) (q : Asked) (budget : ℕ) (m : NumberSet) (before : List 
       record {
         gained = ended.gained;
         is_more = more;
-        so = inr (along IsPinpointingLog ended.ontology o ended.query q (left_at_first ended) (budget - spent_of before) ended.gained ended.gained of.ontology of.query left refl
-            (honest_by ended is_log moved (asks_few o q budget m before begun ended made asked) (omega (arith, small, count)) (omega (arith, budget_small, of.budget_is))
+        so =
+            inr (along IsPinpointingLog ended.ontology o ended.query q (left_at_first ended) (budget - spent_of before)
+            ended.gained ended.gained of.ontology of.query left refl
+            (honest_by ended is_log moved (asks_few o q budget m before begun ended made asked)
+            (omega (arith, small, count)) (omega (arith, budget_small, of.budget_is))
             (tree ended begun_tree.labels begun_tree.limits begun_tree.smallest begun_tree.nodes)));
       }
 
-  pub all_searched : length o.axioms ≤ 20000 → budget < 2 ^ 32 → (r : Result Found NoMemory) → IfOk r (IsFound (asker_meaning ended)) → IfOk r (ListsAllShown (asker_meaning begun) (asker_meaning ended))
-      → AsksFew (length ended.ontology.axioms) (asker_meaning begun) (asker_meaning ended) → IfOk r (GainsSearch o q budget before log)
+  pub all_searched : length o.axioms ≤ 20000 → budget < 2 ^ 32 → (r : Result Found NoMemory)
+      → IfOk r (IsFound (asker_meaning ended)) → IfOk r (ListsAllShown (asker_meaning begun) (asker_meaning ended))
+      → AsksFew (length ended.ontology.axioms) (asker_meaning begun) (asker_meaning ended)
+      → IfOk r (GainsSearch o q budget before log)
   all_searched small budget_small (Err e) found lists asked = tt
   all_searched small budget_small (Ok f) found lists asked =
       let count : length ended.ontology.axioms ≡ length o.axioms = ap (λ (l : Listed). length l.axioms) of.ontology in
       record {
         gained = ended.gained;
         is_more = more;
-        so = along (λ l k n es. IsSearched l k n es f) ended.ontology o ended.query q (left_at_first ended) (budget - spent_of before) ended.gained ended.gained of.ontology of.query left refl
-            (searched ended f is_log found moved (asks_few o q budget m before begun ended made asked) (omega (arith, small, count)) (omega (arith, budget_small, of.budget_is))
+        so =
+            along (λ l k n es. IsSearched l k n es f) ended.ontology o ended.query q (left_at_first ended)
+            (budget - spent_of before) ended.gained ended.gained of.ontology of.query left refl
+            (searched ended f is_log found moved (asks_few o q budget m before begun ended made asked)
+            (omega (arith, small, count)) (omega (arith, budget_small, of.budget_is))
             begun (ap (λ (x : AskerLists). x.gained) made) lists);
       }
 
 -- ---- with an empty log
 
 -- a log that was empty has just what it gained, and the whole budget was left
-gained_alone : (budget : ℕ) (old new : List Entry) (is_so : ℕ → List Entry → Type 0) → old ≡ [] → HasGained budget old new is_so → is_so budget new
+gained_alone : (budget : ℕ) (old new : List Entry) (is_so : ℕ → List Entry → Type 0) → old ≡ []
+    → HasGained budget old new is_so → is_so budget new
 gained_alone budget old new is_so none h =
     let left : budget - spent_of old ≡ budget = ap (λ (l : List Entry). budget - spent_of l) none ∙ omega arith in
     let log : h.gained ≡ new = sym (h.is_more ∙ ap (λ (l : List Entry). l ++ h.gained) none) in
     subst (λ (n : ℕ). is_so n new) left (subst (is_so (budget - spent_of old)) log h.so)
 
 -- of an oracle that began with an empty log
-module _ (o : Listed) (q : Asked) (budget : ℕ) (oracle : OracleLists) (old new log : List Entry) (made : oracle ≡ record { ontology = o; budget = budget; log = old }) (none : old ≡ []) (log_is : log ≡ new) where
-  alone : (is_so : Listed → ℕ → List Entry → Type 0) → HasGained oracle.budget oracle.log new (is_so oracle.ontology) → is_so o budget log
+module _ (o : Listed) (q : Asked) (budget : ℕ) (oracle : OracleLists) (old new log : List Entry)
+    (made : oracle ≡ record { ontology = o; budget = budget; log = old }) (none : old ≡ []) (log_is : log ≡ new) where
+  alone : (is_so : Listed → ℕ → List Entry → Type 0) → HasGained oracle.budget oracle.log new (is_so oracle.ontology)
+      → is_so o budget log
   alone is_so h =
-      subst (is_so o budget) (sym log_is) (gained_alone budget old new (is_so o) none (subst (λ (x : OracleLists). HasGained x.budget x.log new (is_so x.ontology)) made h))
+      subst (is_so o budget) (sym log_is)
+      (gained_alone budget old new (is_so o) none
+      (subst (λ (x : OracleLists). HasGained x.budget x.log new (is_so x.ontology)) made h))
 
-  pub alone_begun : (r : Result Found NoMemory) → OnErr r (GainsBegun oracle.ontology q oracle.budget oracle.log new) → OnErr r (HasSearched o q budget log)
+  pub alone_begun : (r : Result Found NoMemory) → OnErr r (GainsBegun oracle.ontology q oracle.budget oracle.log new)
+      → OnErr r (HasSearched o q budget log)
   alone_begun (Ok f) h = tt
   alone_begun (Err e) h = alone (λ l left entries. HasSearched l q left entries) h
 
-  pub alone_searched : (r : Result Found NoMemory) → IfOk r (GainsSearch oracle.ontology q oracle.budget oracle.log new) → IfOk r (IsSearched o q budget log)
+  pub alone_searched : (r : Result Found NoMemory) → IfOk r (GainsSearch oracle.ontology q oracle.budget oracle.log new)
+      → IfOk r (IsSearched o q budget log)
   alone_searched (Err e) h = tt
   alone_searched (Ok f) h = alone (λ l left entries. IsSearched l q left entries f) h

@@ -16,7 +16,8 @@ use Rattle.pinpointing_jobs.specs.Memory.{UnlessNoMemory}
 -- ---- lists of sets
 
 -- the statement is a query on the document that the bytes are, and its sets were listed
-pub record IsPinpointed (w : Wanted) (statement : List ℕ) (budget : ℕ) (bytes out : List ℕ) (s : Status) (log : List Entry) : Type 0 where
+pub record IsPinpointed (w : Wanted) (statement : List ℕ) (budget : ℕ) (bytes out : List ℕ) (s : Status)
+    (log : List Entry) : Type 0 where
   pub ontology : Listed
   pub query : Asked
   pub is_question : IsQuestion (follows statement) bytes ontology query
@@ -43,4 +44,6 @@ pub record IsMeasured (number budget : ℕ) (out : List ℕ) (s : Status) (log :
 
 abbrev pub AnswersWorkload : ℕ → ℕ → List ℕ → Status → List Entry → Type 0
 AnswersWorkload number budget out s log =
-    UnlessNoMemory s out (HasBegun (follows workload_query) (workload_text number) log (λ o q. IsPinpointingLog o q budget log)) (IsMeasured number budget out s log)
+    UnlessNoMemory s out
+    (HasBegun (follows workload_query) (workload_text number) log (λ o q. IsPinpointingLog o q budget log))
+    (IsMeasured number budget out s log)

@@ -43,7 +43,8 @@ IsCount number o q budget log out true = AreCounted number o q log out
 IsCount number o q budget log out false = AreUncounted o q budget log out
 
 -- a query was searched: so many sets were found, and this text says so
-pub record IsCounted (number : ℕ) (o : Listed) (q : Asked) (budget : ℕ) (log : List Entry) (s : Status) (out : List ℕ) : Type 0 where
+pub record IsCounted (number : ℕ) (o : Listed) (q : Asked) (budget : ℕ) (log : List Entry) (s : Status) (out : List ℕ) :
+    Type 0 where
   pub finished : Bool
   pub status : s ≡ end_status finished
   pub honest : IsPinpointingLog o q budget log

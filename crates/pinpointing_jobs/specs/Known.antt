@@ -22,7 +22,8 @@ pub record IsShownJustification (log : List Entry) (q : Asked) (m j : NumberSet)
 
 -- each justification that the log shows is listed
 abbrev pub HasAllShown : Listed → Asked → List Entry → List Limited → Type 0
-HasAllShown o q log sets = (m j : NumberSet) → IsLocalModule o.axioms q m → IsShownJustification log q m j → Contains sets (of_axioms o.axioms j)
+HasAllShown o q log sets = (m j : NumberSet) → IsLocalModule o.axioms q m → IsShownJustification log q m j
+    → Contains sets (of_axioms o.axioms j)
 
 -- The log does not show that these are all justifications: some set meets each of them, and of no node in it the log
 -- shows that the query does not follow without the node's axioms. Where all were found, and the log shows it, there is
@@ -30,7 +31,8 @@ HasAllShown o q log sets = (m j : NumberSet) → IsLocalModule o.axioms q m → 
 pub record LeavesSomeOpen (o : Listed) (q : Asked) (log : List Entry) (sets : List Limited) : Type 0 where
   pub left : NumberSet
   pub meets : MeetsEach sets left
-  pub no_leaf : (m : NumberSet) (node : Limited) → IsLocalModule o.axioms q m → Contains (nodes_of log) node → IsPart node.members left → ¬ IsShownNo log q m node.members
+  pub no_leaf : (m : NumberSet) (node : Limited) → IsLocalModule o.axioms q m → Contains (nodes_of log) node
+      → IsPart node.members left → ¬ IsShownNo log q m node.members
 
 -- the nodes of the log are those of a hitting-set tree by these justifications, each that the log shows is one of them,
 -- and some are lacking as far as the log shows

@@ -16,4 +16,5 @@ ListsAreUnique = (w : Wanted) (statement : List ℕ) (b c : ℕ) (bytes out text
 
 -- the text of a workload is a document with nothing behind it, and the query of workloads is one on it
 abbrev pub WorkloadsAreQuestions : Type 0
-WorkloadsAreQuestions = (n : ℕ) → n ≤ 4000 → (o : Listed) × (q : Asked) × IsQuestion (follows workload_query) (workload_text n) o q
+WorkloadsAreQuestions = (n : ℕ) → n ≤ 4000
+    → (o : Listed) × (q : Asked) × IsQuestion (follows workload_query) (workload_text n) o q

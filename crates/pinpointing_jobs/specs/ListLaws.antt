@@ -21,12 +21,14 @@ use Rattle.pinpointing_jobs.specs.Written.{IsWritten, IsToldCount}
 
 -- the list that is written has all wanted sets, or what is known of them where the budget was spent
 abbrev pub ListsAreRight : Type 0
-ListsAreRight = (w : Wanted) (o : Listed) (q : Asked) (budget : ℕ) (log : List Entry) (f : Found) (s : Status) (out : List ℕ)
+ListsAreRight =
+    (w : Wanted) (o : Listed) (q : Asked) (budget : ℕ) (log : List Entry) (f : Found) (s : Status) (out : List ℕ)
     → IsSearched o q budget log f → IsWritten w o f s out → IsListAnswer w o q budget log s out
 
 -- the numbers are those of all justifications and all repairs
 abbrev pub CountsAreRight : Type 0
-CountsAreRight = (number : ℕ) (o : Listed) (q : Asked) (budget : ℕ) (log : List Entry) (f : Found) (s : Status) (out : List ℕ)
+CountsAreRight =
+    (number : ℕ) (o : Listed) (q : Asked) (budget : ℕ) (log : List Entry) (f : Found) (s : Status) (out : List ℕ)
     → IsSearched o q budget log f → IsToldCount number o f s out → IsCounted number o q budget log s out
 
 -- the log shows that nothing is lacking: each justification, and in each set that meets all of them a node without
@@ -38,10 +40,12 @@ pub record ShowsWhole (o : Listed) (q : Asked) (m : NumberSet) (log : List Entry
 
 -- then the list is not told as partial, though the whole budget was spent
 abbrev pub WholeListsAreDone : Type 0
-WholeListsAreDone = (w : Wanted) (o : Listed) (q : Asked) (budget : ℕ) (log : List Entry) (s : Status) (out : List ℕ) (m : NumberSet)
+WholeListsAreDone =
+    (w : Wanted) (o : Listed) (q : Asked) (budget : ℕ) (log : List Entry) (s : Status) (out : List ℕ) (m : NumberSet)
     → IsLocalModule o.axioms q m → ShowsWhole o q m log → IsListAnswer w o q budget log s out → s ≡ Done
 
 -- nor are the numbers left out
 abbrev pub WholeCountsAreDone : Type 0
-WholeCountsAreDone = (number : ℕ) (o : Listed) (q : Asked) (budget : ℕ) (log : List Entry) (s : Status) (out : List ℕ) (m : NumberSet)
+WholeCountsAreDone =
+    (number : ℕ) (o : Listed) (q : Asked) (budget : ℕ) (log : List Entry) (s : Status) (out : List ℕ) (m : NumberSet)
     → IsLocalModule o.axioms q m → ShowsWhole o q m log → IsCounted number o q budget log s out → s ≡ Done

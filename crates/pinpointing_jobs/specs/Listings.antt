@@ -39,7 +39,8 @@ IsListing w o q budget log sets true = HasAll w o q sets × ShowsAll o q log
 IsListing w o q budget log sets false = HasSome w o q log sets × (spent_of log ≡ budget)
 
 -- a query was searched: this list was found, and this text says so
-pub record IsListAnswer (w : Wanted) (o : Listed) (q : Asked) (budget : ℕ) (log : List Entry) (s : Status) (out : List ℕ) : Type 0 where
+pub record IsListAnswer (w : Wanted) (o : Listed) (q : Asked) (budget : ℕ) (log : List Entry) (s : Status)
+    (out : List ℕ) : Type 0 where
   pub sets : List Limited
   pub finished : Bool
   pub text : out ≡ listing_text o w finished sets

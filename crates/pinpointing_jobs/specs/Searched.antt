@@ -33,11 +33,13 @@ pub record IsSearched (o : Listed) (q : Asked) (budget : ℕ) (log : List Entry)
   -- budget was spent
   pub nodes : AreNodes f.justifications.items (nodes_of log)
   pub leaf_taken : (l : Limited) → Contains f.leaves.items l → Contains (nodes_of log) l
-  pub settled : AreSettled f.justifications.items f.leaves.items (nodes_of log) (cond f.finished (length (nodes_of log)) (length (nodes_of log) - 1))
+  pub settled : AreSettled f.justifications.items f.leaves.items (nodes_of log)
+      (cond f.finished (length (nodes_of log)) (length (nodes_of log) - 1))
   -- nothing that was found is left out, and a search that is not finished lacks some
   pub all_shown : HasAllShown o q log f.justifications.items
   pub left_open : f.finished ≡ false → LeavesSomeOpen o q log f.justifications.items
   -- a finished search found all, and its log shows it
-  pub explored : f.finished ≡ true → IsExplored (FollowsFrom o.axioms q) (length o.axioms) f.justifications.items f.leaves.items
+  pub explored : f.finished ≡ true
+      → IsExplored (FollowsFrom o.axioms q) (length o.axioms) f.justifications.items f.leaves.items
   pub shown : f.finished ≡ true → ShowsPinpointing o q log
   pub spent : f.finished ≡ false → spent_of log ≡ budget

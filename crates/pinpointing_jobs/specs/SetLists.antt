@@ -23,7 +23,8 @@ is_listed sets k = list_any (λ s. set.contains s.members k) sets
 
 -- `axiom`, the number, `line`, the line of the document on which the axiom stands, and its text
 abbrev pub axiom_line : Listed → ℕ → Numbered → List ℕ
-axiom_line o k a = line (items_text (codes "axiom" ∷ decimal k ∷ codes "line" ∷ decimal a.line ∷ axiom_text o a.axiom ∷ []))
+axiom_line o k a =
+    line (items_text (codes "axiom" ∷ decimal k ∷ codes "line" ∷ decimal a.line ∷ axiom_text o a.axiom ∷ []))
 
 -- a line for each of the axioms, numbered from k on, whose number passes the test
 abbrev pub axiom_lines : Listed → (ℕ → Bool) → ℕ → List Numbered → List ℕ
@@ -38,4 +39,5 @@ heading_line heading count = line (items_text (heading ∷ decimal count ∷ [])
 
 -- the heading, the sets, and each axiom that is in one of them
 abbrev pub sets_text : Listed → List ℕ → List Limited → List ℕ
-sets_text o heading sets = heading_line heading (length sets) ++ (set_lines sets ++ axiom_lines o (is_listed sets) 1 o.axioms)
+sets_text o heading sets =
+    heading_line heading (length sets) ++ (set_lines sets ++ axiom_lines o (is_listed sets) 1 o.axioms)

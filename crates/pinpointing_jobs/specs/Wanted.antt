@@ -43,7 +43,8 @@ pub record ShowsAll (o : Listed) (q : Asked) (log : List Entry) : Type 0 where
 
 -- the list has each node but the last one that is a repair of which some label meets each member alone
 abbrev pub HasRepairsOf : Listed → Asked → List Limited → List Limited → List Limited → Type 0
-HasRepairsOf o q labels nodes sets = (place : ℕ) (d : Limited) → place + 1 < length nodes → IsRepairSet o q (slice_index_or nodes place d)
+HasRepairsOf o q labels nodes sets = (place : ℕ) (d : Limited) → place + 1 < length nodes
+    → IsRepairSet o q (slice_index_or nodes place d)
     → IsHitAlone labels (slice_index_or nodes place d) → Contains sets (slice_index_or nodes place d)
 
 -- for some justifications by which the nodes are those of a hitting-set tree, it has the repairs among these nodes

@@ -28,7 +28,8 @@ pub record HasOneOfEach (s : NumberSet) : Type 0 where
 
 -- what holds of the document and the query of each workload
 abbrev pub OfWorkloads : (Listed → Asked → Type 0) → Type 0
-OfWorkloads holds = (n : ℕ) (o : Listed) (q : Asked) → n ≤ 4000 → IsQuestion (follows workload_query) (workload_text n) o q → holds o q
+OfWorkloads holds = (n : ℕ) (o : Listed) (q : Asked) → n ≤ 4000
+    → IsQuestion (follows workload_query) (workload_text n) o q → holds o q
 
 -- the query follows from the sets that have an axiom of each pair, and from no others
 abbrev pub FollowsByPairs : Listed → Asked → Type 0
@@ -57,4 +58,5 @@ pub record HasEightAndThree (o : Listed) (q : Asked) : Type 0 where
 
 -- so these are the numbers that a finished run prints
 abbrev pub WorkloadsCountEightAndThree : Type 0
-WorkloadsCountEightAndThree = (number budget : ℕ) (out : List ℕ) (log : List Entry) → number ≤ 4000 → IsMeasured number budget out Done log → out ≡ counts_text number (length (workload_axioms number)) 8 3
+WorkloadsCountEightAndThree = (number budget : ℕ) (out : List ℕ) (log : List Entry) → number ≤ 4000
+    → IsMeasured number budget out Done log → out ≡ counts_text number (length (workload_axioms number)) 8 3

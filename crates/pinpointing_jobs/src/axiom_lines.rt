@@ -81,7 +81,9 @@ fn put_if_member(
 ) -> Result<(), NoMemory>
     requires low { 1 ≤ number }
     requires high { number ≤ set.now.limit }
-    requires listed { IsTrue (axiom_uses_listed (length ontology.now.classes) (length ontology.now.roles) (length ontology.now.individuals) numbered.now.axiom) }
+    requires listed { IsTrue
+        (axiom_uses_listed (length ontology.now.classes) (length ontology.now.roles) (length ontology.now.individuals)
+        numbered.now.axiom) }
     ensures { OnOk result (out.new.items ≡ out.old.items
         ++ (if sets_of.contains set.now.members number then axiom_line ontology.now number numbered.now else [])) }
 {
@@ -98,7 +100,9 @@ fn put_axiom(
     number: u32,
     numbered: &Numbered,
 ) -> Result<(), NoMemory>
-    requires { IsTrue (axiom_uses_listed (length ontology.now.classes) (length ontology.now.roles) (length ontology.now.individuals) numbered.now.axiom) }
+    requires { IsTrue
+        (axiom_uses_listed (length ontology.now.classes) (length ontology.now.roles) (length ontology.now.individuals)
+        numbered.now.axiom) }
     ensures { OnOk result (out.new.items ≡ out.old.items ++ axiom_line ontology.now number numbered.now) }
 {
     put(out, b"axiom ")?;

@@ -52,8 +52,10 @@ fn pinpointed(
 ) -> Result<(Status, Text), Unread>
     requires small { length bytes.now ≤ 4294967293 }
     requires unlogged { log.old ≡ [] }
-    ensures answer { IfOk result (λ a. IsPinpointed wanted statement.now budget bytes.now (text_bytes a.1) a.0 log.new) }
-    ensures unread { IfErr result (IsUnanswered (follows statement.now) bytes.now log.new (λ o q. IsPinpointingLog o q budget log.new)) }
+    ensures answer { IfOk result
+        (λ a. IsPinpointed wanted statement.now budget bytes.now (text_bytes a.1) a.0 log.new) }
+    ensures unread { IfErr result
+        (IsUnanswered (follows statement.now) bytes.now log.new (λ o q. IsPinpointingLog o q budget log.new)) }
 {
     let input = read_input(alloc, statement, bytes)?;
     let answer = listed(alloc, wanted, budget, input, log)?;
@@ -70,7 +72,8 @@ fn listed(
 ) -> Result<(Status, Text), NoMemory>
     requires in_limit { IsInLimit input.ontology input.query }
     requires unlogged { log.old ≡ [] }
-    ensures listed { IfOk result (λ a. IsListAnswer wanted input.ontology input.query budget log.new a.0 (text_bytes a.1)) }
+    ensures listed { IfOk result
+        (λ a. IsListAnswer wanted input.ontology input.query budget log.new a.0 (text_bytes a.1)) }
     ensures begun { OnErr result (HasSearched input.ontology input.query budget log.new) }
 {
     let outcome = list(alloc, wanted, &input.ontology, &input.query, budget, log);

@@ -1,5 +1,6 @@
 // From which axioms of a workload its query follows.
-ghost use Rattle.pinpointing_jobs.specs.WorkloadSets.{OfWorkloads, FollowsByPairs, HasEightAndThree, WorkloadsCountEightAndThree};
+ghost use Rattle.pinpointing_jobs.specs.WorkloadSets.{OfWorkloads, FollowsByPairs, HasEightAndThree};
+ghost use Rattle.pinpointing_jobs.specs.WorkloadSets.{WorkloadsCountEightAndThree};
 
 /// From a set of a workload's axioms, of whatever size, the query follows exactly where the set has an axiom of each of
 /// the pairs 1 and 2, 3 and 4, 5 and 6.

@@ -49,7 +49,9 @@ fn measured(
     requires most { number ≤ 4000 }
     requires unlogged { log.old ≡ [] }
     ensures measured { IfOk result (λ a. IsMeasured number budget (text_bytes a.1) a.0 log.new) }
-    ensures begun { OnErr result (HasBegun (follows workload_query) (workload_text number) log.new (λ o q. IsPinpointingLog o q budget log.new)) }
+    ensures begun { OnErr result
+        (HasBegun (follows workload_query) (workload_text number) log.new
+        (λ o q. IsPinpointingLog o q budget log.new)) }
 {
     let input = generated(alloc, number)?;
     let answer = counted(alloc, number, budget, input, log)?;
@@ -93,7 +95,8 @@ fn counted(
 ) -> Result<(Status, Text), NoMemory>
     requires in_limit { IsInLimit input.ontology input.query }
     requires unlogged { log.old ≡ [] }
-    ensures counted { IfOk result (λ a. IsCounted number input.ontology input.query budget log.new a.0 (text_bytes a.1)) }
+    ensures counted { IfOk result
+        (λ a. IsCounted number input.ontology input.query budget log.new a.0 (text_bytes a.1)) }
     ensures begun { OnErr result (HasSearched input.ontology input.query budget log.new) }
 {
     let outcome = count(alloc, number, &input.ontology, &input.query, budget, log);

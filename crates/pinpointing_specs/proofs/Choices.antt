@@ -1,5 +1,6 @@
 -- Cases on finite sets and lists.
-use Rattle.std.proofs.Common.{◌≡◌, ◌≢◌, ℕ, zero, suc, ◌+◌, ◌≤◌, ◌||◌, not, Bool, true, false, eqb, List, [], ◌∷◌, ◌⊎◌, refl, sym, ap, ◌∙◌, subst, arith, inl, inr, eq-eqb}
+use Rattle.std.proofs.Common.{◌≡◌, ◌≢◌, ℕ, zero, suc, ◌+◌, ◌≤◌, ◌||◌, not, Bool, true, false, eqb, List, [], ◌∷◌, ◌⊎◌}
+use Rattle.std.proofs.Common.{refl, sym, ap, ◌∙◌, subst, arith, inl, inr, eq-eqb}
 use Rattle.std.specs.List.{Contains, list_any}
 use Rattle.std.specs.Cmp.{nat_cmp_total, unsigned_tied}
 use Rattle.std.specs.Ordering.{nat_cmp, eq_by_cmp}
@@ -11,28 +12,39 @@ use Rattle.lane_sieve.proofs.Bits.{contains_insert, contains_remove}
 use Rattle.axiom_sets.specs.Sets.{Limited}
 use Rattle.pinpointing_specs.specs.Smallest.{numbers_to, rest}
 
-first_of_items : (s : NumberSet) (ks : List ℕ) → set.items s ≡ ks → ((k : ℕ) × (set.contains s k ≡ true)) ⊎ ((k : ℕ) → set.contains s k ≡ false)
+first_of_items : (s : NumberSet) (ks : List ℕ) → set.items s ≡ ks
+    → ((k : ℕ) × (set.contains s k ≡ true)) ⊎ ((k : ℕ) → set.contains s k ≡ false)
 first_of_items s [] e = inr (λ k. set.contains-items s k ∙ ap (list_any (eq_by_cmp nat_cmp k)) e)
 first_of_items s (k ∷ ks) e =
-    inl (k, set.contains-items s k ∙ ap (list_any (eq_by_cmp nat_cmp k)) e ∙ ap (λ (b : Bool). b || list_any (eq_by_cmp nat_cmp k) ks) (unsigned_tied k k ∙ eq-eqb k k refl))
+    inl (
+      k,
+      set.contains-items s k ∙ ap (list_any (eq_by_cmp nat_cmp k)) e
+          ∙ ap (λ (b : Bool). b || list_any (eq_by_cmp nat_cmp k) ks) (unsigned_tied k k ∙ eq-eqb k k refl),
+    )
 
 -- a set has a member or has none
 pub some_or_none : (s : NumberSet) → ((k : ℕ) × (set.contains s k ≡ true)) ⊎ ((k : ℕ) → set.contains s k ≡ false)
 some_or_none s = first_of_items s (set.items s) refl
 
-pub in_difference : (s t : NumberSet) (k : ℕ) → set.contains (set.difference s t) k ≡ true → (set.contains s k ≡ true) × (set.contains t k ≡ false)
+pub in_difference : (s t : NumberSet) (k : ℕ) → set.contains (set.difference s t) k ≡ true
+    → (set.contains s k ≡ true) × (set.contains t k ≡ false)
 in_difference s t k h =
-    let both = and_parts (set.contains s k) (not (set.contains t k)) (sym (set.contains-difference nat_cmp_total s t k) ∙ h) in (
+    let both =
+    and_parts (set.contains s k) (not (set.contains t k)) (sym (set.contains-difference nat_cmp_total s t k) ∙ h) in (
       both.0,
-      (elim (cases_Bool (set.contains t k)) [ inl yes' ↦ absurd (false≢true (ap not (sym yes') ∙ both.1)) | inr no' ↦ no' ]),
+      (elim (cases_Bool (set.contains t k))
+          [ inl yes' ↦ absurd (false≢true (ap not (sym yes') ∙ both.1)) | inr no' ↦ no' ]),
     )
 
-pub to_difference : (s t : NumberSet) (k : ℕ) → set.contains s k ≡ true → set.contains t k ≡ false → set.contains (set.difference s t) k ≡ true
+pub to_difference : (s t : NumberSet) (k : ℕ) → set.contains s k ≡ true → set.contains t k ≡ false
+    → set.contains (set.difference s t) k ≡ true
 to_difference s t k h none = set.contains-difference nat_cmp_total s t k ∙ rw (h, none) refl
 
-out_difference : (s t : NumberSet) (k : ℕ) → set.contains (set.difference s t) k ≡ false → set.contains s k ≡ true → set.contains t k ≡ true
+out_difference : (s t : NumberSet) (k : ℕ) → set.contains (set.difference s t) k ≡ false → set.contains s k ≡ true
+    → set.contains t k ≡ true
 out_difference s t k h member =
-    elim (cases_Bool (set.contains t k)) [ inl yes' ↦ yes' | inr no' ↦ absurd (true≢false (sym (to_difference s t k member no') ∙ h)) ]
+    elim (cases_Bool (set.contains t k))
+    [ inl yes' ↦ yes' | inr no' ↦ absurd (true≢false (sym (to_difference s t k member no') ∙ h)) ]
 
 -- s is part of t, or has a member that t lacks
 pub part_or_more : (s t : NumberSet) → IsPart s t ⊎ ((k : ℕ) × (set.contains s k ≡ true) × (set.contains t k ≡ false))
@@ -47,7 +59,8 @@ only y x (zero, lt, e) = e
 only y x (suc k, lt, e) = absurd (omega (arith, lt))
 
 -- of a choice for each element: one of the first kind, or all of the second
-pub one_or_each : {X : Type 0} (P Q : X → Type 0) → ((x : X) → P x ⊎ Q x) → (xs : List X) → ((x : X) × Contains xs x × P x) ⊎ ((x : X) → Contains xs x → Q x)
+pub one_or_each : {X : Type 0} (P Q : X → Type 0) → ((x : X) → P x ⊎ Q x) → (xs : List X)
+    → ((x : X) × Contains xs x × P x) ⊎ ((x : X) → Contains xs x → Q x)
 one_or_each P Q choose [] = inr (λ x h. absurd (omega (arith, h.1)))
 one_or_each {X} P Q choose (y ∷ ys) =
     elim (choose y) [
@@ -73,7 +86,8 @@ in_numbers_to (suc n) k low high =
       | inr ne ↦ rw (ne_eqb k (n + 1) ne) (in_numbers_to n k low (omega arith))
     ])
 
-pub to_rest : (s : Limited) (k : ℕ) → 1 ≤ k → k ≤ s.limit → set.contains s.members k ≡ false → set.contains (rest s) k ≡ true
+pub to_rest : (s : Limited) (k : ℕ) → 1 ≤ k → k ≤ s.limit → set.contains s.members k ≡ false
+    → set.contains (rest s) k ≡ true
 to_rest s k low high none = to_difference (numbers_to s.limit) s.members k (in_numbers_to s.limit k low high) none
 
 pub in_rest : (s : Limited) (k : ℕ) → set.contains (rest s) k ≡ true → set.contains s.members k ≡ false
@@ -84,11 +98,13 @@ pub rest_of_part : (s t : Limited) → s.limit ≡ t.limit → IsPart s.members 
 rest_of_part s t e part k h =
     let both = in_difference (numbers_to t.limit) t.members k h in
     to_difference (numbers_to s.limit) s.members k (ap (λ n. set.contains (numbers_to n) k) e ∙ both.0)
-    (elim (cases_Bool (set.contains s.members k)) [ inl yes' ↦ absurd (true≢false (sym (part k yes') ∙ both.1)) | inr no' ↦ no' ])
+    (elim (cases_Bool (set.contains s.members k))
+    [ inl yes' ↦ absurd (true≢false (sym (part k yes') ∙ both.1)) | inr no' ↦ no' ])
 
 -- ---- without one member
 
-pub in_without : (s : NumberSet) (n k : ℕ) → set.contains (set.remove s n) k ≡ true → (k ≢ n) × (set.contains s k ≡ true)
+pub in_without : (s : NumberSet) (n k : ℕ) → set.contains (set.remove s n) k ≡ true
+    → (k ≢ n) × (set.contains s k ≡ true)
 in_without s n k h =
     let both = and_parts (not (eqb k n)) (set.contains s k) (sym (contains_remove s n k) ∙ h) in (
       λ same. false≢true (ap not (sym (eq-eqb k n same)) ∙ both.0),
@@ -103,11 +119,14 @@ pub meet_or_apart : (s t : NumberSet) → DoMeet s t ⊎ ((k : ℕ) → set.cont
 meet_or_apart s t =
     elim (some_or_none (set.intersection s t)) [
       | inl some ↦
-          let both = and_parts (set.contains s some.0) (set.contains t some.0) (sym (set.contains-intersection nat_cmp_total s t some.0) ∙ some.1) in
+          let both =
+          and_parts (set.contains s some.0) (set.contains t some.0)
+          (sym (set.contains-intersection nat_cmp_total s t some.0) ∙ some.1) in
           inl (some.0, both.0, both.1)
       | inr none ↦
           inr (λ k h. elim (cases_Bool (set.contains t k)) [
-            | inl yes' ↦ absurd (true≢false (sym (set.contains-intersection nat_cmp_total s t k ∙ rw (h, yes') refl) ∙ none k))
+            | inl yes' ↦
+                absurd (true≢false (sym (set.contains-intersection nat_cmp_total s t k ∙ rw (h, yes') refl) ∙ none k))
             | inr no' ↦ no'
           ])
     ]

@@ -28,7 +28,8 @@ module_names axioms q s = query_names q ++ flat_map axiom_names (axioms_in_set s
 
 -- each axiom that is not local for the names of the query and of the axioms in the set is in the set
 abbrev pub IsClosed : List Numbered → Query → NumberSet → Type 0
-IsClosed axioms q s = (place : ℕ) (a : Numbered) → slice_get axioms place ≡ Some a → is_local (is_among (module_names axioms q s)) a.axiom ≡ false → set.contains s (place + 1) ≡ true
+IsClosed axioms q s = (place : ℕ) (a : Numbered) → slice_get axioms place ≡ Some a
+    → is_local (is_among (module_names axioms q s)) a.axiom ≡ false → set.contains s (place + 1) ≡ true
 
 -- the least closed set of axioms
 pub record IsLocalModule (axioms : List Numbered) (q : Query) (s : NumberSet) : Type 0 where

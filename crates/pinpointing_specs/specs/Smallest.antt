@@ -36,7 +36,8 @@ pub record IsMinimalRemoval (holds : NumberSet → Type 0) (r : Limited) : Type 
 -- for each member some listed set meets r in just that member
 abbrev pub IsHitAlone : List Limited → Limited → Type 0
 IsHitAlone listed r = (k : ℕ) → set.contains r.members k ≡ true
-    → (j : Limited) × Contains listed j × (set.contains j.members k ≡ true) × ((m : ℕ) → set.contains r.members m ≡ true → set.contains j.members m ≡ true → m ≡ k)
+    → (j : Limited) × Contains listed j × (set.contains j.members k ≡ true)
+    × ((m : ℕ) → set.contains r.members m ≡ true → set.contains j.members m ≡ true → m ≡ k)
 
 -- no member of s is one of t
 abbrev pub AreApart : NumberSet → NumberSet → Type 0

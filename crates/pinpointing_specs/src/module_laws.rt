@@ -6,7 +6,8 @@
 //! Ontologies: Theory and Practice", Journal of Artificial Intelligence Research 31, 2008). An interpretation that
 //! meets the module and refutes the query does so too when the names outside are emptied, and then it meets all axioms.
 //! So the query has its justifications inside the module, however large the ontology is.
-ghost use Rattle.pinpointing_specs.specs.ModuleLaws.{FollowingGrows, ModulesAreUnique, ModulesKeepEntailment, ModulesHoldJustifications};
+ghost use Rattle.pinpointing_specs.specs.ModuleLaws.{FollowingGrows, ModulesAreUnique, ModulesKeepEntailment};
+ghost use Rattle.pinpointing_specs.specs.ModuleLaws.{ModulesHoldJustifications};
 
 /// The name of a class or a role, by its number.
 #[derive(Clone, Copy, Debug, PartialEq, Eq)]

@@ -24,13 +24,29 @@ nothing_asked place s q steps d at = cc
 
 module _ (o : OracleLists) (q : Query) (among : Option Limited) where
   abbrev begun : AskerLists
-  begun = record { ontology = o.ontology; query = q; budget = o.budget; local_part = part_of o.ontology among; before = o.log; gained = []; asks = 0 }
+  begun = record {
+    ontology = o.ontology;
+    query = q;
+    budget = o.budget;
+    local_part = part_of o.ontology among;
+    before = o.log;
+    gained = [];
+    asks = 0;
+  }
 
   is_begun : (first : ℕ) → first ≡ length o.log → lists_of o q among first 0 ≡ begun
   is_begun first e =
       let front : take first o.log ≡ o.log = ap (λ (n : ℕ). take n o.log) e ∙ take-length o.log in
       let back : drop first o.log ≡ [] = ap (λ (n : ℕ). drop n o.log) e ∙ drop-length o.log in
-      λ i. record { ontology = o.ontology; query = q; budget = o.budget; local_part = part_of o.ontology among; before = front i; gained = back i; asks = 0 }
+      λ i. record {
+        ontology = o.ontology;
+        query = q;
+        budget = o.budget;
+        local_part = part_of o.ontology among;
+        before = front i;
+        gained = back i;
+        asks = 0;
+      }
 
   begun_log : spent_of o.log ≤ o.budget → list_any is_spent o.log ≡ false → IsAskerLog begun
   begun_log within none =
@@ -45,8 +61,11 @@ module _ (o : OracleLists) (q : Query) (among : Option Limited) where
         few = inl (omega arith);
       }
 
-  pub begins : (first : ℕ) (memo : Memo) → first ≡ length o.log → spent_of o.log ≤ o.budget → list_any is_spent o.log ≡ false → AreTestsOfOthers q o.log → IsInLimit o.ontology q
-      → IfSome among (λ m. m.limit ≡ length o.ontology.axioms) → KeepsAnswers o.ontology.axioms q (part_of o.ontology among) → ((log : List Entry) → IsMemo memo log) → IsAsker o q among first memo 0
+  pub begins : (first : ℕ) (memo : Memo) → first ≡ length o.log → spent_of o.log ≤ o.budget
+      → list_any is_spent o.log ≡ false → AreTestsOfOthers q o.log → IsInLimit o.ontology q
+      → IfSome among (λ m. m.limit ≡ length o.ontology.axioms)
+      → KeepsAnswers o.ontology.axioms q (part_of o.ontology among) → ((log : List Entry) → IsMemo memo log)
+      → IsAsker o q among first memo 0
   begins first memo e within none others in_limit limit keeps remembers =
       let same = is_begun first e in
       record {

@@ -1,5 +1,6 @@
 -- One entry more in a log.
-use Rattle.std.proofs.Common.{◌≡◌, ℕ, zero, suc, ◌+◌, ◌-◌, ◌^◌, ◌≤◌, Bool, true, false, List, [], ◌∷◌, ◌++◌, length, take, Some, refl, ap, sym, ◌∙◌, subst, arith, inl, inr, length-append, append_assoc}
+use Rattle.std.proofs.Common.{◌≡◌, ℕ, zero, suc, ◌+◌, ◌-◌, ◌^◌, ◌≤◌, Bool, true, false, List, [], ◌∷◌, ◌++◌, length}
+use Rattle.std.proofs.Common.{take, Some, refl, ap, sym, ◌∙◌, subst, arith, inl, inr, length-append, append_assoc}
 use Rattle.std.specs.Prelude.{◌⊎◌, ◌||◌, slice_get, cond}
 use Rattle.std.specs.List.{list_any}
 use Rattle.std.proofs.lemmas.Bool.{true≢false, cases_lt, cases_Bool, or_cases}
@@ -18,7 +19,8 @@ use Rattle.query_asker.specs.Told.{IsAskerLog}
 
 -- what stands at a place of a list with one item more stands there without it, or is that item
 pub at_end : {X : Type 0} (xs : List X) (x : X) (place : ℕ) (y : X) → slice_get (xs ++ x ∷ []) place ≡ Some y
-    → ((slice_get xs place ≡ Some y) × (take place (xs ++ x ∷ []) ≡ take place xs)) ⊎ ((x ≡ y) × (place ≡ length xs) × (take place (xs ++ x ∷ []) ≡ xs))
+    → ((slice_get xs place ≡ Some y) × (take place (xs ++ x ∷ []) ≡ take place xs))
+    ⊎ ((x ≡ y) × (place ≡ length xs) × (take place (xs ++ x ∷ []) ≡ xs))
 at_end {X = X} [] x zero y e = let k : x ≡ y = cc in inr (k, refl, refl)
 at_end {X = X} [] x (suc place) y e = cc
 at_end {X = X} (z ∷ zs) x zero y e = inl (e, refl)
@@ -29,11 +31,15 @@ at_end {X = X} (z ∷ zs) x (suc place) y e =
     ]
 
 -- an item that passes a test which none passes
-not_among : {X : Type 0} (p : X → Bool) (xs : List X) (place : ℕ) (x : X) → list_any p xs ≡ false → slice_get xs place ≡ Some x → p x ≡ true → ⊥
+not_among : {X : Type 0} (p : X → Bool) (xs : List X) (place : ℕ) (x : X) → list_any p xs ≡ false
+    → slice_get xs place ≡ Some x → p x ≡ true → ⊥
 not_among p [] place x none at is = cc
 not_among p (y ∷ ys) zero x none at is =
     let e : y ≡ x = cc in
-    elim (cases_Bool (p y)) [ inl t ↦ true≢false (sym (ap (λ (b : Bool). b || list_any p ys) t) ∙ none) | inr f ↦ true≢false (sym is ∙ sym (ap p e) ∙ f) ]
+    elim (cases_Bool (p y)) [
+      | inl t ↦ true≢false (sym (ap (λ (b : Bool). b || list_any p ys) t) ∙ none)
+      | inr f ↦ true≢false (sym is ∙ sym (ap p e) ∙ f)
+    ]
 not_among p (y ∷ ys) (suc place) x none at is =
     elim (cases_Bool (p y)) [
       | inl t ↦ true≢false (sym (ap (λ (b : Bool). b || list_any p ys) t) ∙ none)
@@ -42,34 +48,58 @@ not_among p (y ∷ ys) (suc place) x none at is =
 
 -- ---- the budget
 
-pub ends_more : (budget : ℕ) (log : List Entry) (e : Entry) → list_any is_spent log ≡ false → (is_spent e ≡ true → spent_of (log ++ e ∷ []) ≡ budget) → EndsWhenSpent budget (log ++ e ∷ [])
+pub ends_more : (budget : ℕ) (log : List Entry) (e : Entry) → list_any is_spent log ≡ false
+    → (is_spent e ≡ true → spent_of (log ++ e ∷ []) ≡ budget) → EndsWhenSpent budget (log ++ e ∷ [])
 ends_more budget log e none whole = record {
   is_last = λ place d at spent. elim (at_end log e place d at) [
     | inl old ↦ absurd (not_among is_spent log place d none old.0 spent)
     | inr new ↦ omega (arith, new.1, length-append log (e ∷ []))
   ];
   is_whole = λ any.
-      let split : (list_any is_spent log || (is_spent e || false)) ≡ true = sym (list_any-append is_spent log (e ∷ [])) ∙ any in
+      let split : (list_any is_spent log || (is_spent e || false)) ≡ true =
+      sym (list_any-append is_spent log (e ∷ [])) ∙ any in
       elim (or_cases (list_any is_spent log) (is_spent e || false) split) [
         | inl old ↦ absurd (true≢false (sym old ∙ none))
-        | inr new ↦ elim (or_cases (is_spent e) false new) [ inl is ↦ whole is | inr never ↦ absurd (true≢false (sym never)) ]
+        | inr new ↦
+            elim (or_cases (is_spent e) false new) [ inl is ↦ whole is | inr never ↦ absurd (true≢false (sym never)) ]
       ];
 }
 
 pub ends_none : (budget : ℕ) (log : List Entry) → list_any is_spent log ≡ false → EndsWhenSpent budget log
-ends_none budget log none = record { is_last = λ place d at spent. absurd (not_among is_spent log place d none at spent); is_whole = λ any. absurd (true≢false (sym any ∙ none)) }
+ends_none budget log none = record {
+  is_last = λ place d at spent. absurd (not_among is_spent log place d none at spent);
+  is_whole = λ any. absurd (true≢false (sym any ∙ none));
+}
 
 -- where something is left, no test spent the budget
-pub goes_on : (budget : ℕ) (log : List Entry) → EndsWhenSpent budget log → ¬ (spent_of log ≡ budget) → list_any is_spent log ≡ false
-goes_on budget log ends some = elim (cases_Bool (list_any is_spent log)) [ inl t ↦ absurd (some (ends.is_whole t)) | inr f ↦ f ]
+pub goes_on : (budget : ℕ) (log : List Entry) → EndsWhenSpent budget log → ¬ (spent_of log ≡ budget)
+    → list_any is_spent log ≡ false
+goes_on budget log ends some =
+    elim (cases_Bool (list_any is_spent log)) [ inl t ↦ absurd (some (ends.is_whole t)) | inr f ↦ f ]
 
 -- ---- one entry more
 
 abbrev pub with_entry : AskerLists → Entry → ℕ → AskerLists
-with_entry a e asks = record { ontology = a.ontology; query = a.query; budget = a.budget; local_part = a.local_part; before = a.before; gained = a.gained ++ e ∷ []; asks = asks }
+with_entry a e asks = record {
+  ontology = a.ontology;
+  query = a.query;
+  budget = a.budget;
+  local_part = a.local_part;
+  before = a.before;
+  gained = a.gained ++ e ∷ [];
+  asks = asks;
+}
 
 abbrev pub with_asks : AskerLists → ℕ → AskerLists
-with_asks a asks = record { ontology = a.ontology; query = a.query; budget = a.budget; local_part = a.local_part; before = a.before; gained = a.gained; asks = asks }
+with_asks a asks = record {
+  ontology = a.ontology;
+  query = a.query;
+  budget = a.budget;
+  local_part = a.local_part;
+  before = a.before;
+  gained = a.gained;
+  asks = asks;
+}
 
 -- the entry is no test that the log answers
 abbrev pub IsNew : List Entry → Entry → Type 0
@@ -108,21 +138,25 @@ few_more n n' asks le few =
 counted_test : (log : List Entry) (e : Entry) → test_count (log ++ e ∷ []) ≡ test_count log + cond (is_test e) 1 0
 counted_test log e = sum_by_push (λ (x : Entry). cond (is_test x) 1 0) log e
 
-few_with : (log : List Entry) (e : Entry) (asks asks' : ℕ) → AreFew (test_count log) asks → ((is_test e ≡ false) × (asks' ≡ asks)) ⊎ (asks' ≡ one_more asks) → AreFew (test_count (log ++ e ∷ [])) asks'
+few_with : (log : List Entry) (e : Entry) (asks asks' : ℕ) → AreFew (test_count log) asks
+    → ((is_test e ≡ false) × (asks' ≡ asks)) ⊎ (asks' ≡ one_more asks) → AreFew (test_count (log ++ e ∷ [])) asks'
 few_with log e asks asks' few counted =
     elim counted [
       | inl node ↦
-          let same : test_count (log ++ e ∷ []) ≡ test_count log = counted_test log e ∙ ap (λ (b : Bool). test_count log + cond b 1 0) node.0 ∙ omega arith in
+          let same : test_count (log ++ e ∷ []) ≡ test_count log =
+          counted_test log e ∙ ap (λ (b : Bool). test_count log + cond b 1 0) node.0 ∙ omega arith in
           subst (λ (n : ℕ). AreFew n asks') (sym same) (subst (AreFew (test_count log)) (sym node.1) few)
       | inr test ↦
           let le : test_count (log ++ e ∷ []) ≤ test_count log + 1 = elim (cases_Bool (is_test e)) [
             | inl t ↦ omega (arith, counted_test log e ∙ ap (λ (b : Bool). test_count log + cond b 1 0) t)
             | inr f ↦ omega (arith, counted_test log e ∙ ap (λ (b : Bool). test_count log + cond b 1 0) f)
           ] in
-          subst (AreFew (test_count (log ++ e ∷ []))) (sym test) (few_more (test_count log) (test_count (log ++ e ∷ [])) asks le few)
+          subst (AreFew (test_count (log ++ e ∷ []))) (sym test)
+          (few_more (test_count log) (test_count (log ++ e ∷ [])) asks le few)
     ]
 
-pub log_with : (a : AskerLists) (e : Entry) (asks : ℕ) → IsAskerLog a → MayBeLast a e asks → IsAskerLog (with_entry a e asks)
+pub log_with : (a : AskerLists) (e : Entry) (asks : ℕ) → IsAskerLog a → MayBeLast a e asks
+    → IsAskerLog (with_entry a e asks)
 log_with a e asks h may =
     let assoc : (a.before ++ a.gained) ++ e ∷ [] ≡ a.before ++ (a.gained ++ e ∷ []) = simp append_assoc in
     record {

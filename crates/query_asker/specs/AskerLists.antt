@@ -30,4 +30,5 @@ pub record AskerOrigin : Type 0 where
   pub before : List Entry
 
 abbrev pub origin_of : AskerLists → AskerOrigin
-origin_of a = record { ontology = a.ontology; query = a.query; budget = a.budget; local_part = a.local_part; before = a.before }
+origin_of a =
+    record { ontology = a.ontology; query = a.query; budget = a.budget; local_part = a.local_part; before = a.before }

@@ -30,7 +30,15 @@ part_of o (Some m) = m.members
 
 abbrev pub lists_of : OracleLists → Query → Option Limited → ℕ → ℕ → AskerLists
 lists_of o q among first asks =
-    record { ontology = o.ontology; query = q; budget = o.budget; local_part = part_of o.ontology among; before = take first o.log; gained = drop first o.log; asks = asks }
+    record {
+      ontology = o.ontology;
+      query = q;
+      budget = o.budget;
+      local_part = part_of o.ontology among;
+      before = take first o.log;
+      gained = drop first o.log;
+      asks = asks;
+    }
 
 -- what no call changes and each needs
 pub record CanAsk (a : AskerLists) : Type 0 where
@@ -38,7 +46,8 @@ pub record CanAsk (a : AskerLists) : Type 0 where
   pub others : AreTestsOfOthers a.query a.before
   pub keeps : KeepsAnswers a.ontology.axioms a.query a.local_part
 
-pub record IsAsker (o : OracleLists) (q : Query) (among : Option Limited) (first : ℕ) (memo : Memo) (asks : ℕ) : Type 0 where
+pub record IsAsker (o : OracleLists) (q : Query) (among : Option Limited) (first : ℕ) (memo : Memo) (asks : ℕ) :
+    Type 0 where
   pub first_within : first ≤ length o.log
   pub limit : IfSome among (λ m. m.limit ≡ length o.ontology.axioms)
   pub can_ask : CanAsk (lists_of o q among first asks)

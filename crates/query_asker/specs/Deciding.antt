@@ -20,7 +20,8 @@ use Rattle.query_asker.specs.Asking.{IsLocalPart}
 -- the answer of the log, and then one ask more was counted; or no entry answers for the local part, and nothing has
 -- changed
 abbrev pub IsKnown : AskerLists → AskerLists → Limited → Known → Type 0
-IsKnown old new s (Answered reply) = (new ≡ record old { asks = one_more old.asks }) × Answers (asker_meaning new) s reply × IsUnknown new (part_in new s) reply
+IsKnown old new s (Answered reply) = (new ≡ record old { asks = one_more old.asks })
+    × Answers (asker_meaning new) s reply × IsUnknown new (part_in new s) reply
 IsKnown old new s (Unknown part) = (new ≡ old) × IsLocalPart old s part × (¬ IsAnswered old.gained part old.query)
 
 -- one test of the set, which ended with the outcome

@@ -64,7 +64,8 @@ IsInSome s sets = (t : Limited) × Contains sets t × IsPart s.members t.members
 -- what the log says of a set of axioms: the query follows from a part of it, or does not follow from more than it, or
 -- neither is said
 abbrev pub Recalls : List Entry → Limited → Option Reply → Type 0
-Recalls log s None = ((u : Limited) → Contains (yes_sets log) u → ¬ IsPart u.members s.members) × (¬ IsInSome s (no_sets log))
+Recalls log s None = ((u : Limited) → Contains (yes_sets log) u → ¬ IsPart u.members s.members)
+    × (¬ IsInSome s (no_sets log))
 Recalls log s (Some (Yes u)) = Contains (yes_sets log) u × IsPart u.members s.members
 Recalls log s (Some No) = IsInSome s (no_sets log)
 Recalls log s (Some Spent) = ⊥

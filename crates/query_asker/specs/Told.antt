@@ -1,5 +1,6 @@
 -- What an asker means, and what its part of the log is.
-use Rattle.std.specs.Prelude.{◌≡◌, ◌⊎◌, ◌↔◌, ℕ, ◌-◌, ◌^◌, ◌≤◌, Bool, true, false, List, [], ◌∷◌, ◌++◌, length, All, Contains}
+use Rattle.std.specs.Prelude.{◌≡◌, ◌⊎◌, ◌↔◌, ℕ, ◌-◌, ◌^◌, ◌≤◌, Bool, true, false, List, [], ◌∷◌, ◌++◌, length, All}
+use Rattle.std.specs.Prelude.{Contains}
 use Rattle.std.specs.FinSet as set
 use Rattle.lane_sieve.specs.Sets.{NumberSet}
 use Rattle.axiom_sets.specs.Sets.{Limited}
@@ -25,7 +26,8 @@ KeepsAnswers axioms q m = (s : NumberSet) → FollowsFrom axioms q s ↔ Follows
 
 -- so it is with a local module
 abbrev pub ModulesKeepAnswers : Type 0
-ModulesKeepAnswers = (axioms : List Numbered) (q : Query) (m : NumberSet) → IsLocalModule axioms q m → KeepsAnswers axioms q m
+ModulesKeepAnswers = (axioms : List Numbered) (q : Query) (m : NumberSet) → IsLocalModule axioms q m
+    → KeepsAnswers axioms q m
 
 -- each test is one of another query
 abbrev pub IsTestOfOther : Query → Entry → Type 0
@@ -44,7 +46,9 @@ pub record IsShownNoIn (log : List Entry) (q : Query) (m s : NumberSet) : Type 0
 
 -- no entry of the log answers about those axioms of s among which it asks
 abbrev pub IsLeftOut : AskerLists → NumberSet → Type 0
-IsLeftOut a s = ¬ IsAnswered a.gained (record { limit = length a.ontology.axioms; members = set.intersection s a.local_part }) a.query
+IsLeftOut a s =
+    ¬ IsAnswered a.gained (record { limit = length a.ontology.axioms; members = set.intersection s a.local_part })
+    a.query
 
 -- the yes-sets are those from which the query follows
 abbrev pub asker_meaning : AskerLists → Meaning

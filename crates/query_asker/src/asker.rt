@@ -210,7 +210,8 @@ impl<'a> Asker<'a> {
         ensures evidence { IfOk result (IsAnswer self.old.ontology part.now self.old.query) }
         ensures answer { IfOk result (λ a. Answers (asker_meaning self.new) part.now (reply_of (outcome_of a))) }
         ensures unknown { IfOk result (λ a. IsUnknown self.new part.now (reply_of (outcome_of a))) }
-        ensures shown { IfOk result (λ a. ShowsNoOther (asker_meaning self.old) (asker_meaning self.new) (reply_of (outcome_of a))) }
+        ensures shown { IfOk result
+            (λ a. ShowsNoOther (asker_meaning self.old) (asker_meaning self.new) (reply_of (outcome_of a))) }
         ensures gains { IfOk result (λ a. GainsTest self.old self.new part.now (outcome_of a)) }
         ensures unchanged { OnErr result (self.new ≡ self.old) }
     {

@@ -5,7 +5,8 @@ ghost use Rattle.axiom_sets.specs.Sets.{Limited};
 ghost use Rattle.set_questions.specs.Kept.{kind_of, kept_sets};
 ghost use Rattle.set_questions.specs.InOrder.{HaveOneLimit};
 ghost use Rattle.run_log.specs.declared.entry.Entry.{Entry as PlainEntry};
-ghost use Rattle.query_asker.specs.Memory.{yes_by, no_by, yes_of, no_of, yes_sets, no_sets, IsMemo, KeepsWithAll, IsInSome, Recalls};
+ghost use Rattle.query_asker.specs.Memory.{yes_by, no_by, yes_of, no_of, yes_sets, no_sets, IsMemo, KeepsWithAll};
+ghost use Rattle.query_asker.specs.Memory.{IsInSome, Recalls};
 
 use crate::NoMemory;
 use axiom_sets::AxiomSet;
@@ -85,11 +86,14 @@ impl Memo {
 
 // Puts what an entry found.
 fn put_found(yes: &mut Antichain, no: &mut Antichain, entry: &Entry) -> Result<(), NoMemory>
-    requires yes_limits { (u : Limited) → Contains (yes_of entry.now) u → All (λ s. s.limit ≡ u.limit) (kept_sets yes.old) }
-    requires no_limits { (u : Limited) → Contains (no_of entry.now) u → All (λ s. s.limit ≡ u.limit) (kept_sets no.old) }
+    requires yes_limits { (u : Limited) → Contains (yes_of entry.now) u
+        → All (λ s. s.limit ≡ u.limit) (kept_sets yes.old) }
+    requires no_limits { (u : Limited) → Contains (no_of entry.now) u
+        → All (λ s. s.limit ≡ u.limit) (kept_sets no.old) }
     ensures yes_kind { kind_of yes.new ≡ kind_of yes.old }
     ensures no_kind { kind_of no.new ≡ kind_of no.old }
-    ensures yes { OnOk result (KeepsWithAll (kind_of yes.old) (yes_of entry.now) (kept_sets yes.old) (kept_sets yes.new)) }
+    ensures yes { OnOk result
+        (KeepsWithAll (kind_of yes.old) (yes_of entry.now) (kept_sets yes.old) (kept_sets yes.new)) }
     ensures no { OnOk result (KeepsWithAll (kind_of no.old) (no_of entry.now) (kept_sets no.old) (kept_sets no.new)) }
     ensures yes_still { OnErr result (kept_sets yes.new ≡ kept_sets yes.old) }
     ensures no_still { OnErr result (kept_sets no.new ≡ kept_sets no.old) }
@@ -107,12 +111,16 @@ fn put_end(
     asked: &AxiomSet,
     ended: &TestEnd,
 ) -> Result<(), NoMemory>
-    requires yes_limits { (u : Limited) → Contains (yes_by ended.now) u → All (λ s. s.limit ≡ u.limit) (kept_sets yes.old) }
-    requires no_limits { (u : Limited) → Contains (no_by asked.now ended.now) u → All (λ s. s.limit ≡ u.limit) (kept_sets no.old) }
+    requires yes_limits { (u : Limited) → Contains (yes_by ended.now) u
+        → All (λ s. s.limit ≡ u.limit) (kept_sets yes.old) }
+    requires no_limits { (u : Limited) → Contains (no_by asked.now ended.now) u
+        → All (λ s. s.limit ≡ u.limit) (kept_sets no.old) }
     ensures yes_kind { kind_of yes.new ≡ kind_of yes.old }
     ensures no_kind { kind_of no.new ≡ kind_of no.old }
-    ensures yes { OnOk result (KeepsWithAll (kind_of yes.old) (yes_by ended.now) (kept_sets yes.old) (kept_sets yes.new)) }
-    ensures no { OnOk result (KeepsWithAll (kind_of no.old) (no_by asked.now ended.now) (kept_sets no.old) (kept_sets no.new)) }
+    ensures yes { OnOk result
+        (KeepsWithAll (kind_of yes.old) (yes_by ended.now) (kept_sets yes.old) (kept_sets yes.new)) }
+    ensures no { OnOk result
+        (KeepsWithAll (kind_of no.old) (no_by asked.now ended.now) (kept_sets no.old) (kept_sets no.new)) }
     ensures yes_still { OnErr result (kept_sets yes.new ≡ kept_sets yes.old) }
     ensures no_still { OnErr result (kept_sets no.new ≡ kept_sets no.old) }
 {

@@ -1,5 +1,6 @@
 -- Only the first line finds a branch that knows no node, and every line leaves branches that know some.
-use Rattle.std.proofs.Common.{◌≡◌, ℕ, zero, suc, ◌<◌, ◌&&◌, ltb, Bool, true, false, List, [], ◌∷◌, map, length, Option, Some, None, refl, ap, ◌∙◌, sym, arith}
+use Rattle.std.proofs.Common.{◌≡◌, ℕ, zero, suc, ◌<◌, ◌&&◌, ltb, Bool, true, false, List, [], ◌∷◌, map, length, Option}
+use Rattle.std.proofs.Common.{Some, None, refl, ap, ◌∙◌, sym, arith}
 use Rattle.std.specs.List.{All, range_with_len}
 use Rattle.std.proofs.lemmas.Bool.{ltb-true}
 use Rattle.std.proofs.lemmas.List.Elements.{All-nil, All-cons}
@@ -10,8 +11,13 @@ use Rattle.calculus_specs.specs.Rows.Part.{inclusion, range}
 use Rattle.calculus_specs.specs.declared.facts.Fact.{Fact}
 use Rattle.branch_facts.specs.NumberedBranch.{NumberedBranch as Branch}
 use Rattle.calculus_specs.specs.Line.{Line}
-use Rattle.calculus_specs.specs.Line.Line.{start_line, and_line, or_line, all_line, carry_line, row_line, range_line, some_line, least_line, choose_line, pair_line, bottom_line, clash_line, most_line, fact_line, differ_line}
-use Rattle.calculus_specs.specs.Rules.{Question, Known, when, at_concept, and_children, or_children, all_children, carry_children, row_children, range_children, some_children, least_children, choose_children, clash_children, most_children, fact_children, started, children_of}
+use Rattle.calculus_specs.specs.Line.Line.{start_line, and_line, or_line, all_line, carry_line, row_line, range_line}
+use Rattle.calculus_specs.specs.Line.Line.{some_line, least_line, choose_line, pair_line, bottom_line, clash_line}
+use Rattle.calculus_specs.specs.Line.Line.{most_line, fact_line, differ_line}
+use Rattle.calculus_specs.specs.Rules.{Question, Known, when, at_concept, and_children, or_children, all_children}
+use Rattle.calculus_specs.specs.Rules.{carry_children, row_children, range_children, some_children, least_children}
+use Rattle.calculus_specs.specs.Rules.{choose_children, clash_children, most_children, fact_children, started}
+use Rattle.calculus_specs.specs.Rules.{children_of}
 use Rattle.refutation_rules.specs.declared.outcome.Outcome.{Outcome}
 use Rattle.refutation_rules.specs.declared.outcome.Outcome.TheVariants.{Closed, Started, More, Nodes, Branches}
 use Rattle.refutation_rules.specs.Outcomes.{known_of, branch_with_facts, branches_after, IsFit}
@@ -83,7 +89,8 @@ module _ (facts : List (Fact Concept)) where
 abbrev pub IsBegun : Branch → Type 0
 IsBegun k = k.nodes ≡ [] → ⊥
 
-from_started : (table : List Shape) (q : Question) (ks : List Branch) → q.at < q.first → map (known_of table) ks ≡ started q ∷ [] → All IsBegun ks
+from_started : (table : List Shape) (q : Question) (ks : List Branch) → q.at < q.first
+    → map (known_of table) ks ≡ started q ∷ [] → All IsBegun ks
 from_started table q [] lt h = cc
 from_started table q (k ∷ []) lt h =
     let head : known_of table k ≡ started q = cc in
@@ -100,12 +107,14 @@ not_empty k x xs h e = let clash : [] ≡ x ∷ xs = sym e ∙ h in cc
 
 each_more : (k : Branch) (fs : List (Fact ℕ)) → IsBegun k → All IsBegun (map (λ f. branch_with_facts k (f ∷ [])) fs)
 each_more k [] h = All-nil IsBegun
-each_more k (f ∷ fs) h = All-cons IsBegun (branch_with_facts k (f ∷ [])) (map (λ g. branch_with_facts k (g ∷ [])) fs) h (each_more k fs h)
+each_more k (f ∷ fs) h =
+    All-cons IsBegun (branch_with_facts k (f ∷ [])) (map (λ g. branch_with_facts k (g ∷ [])) fs) h (each_more k fs h)
 
 one : (k : Branch) → IsBegun k → All IsBegun (k ∷ [])
 one k h = All-cons IsBegun k [] h (All-nil IsBegun)
 
-from_begun : (bound x : ℕ) (xs : List ℕ) (facts : List (Fact ℕ)) (o : Outcome) → IsFit bound (record { nodes = x ∷ xs; facts = facts }) o
+from_begun : (bound x : ℕ) (xs : List ℕ) (facts : List (Fact ℕ)) (o : Outcome)
+    → IsFit bound (record { nodes = x ∷ xs; facts = facts }) o
     → All IsBegun (branches_after (record { nodes = x ∷ xs; facts = facts }) o)
 from_begun bound x xs facts Closed fit = All-nil IsBegun
 from_begun bound x xs facts (Started n) fit = let none : x ∷ xs ≡ [] = fit.0 in cc
@@ -114,8 +123,11 @@ from_begun bound x xs facts (Nodes n) fit = one _ (λ e. cc)
 from_begun bound x xs facts (Branches fs) fit = each_more (record { nodes = x ∷ xs; facts = facts }) fs.items (λ e. cc)
 
 module _ (q : Question) (concept : ℕ → Option Concept) (table : List Shape) (line : Line) (o : Outcome) where
-  pub all_begun : (nodes : List ℕ) (facts : List (Fact ℕ)) → children_of q concept (known_of table (record { nodes = nodes; facts = facts })) line ≡ Some (map (known_of table) (branches_after (record { nodes = nodes; facts = facts }) o))
-      → IsFit (length table) (record { nodes = nodes; facts = facts }) o → All IsBegun (branches_after (record { nodes = nodes; facts = facts }) o)
+  pub all_begun : (nodes : List ℕ) (facts : List (Fact ℕ))
+      → children_of q concept (known_of table (record { nodes = nodes; facts = facts })) line
+      ≡ Some (map (known_of table) (branches_after (record { nodes = nodes; facts = facts }) o))
+      → IsFit (length table) (record { nodes = nodes; facts = facts }) o
+      → All IsBegun (branches_after (record { nodes = nodes; facts = facts }) o)
   all_begun [] facts h fit =
       let starts = only_starts (known_of table (record { nodes = []; facts = facts })).facts q concept line _ h in
       from_started table q _ starts.1 starts.0

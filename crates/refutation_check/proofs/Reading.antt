@@ -1,5 +1,6 @@
 -- Several lines, and where they break the rules.
-use Rattle.std.proofs.Common.{◌≡◌, ℕ, suc, ◌+◌, ◌<◌, Bool, true, false, List, [], ◌∷◌, ◌++◌, map, take, drop, length, get_or, Option, Some, None, refl, ap, ◌∙◌, sym, subst, arith, drop-cons}
+use Rattle.std.proofs.Common.{◌≡◌, ℕ, suc, ◌+◌, ◌<◌, Bool, true, false, List, [], ◌∷◌, ◌++◌, map, take, drop, length}
+use Rattle.std.proofs.Common.{get_or, Option, Some, None, refl, ap, ◌∙◌, sym, subst, arith, drop-cons}
 use Rattle.std.specs.Option.{option_and_then}
 use Rattle.std.proofs.lemmas.List.{take_more, get_or-map, length-map}
 use Rattle.shq_terms.specs.Concept.{Concept}
@@ -18,23 +19,31 @@ module _ (q : Question) (concept : ℕ → Option Concept) where
   abbrev goes_on : List Line → List Known → Option (List Known)
   goes_on lines ks = open_after_all q concept ks lines
 
-  after_one : (one rest both : List Known → Option (List Known)) → ((ks : List Known) → both ks ≡ option_and_then rest (one ks)) → (o : Option (List Known))
+  after_one : (one rest both : List Known → Option (List Known))
+      → ((ks : List Known) → both ks ≡ option_and_then rest (one ks)) → (o : Option (List Known))
       → option_and_then both o ≡ option_and_then rest (option_and_then one o)
   after_one one rest both h None = refl
   after_one one rest both h (Some ks) = h ks
 
-  after_more : (lines rest : List Line) (ks : List Known) → goes_on (lines ++ rest) ks ≡ option_and_then (goes_on rest) (goes_on lines ks)
+  after_more : (lines rest : List Line) (ks : List Known)
+      → goes_on (lines ++ rest) ks ≡ option_and_then (goes_on rest) (goes_on lines ks)
   after_more [] rest ks = refl
-  after_more (line ∷ lines) rest ks = after_one (goes_on lines) (goes_on rest) (goes_on (lines ++ rest)) (after_more lines rest) (open_after q concept ks line)
+  after_more (line ∷ lines) rest ks =
+      after_one (goes_on lines) (goes_on rest) (goes_on (lines ++ rest)) (after_more lines rest)
+      (open_after q concept ks line)
 
   only : (o : Option (List Known)) → option_and_then (goes_on []) o ≡ o
   only None = refl
   only (Some ks) = refl
 
-  pub one_more : (lines : List Line) (line : Line) (ks left : List Known) → goes_on lines ks ≡ Some left → goes_on (lines ++ line ∷ []) ks ≡ open_after q concept left line
-  one_more lines line ks left e = after_more lines (line ∷ []) ks ∙ ap (option_and_then (goes_on (line ∷ []))) e ∙ only (open_after q concept left line)
+  pub one_more : (lines : List Line) (line : Line) (ks left : List Known) → goes_on lines ks ≡ Some left
+      → goes_on (lines ++ line ∷ []) ks ≡ open_after q concept left line
+  one_more lines line ks left e =
+      after_more lines (line ∷ []) ks ∙ ap (option_and_then (goes_on (line ∷ []))) e
+      ∙ only (open_after q concept left line)
 
-  pub at_line : (ks : List Known) (line : Line) (lines : List Line) → open_after q concept ks line ≡ None → Breaks q concept ks (line ∷ lines)
+  pub at_line : (ks : List Known) (line : Line) (lines : List Line) → open_after q concept ks line ≡ None
+      → Breaks q concept ks (line ∷ lines)
   at_line [] line lines e = e
   at_line (k ∷ ks) line lines e = e
 
@@ -49,8 +58,11 @@ same_twice f g h a b = record {
   shapes = b.shapes ∙ a.shapes;
 }
 
-same_left : (f g : RefutationContext) (o : Open) (line : Line) → IsSameButTable f g → left_by_line g o line ≡ open_after (question f) (concept_at f.shapes) (are_known g.table (branches o)) line
-same_left f g o line same i = open_after (question_of (same.individuals i) (same.axioms i) (same.named i) (same.query i)) (concept_at (same.shapes i)) (are_known g.table (branches o)) line
+same_left : (f g : RefutationContext) (o : Open) (line : Line) → IsSameButTable f g
+    → left_by_line g o line ≡ open_after (question f) (concept_at f.shapes) (are_known g.table (branches o)) line
+same_left f g o line same i =
+    open_after (question_of (same.individuals i) (same.axioms i) (same.named i) (same.query i))
+    (concept_at (same.shapes i)) (are_known g.table (branches o)) line
 
 -- ---- lines that were read
 
@@ -70,24 +82,32 @@ module _ (f g : RefutationContext) (o : Open) (lines : List Kept) (place : ℕ) 
   within : place < length lines → place < length all
   within l = omega (arith, length-map lines line_of)
 
-  pub read_on : (h : RefutationContext) (p : Open) (b : Bool) → kept ≡ get_or lines place kept → place < length lines → IsRead f g o all place → b ≡ true → IsLeftIf b (left_by_line g o (line_of kept)) h p → IsSameButTable g h
+  pub read_on : (h : RefutationContext) (p : Open) (b : Bool) → kept ≡ get_or lines place kept → place < length lines
+      → IsRead f g o all place → b ≡ true → IsLeftIf b (left_by_line g o (line_of kept)) h p → IsSameButTable g h
       → IsRead f h p all (place + 1)
   read_on h p b is l read e moved same =
       let left = subst (λ (c : Bool). IsLeftIf c (left_by_line g o (line_of kept)) h p) e moved in
-      let taken = take_more all place (line_of kept) (within l) ∙ ap (λ (m : Line). take place all ++ m ∷ []) (sym (is_here is l)) in
-      let more = one_more (question f) (concept_at f.shapes) (take place all) (line_of kept) (nothing_known ∷ []) (are_known g.table (branches o)) read.left in
+      let taken =
+      take_more all place (line_of kept) (within l)
+      ∙ ap (λ (m : Line). take place all ++ m ∷ []) (sym (is_here is l)) in
+      let more =
+      one_more (question f) (concept_at f.shapes) (take place all) (line_of kept) (nothing_known ∷ [])
+      (are_known g.table (branches o)) read.left in
       record {
         left = ap (left_by_lines f) taken ∙ more ∙ sym (same_left f g o (line_of kept) read.same) ∙ left.are;
         are = left.listed;
         same = same_twice f g h read.same same;
       }
 
-  pub broken : (h : RefutationContext) (p : Open) (b : Bool) → kept ≡ get_or lines place kept → place < length lines → IsRead f g o all place → b ≡ false → IsLeftIf b (left_by_line g o (line_of kept)) h p
+  pub broken : (h : RefutationContext) (p : Open) (b : Bool) → kept ≡ get_or lines place kept → place < length lines
+      → IsRead f g o all place → b ≡ false → IsLeftIf b (left_by_line g o (line_of kept)) h p
       → IsReadAs f all (Rejected (place + 1))
   broken h p b is l read e moved =
       let left = subst (λ (c : Bool). IsLeftIf c (left_by_line g o (line_of kept)) h p) e moved in
       let none = sym (same_left f g o (line_of kept) read.same) ∙ left in
-      let rest = drop-cons all place (line_of kept) (within l) ∙ ap (λ (m : Line). m ∷ drop (suc place) all) (sym (is_here is l)) in
+      let rest =
+      drop-cons all place (line_of kept) (within l)
+      ∙ ap (λ (m : Line). m ∷ drop (suc place) all) (sym (is_here is l)) in
       let known = are_known g.table (branches o) in
       let breaks = at_line (question f) (concept_at f.shapes) known (line_of kept) (drop (suc place) all) none in
       let in_all = within l in

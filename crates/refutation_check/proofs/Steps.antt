@@ -1,5 +1,6 @@
 -- One line more.
-use Rattle.std.proofs.Common.{◌≡◌, Bool, true, false, List, [], ◌∷◌, ◌++◌, map, length, Result, Ok, Err, Option, Some, None, refl, ap, ◌∙◌, sym, subst}
+use Rattle.std.proofs.Common.{◌≡◌, Bool, true, false, List, [], ◌∷◌, ◌++◌, map, length, Result, Ok, Err, Option, Some}
+use Rattle.std.proofs.Common.{None, refl, ap, ◌∙◌, sym, subst}
 use Rattle.std.specs.Prelude.{IfOk}
 use Rattle.std.specs.Option.{option_map}
 use Rattle.std.proofs.lemmas.List.{map-append}
@@ -23,14 +24,16 @@ use Rattle.refutation_check.proofs.Children.{ready_if, children_are}
 
 -- ---- over a longer table
 
-all_known : (a b : List Shape) (ks : List Branch) → Extends a b → AreNumberedBranches (length a) ks → are_known b ks ≡ are_known a ks
+all_known : (a b : List Shape) (ks : List Branch) → Extends a b → AreNumberedBranches (length a) ks
+    → are_known b ks ≡ are_known a ks
 all_known a b [] e h = refl
 all_known a b (k ∷ ks) e h =
     let head = known_stays a b k e (All-head (IsBranch (length a)) k ks h).listed in
     let tail = all_known a b ks e (All-tail (IsBranch (length a)) k ks h) in
     λ i. head i ∷ tail i
 
-all_stay : (a b : List Shape) (ks : List Branch) → Extends a b → AreNumberedBranches (length a) ks → AreNumberedBranches (length b) ks
+all_stay : (a b : List Shape) (ks : List Branch) → Extends a b → AreNumberedBranches (length a) ks
+    → AreNumberedBranches (length b) ks
 all_stay a b ks e h i d l = branch_stays a b _ e (h i d l)
 
 -- ---- what is known when a line has been read
@@ -43,8 +46,10 @@ pub record IsMove (f g : RefutationContext) (o : Open) (line : Line) (out : Opti
   pub children : line_children g o.branch line ≡ children_after g.table o.branch out
   pub fit : IsFitIfSome (length g.table) o.branch out
 
-pub move : (f g : RefutationContext) (o : Open) (line : Line) (out : Option Outcome) (k : Branch) (b : Bool) → b ≡ o.closed → b ≡ false → k ≡ o.branch → AreNumberedBranches (length f.table) (branches o)
-    → IsSameButTable f g → Extends f.table g.table → line_children g k line ≡ children_after g.table k out → IsFitIfSome (length g.table) k out → IsMove f g o line out
+pub move : (f g : RefutationContext) (o : Open) (line : Line) (out : Option Outcome) (k : Branch) (b : Bool)
+    → b ≡ o.closed → b ≡ false → k ≡ o.branch → AreNumberedBranches (length f.table) (branches o)
+    → IsSameButTable f g → Extends f.table g.table → line_children g k line ≡ children_after g.table k out
+    → IsFitIfSome (length g.table) k out → IsMove f g o line out
 move f g o line out k b is not_closed e are same kept left fit = record {
   «open» = sym is ∙ not_closed;
   are = are;
@@ -56,41 +61,63 @@ move f g o line out k b is not_closed e are same kept left fit = record {
 
 module _ (f g : RefutationContext) (o : Open) (line : Line) where
   all_are : (out : Option Outcome) → IsMove f g o line out → AreNumberedBranches (length f.table) (o.branch ∷ o.waiting)
-  all_are out h = subst (λ (b : Bool). AreNumberedBranches (length f.table) (branches_of b o.branch o.waiting)) h.open h.are
+  all_are out h =
+      subst (λ (b : Bool). AreNumberedBranches (length f.table) (branches_of b o.branch o.waiting)) h.open h.are
 
   abbrev on : List Known → List Known
   on new = new ++ are_known f.table o.waiting
 
-  left_is : (out : Option Outcome) → IsMove f g o line out → left_by_line f o line ≡ option_map on (children_after g.table o.branch out)
+  left_is : (out : Option Outcome) → IsMove f g o line out
+      → left_by_line f o line ≡ option_map on (children_after g.table o.branch out)
   left_is out h =
       let first = All-head (IsBranch (length f.table)) o.branch o.waiting (all_are out h) in
-      ap (λ (b : Bool). open_after (question f) (concept_at f.shapes) (are_known f.table (branches_of b o.branch o.waiting)) line) h.open
+      ap (λ (b : Bool). open_after (question f) (concept_at f.shapes)
+      (are_known f.table (branches_of b o.branch o.waiting)) line)
+      h.open
       ∙ ap (option_map on) (sym (line_stays f g o.branch line h.same h.kept first.listed) ∙ h.children)
 
-  left_some : (out : Outcome) (p : Open) → IsMove f g o line (Some out) → branches p ≡ branches_after o.branch out ++ o.waiting → IsLeft (left_by_line f o line) g p
+  left_some : (out : Outcome) (p : Open) → IsMove f g o line (Some out)
+      → branches p ≡ branches_after o.branch out ++ o.waiting → IsLeft (left_by_line f o line) g p
   left_some out p h e =
       let are = all_are (Some out) h in
-      let first = branch_stays f.table g.table o.branch h.kept (All-head (IsBranch (length f.table)) o.branch o.waiting are) in
+      let first =
+      branch_stays f.table g.table o.branch h.kept (All-head (IsBranch (length f.table)) o.branch o.waiting are) in
       let rest = All-tail (IsBranch (length f.table)) o.branch o.waiting are in
-      let begun = all_begun (question g) (concept_at g.shapes) g.table line out o.branch.nodes o.branch.facts h.children h.fit in
+      let begun =
+      all_begun (question g) (concept_at g.shapes) g.table line out o.branch.nodes o.branch.facts h.children h.fit in
       let new = children_are (length g.table) o.branch out first h.fit begun in
-      let waiting = ap (λ (l : List Known). map (known_of g.table) (branches_after o.branch out) ++ l) (sym (all_known f.table g.table o.waiting h.kept rest)) in
+      let waiting =
+      ap (λ (l : List Known). map (known_of g.table) (branches_after o.branch out) ++ l)
+      (sym (all_known f.table g.table o.waiting h.kept rest)) in
       let both = sym (map-append (known_of g.table) (branches_after o.branch out) o.waiting) in
       record {
         are = left_is (Some out) h ∙ ap (λ (l : List Known). Some l) (waiting ∙ both ∙ ap (are_known g.table) (sym e));
-        listed = subst (λ (ks : List Branch). AreNumberedBranches (length g.table) ks) (sym e) (All-append (IsBranch (length g.table)) (branches_after o.branch out) o.waiting new (all_stay f.table g.table o.waiting h.kept rest));
+        listed =
+            subst (λ (ks : List Branch). AreNumberedBranches (length g.table) ks) (sym e)
+            (All-append (IsBranch (length g.table)) (branches_after o.branch out) o.waiting new
+            (all_stay f.table g.table o.waiting h.kept rest));
       }
 
-  left_if : (out : Option Outcome) (b : Bool) (p : Open) → IsMove f g o line out → IsPutIf o out b p → IsLeftIf b (left_by_line f o line) g p
+  left_if : (out : Option Outcome) (b : Bool) (p : Open) → IsMove f g o line out → IsPutIf o out b p
+      → IsLeftIf b (left_by_line f o line) g p
   left_if None b p h e = subst (λ (c : Bool). IsLeftIf c (left_by_line f o line) g p) (sym e) (left_is None h)
-  left_if (Some out) b p h e = subst (λ (c : Bool). IsLeftIf c (left_by_line f o line) g p) (sym e.0) (left_some out p h e.1)
+  left_if (Some out) b p h e =
+      subst (λ (c : Bool). IsLeftIf c (left_by_line f o line) g p) (sym e.0) (left_some out p h e.1)
 
-  pub left_ok : (out : Option Outcome) (r : Result Bool NoMemory) (p : Open) → IsMove f g o line out → IfOk r (λ b. IsPutIf o out b p) → IfOk r (λ b. IsLeftIf b (left_by_line f o line) g p)
+  pub left_ok : (out : Option Outcome) (r : Result Bool NoMemory) (p : Open) → IsMove f g o line out
+      → IfOk r (λ b. IsPutIf o out b p) → IfOk r (λ b. IsLeftIf b (left_by_line f o line) g p)
   left_ok out (Ok b) p h e = left_if out b p h e
   left_ok out (Err e) p h i = tt
 
   pub ready : (out : Option Outcome) → IsMove f g o line out → IsReadyIf o out
-  ready out h = ready_if (length g.table) o out (branch_stays f.table g.table o.branch h.kept (All-head (IsBranch (length f.table)) o.branch o.waiting (all_are out h))) h.fit
+  ready out h =
+      ready_if (length g.table) o out
+      (branch_stays f.table g.table o.branch h.kept
+      (All-head (IsBranch (length f.table)) o.branch o.waiting (all_are out h)))
+      h.fit
 
 pub none_left : (f : RefutationContext) (o : Open) (line : Line) → o.closed ≡ true → left_by_line f o line ≡ None
-none_left f o line h = ap (λ (b : Bool). open_after (question f) (concept_at f.shapes) (are_known f.table (branches_of b o.branch o.waiting)) line) h
+none_left f o line h =
+    ap (λ (b : Bool). open_after (question f) (concept_at f.shapes)
+    (are_known f.table (branches_of b o.branch o.waiting)) line)
+    h

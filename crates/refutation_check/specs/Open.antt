@@ -33,14 +33,22 @@ AreNumberedBranches bound ks = All (IsBranch bound) ks
 
 -- the branch that is read with nodes more, and with facts more
 abbrev pub knowing_nodes : Open → List ℕ → Open
-knowing_nodes o xs = record { branch = record { nodes = o.branch.nodes ++ xs; facts = o.branch.facts }; waiting = o.waiting; closed = o.closed }
+knowing_nodes o xs = record {
+  branch = record { nodes = o.branch.nodes ++ xs; facts = o.branch.facts };
+  waiting = o.waiting;
+  closed = o.closed;
+}
 
 abbrev pub knowing : Open → List (Fact ℕ) → Open
 knowing o fs = record { branch = branch_with_facts o.branch fs; waiting = o.waiting; closed = o.closed }
 
 -- the branch that is read with new nodes and what is said of them: of each the edge that leads to it, and its concept
 abbrev pub with_new_nodes : Open → NewNodes → Open
-with_new_nodes o n = record { branch = branch_with_nodes o.branch n.from n.role n.concept n.first n.count; waiting = o.waiting; closed = o.closed }
+with_new_nodes o n = record {
+  branch = branch_with_nodes o.branch n.from n.role n.concept n.first n.count;
+  waiting = o.waiting;
+  closed = o.closed;
+}
 
 abbrev pub facts_of_new : NewNodes → List (Fact ℕ)
 facts_of_new n = new_nodes n.from n.role n.concept n.first n.count
@@ -50,7 +58,8 @@ abbrev pub branches_for : Branch → List (Fact ℕ) → List Branch
 branches_for k fs = map (λ f. branch_with_facts k (f ∷ [])) fs
 
 abbrev pub waiting_with : Open → Fact ℕ → Open
-waiting_with o f = record { branch = o.branch; waiting = branch_with_facts o.branch (f ∷ []) ∷ o.waiting; closed = o.closed }
+waiting_with o f =
+    record { branch = o.branch; waiting = branch_with_facts o.branch (f ∷ []) ∷ o.waiting; closed = o.closed }
 
 -- what a line leaves can be put in the place of the branch: only one that knows nothing is started, and new nodes are
 -- new
@@ -74,4 +83,5 @@ branches_at k ps = map (branch_at k) (reverse ps)
 -- marks, the latest first, lie within each other
 abbrev pub AreWithin : ℕ → ℕ → List Pending → Type 0
 AreWithin nodes facts [] = Unit {0}
-AreWithin nodes facts (p ∷ ps) = (p.mark.nodes ≤ nodes) × (p.mark.facts ≤ facts) × AreWithin p.mark.nodes p.mark.facts ps
+AreWithin nodes facts (p ∷ ps) = (p.mark.nodes ≤ nodes) × (p.mark.facts ≤ facts)
+    × AreWithin p.mark.nodes p.mark.facts ps

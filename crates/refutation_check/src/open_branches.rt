@@ -4,7 +4,8 @@ ghost use Rattle.std.specs.List.{list_any, range_with_len};
 ghost use Rattle.calculus_specs.specs.State.{apart_from, pairwise_apart};
 ghost use Rattle.branch_facts.specs.NumberedBranch.{has_node};
 ghost use Rattle.refutation_rules.specs.Outcomes.{branches_after, started_branch};
-ghost use Rattle.refutation_check.specs.Open.{branches, branches_for, waiting_with, with_new_nodes, facts_of_new, knowing, knowing_nodes, IsReady};
+ghost use Rattle.refutation_check.specs.Open.{branches, branches_for, waiting_with, with_new_nodes, facts_of_new};
+ghost use Rattle.refutation_check.specs.Open.{knowing, knowing_nodes, IsReady};
 
 use crate::NoMemory;
 use branch_facts::{BranchFacts, Fact, Mark};
@@ -33,7 +34,11 @@ impl Model for OpenBranches {
 
     ghost Value = { Open };
 
-    ghost view = { λ o. record { branch = o.branch; waiting = branches_at o.branch o.pending.items; closed = o.closed } };
+    ghost view = { λ o. record {
+      branch = o.branch;
+      waiting = branches_at o.branch o.pending.items;
+      closed = o.closed;
+    } };
 
     ghost invariant = { λ o. AreWithin (length o.branch.nodes) (length o.branch.facts) (reverse o.pending.items) };
 }

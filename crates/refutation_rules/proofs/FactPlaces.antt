@@ -1,5 +1,6 @@
 -- Facts of assertions by their places.
-use Rattle.std.proofs.Common.{◌≡◌, ◌≢◌, ℕ, zero, suc, ◌+◌, ◌-◌, ◌<◌, ◌≤◌, List, [], ◌∷◌, ◌++◌, map, length, get_or, drop, Bool, Some, None, option_map, refl, ap, sym, ◌∙◌, arith}
+use Rattle.std.proofs.Common.{◌≡◌, ◌≢◌, ℕ, zero, suc, ◌+◌, ◌-◌, ◌<◌, ◌≤◌, List, [], ◌∷◌, ◌++◌, map, length, get_or}
+use Rattle.std.proofs.Common.{drop, Bool, Some, None, option_map, refl, ap, sym, ◌∙◌, arith}
 use Rattle.std.specs.Prelude.{slice_get, if◌then◌else◌}
 use Rattle.std.proofs.lemmas.Bool.{ne_eqb}
 use Rattle.std.proofs.lemmas.Option.{slice_get-get_or, slice_get-map}
@@ -40,7 +41,8 @@ at_right (x ∷ xs) ys (suc i) le =
 
 -- ---- individuals that are the same
 
-same_at : (xs : List ℕ) (i : ℕ) → i + 1 < length xs → slice_get (same_facts xs) i ≡ Some (Same (get_or xs i 0) (get_or xs (i + 1) 0))
+same_at : (xs : List ℕ) (i : ℕ) → i + 1 < length xs
+    → slice_get (same_facts xs) i ≡ Some (Same (get_or xs i 0) (get_or xs (i + 1) 0))
 same_at [] i lt = absurd (omega arith)
 same_at (x ∷ []) i lt = absurd (omega arith)
 same_at (x ∷ y ∷ ys) zero lt = refl
@@ -54,10 +56,13 @@ no_same (x ∷ []) i le = refl
 no_same (x ∷ y ∷ ys) zero le = absurd (omega arith)
 no_same (x ∷ y ∷ ys) (suc i) le = no_same (y ∷ ys) i (omega arith)
 
-pub neighbours : (xs : List ℕ) (place : ℕ) → 0 < place → place < length xs → Some (Same (get_or xs (place - 1) 0) (get_or xs place 0)) ≡ nth_fact (same_facts xs) place
+pub neighbours : (xs : List ℕ) (place : ℕ) → 0 < place → place < length xs
+    → Some (Same (get_or xs (place - 1) 0) (get_or xs place 0)) ≡ nth_fact (same_facts xs) place
 neighbours xs place low lt =
     let there : place - 1 + 1 ≡ place = omega arith in
-    let found = same_at xs (place - 1) (omega arith) ∙ ap (λ (k : ℕ). Some (Same (get_or xs (place - 1) 0) (get_or xs k 0))) there in
+    let found =
+    same_at xs (place - 1) (omega arith)
+    ∙ ap (λ (k : ℕ). Some (Same (get_or xs (place - 1) 0) (get_or xs k 0))) there in
     sym found ∙ first_place (same_facts xs) place low
 
 pub no_neighbours : (xs : List ℕ) (place : ℕ) → 0 < place → length xs ≤ place → None ≡ nth_fact (same_facts xs) place
@@ -69,7 +74,8 @@ abbrev apart_of : ℕ → ℕ → Fact Concept
 apart_of x y = Apart x y
 
 -- the pairs of an individual with those after it come before the pairs of these
-pub pair_found : (xs : List ℕ) (i rest : ℕ) → i + 1 + rest < length xs → slice_get (apart_facts (drop i xs)) rest ≡ Some (Apart (get_or xs i 0) (get_or xs (i + 1 + rest) 0))
+pub pair_found : (xs : List ℕ) (i rest : ℕ) → i + 1 + rest < length xs
+    → slice_get (apart_facts (drop i xs)) rest ≡ Some (Apart (get_or xs i 0) (get_or xs (i + 1 + rest) 0))
 pair_found [] i rest lt = absurd (omega arith)
 pair_found (x ∷ xs) zero rest lt =
     let next : suc rest ≡ 0 + 1 + rest = omega arith in
@@ -82,12 +88,15 @@ pair_found (x ∷ xs) (suc i) rest lt =
     let next : suc (i + 1 + rest) ≡ suc i + 1 + rest = omega arith in
     pair_found xs i rest (omega arith) ∙ ap (λ (k : ℕ). Some (Apart (get_or xs i 0) (get_or (x ∷ xs) k 0))) next
 
-pub pair_later : (xs : List ℕ) (i rest : ℕ) → i < length xs → length xs - i - 1 ≤ rest → slice_get (apart_facts (drop (i + 1) xs)) (rest - (length xs - i - 1)) ≡ slice_get (apart_facts (drop i xs)) rest
+pub pair_later : (xs : List ℕ) (i rest : ℕ) → i < length xs → length xs - i - 1 ≤ rest
+    → slice_get (apart_facts (drop (i + 1) xs)) (rest - (length xs - i - 1)) ≡ slice_get (apart_facts (drop i xs)) rest
 pair_later [] i rest lt le = absurd (omega arith)
 pair_later (x ∷ xs) zero rest lt le =
     let later : length (x ∷ xs) - 0 - 1 ≡ length (map (apart_of x) xs) = omega (arith, length-map xs (apart_of x)) in
-    ap (λ k. slice_get (apart_facts xs) (rest - k)) later ∙ sym (at_right (map (Apart x) xs) (apart_facts xs) rest (omega (arith, length-map xs (apart_of x))))
+    ap (λ k. slice_get (apart_facts xs) (rest - k)) later
+    ∙ sym (at_right (map (Apart x) xs) (apart_facts xs) rest (omega (arith, length-map xs (apart_of x))))
 pair_later (x ∷ xs) (suc i) rest lt le =
     let later : length (x ∷ xs) - suc i - 1 ≡ length xs - i - 1 = omega arith in
     let next : suc i + 1 ≡ suc (i + 1) = omega arith in
-    (λ j. slice_get (apart_facts (drop (next j) (x ∷ xs))) (rest - later j)) ∙ pair_later xs i rest (omega arith) (omega arith)
+    (λ j. slice_get (apart_facts (drop (next j) (x ∷ xs))) (rest - later j))
+    ∙ pair_later xs i rest (omega arith) (omega arith)

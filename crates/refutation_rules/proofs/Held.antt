@@ -1,10 +1,12 @@
 -- The shape of a concept that a known node has, and where a line goes on from it.
-use Rattle.std.proofs.Common.{◌≡◌, ℕ, ◌≤◌, ◌&&◌, ltb, Bool, true, false, List, [], ◌∷◌, Option, Some, None, refl, ap, ◌∙◌, arith}
+use Rattle.std.proofs.Common.{◌≡◌, ℕ, ◌≤◌, ◌&&◌, ltb, Bool, true, false, List, [], ◌∷◌, Option, Some, None, refl, ap}
+use Rattle.std.proofs.Common.{◌∙◌, arith}
 use Rattle.std.specs.List.{list_all}
 use Rattle.std.proofs.lemmas.Bool.{ltb-true, lt-ltb, and_parts, and_from}
 use Rattle.shq_terms.specs.Concept.{Concept}
 use Rattle.calculus_specs.specs.Shape.{Shape, has_parts_below}
-use Rattle.calculus_specs.specs.Shape.Shape.{top, bottom, name, not_name, intersection, union, some_of, all_of, at_least, at_most}
+use Rattle.calculus_specs.specs.Shape.Shape.{top, bottom, name, not_name, intersection, union, some_of, all_of}
+use Rattle.calculus_specs.specs.Shape.Shape.{at_least, at_most}
 use Rattle.calculus_specs.specs.State.{has_tree}
 use Rattle.calculus_specs.specs.Rules.{Known, knows, when, at_concept}
 
@@ -38,8 +40,10 @@ module _ (k : Known) (x : ℕ) (o : Option Concept) (answer : Concept → Option
   pub at_none : o ≡ None → at_concept k x o answer ≡ None
   at_none e = ap (λ (p : Option Concept). at_concept k x p answer) e
 
-  pub at_lacked : (c : Concept) → o ≡ Some c → (knows k x && has_tree k.facts x c) ≡ false → at_concept k x o answer ≡ None
+  pub at_lacked : (c : Concept) → o ≡ Some c → (knows k x && has_tree k.facts x c) ≡ false
+      → at_concept k x o answer ≡ None
   at_lacked c e h = ap (λ (p : Option Concept). at_concept k x p answer) e ∙ ap (λ (b : Bool). when b (answer c)) h
 
-  pub at_held : (c : Concept) → o ≡ Some c → (knows k x && has_tree k.facts x c) ≡ true → at_concept k x o answer ≡ answer c
+  pub at_held : (c : Concept) → o ≡ Some c → (knows k x && has_tree k.facts x c) ≡ true
+      → at_concept k x o answer ≡ answer c
   at_held c e h = ap (λ (p : Option Concept). at_concept k x p answer) e ∙ ap (λ (b : Bool). when b (answer c)) h

@@ -1,5 +1,6 @@
 -- Facts that are given, and nodes that differ.
-use Rattle.std.proofs.Common.{◌≡◌, ℕ, ◌&&◌, eqb, Bool, true, List, [], ◌∷◌, length, Option, Some, None, refl, ap, subst, sym, ◌∙◌}
+use Rattle.std.proofs.Common.{◌≡◌, ℕ, ◌&&◌, eqb, Bool, true, List, [], ◌∷◌, length, Option, Some, None, refl, ap, subst}
+use Rattle.std.proofs.Common.{sym, ◌∙◌}
 use Rattle.std.proofs.lemmas.Bool.{and_from}
 use Rattle.shq_terms.specs.Concept.{Concept}
 use Rattle.calculus_specs.specs.Shape.{Shape}
@@ -23,9 +24,14 @@ use Rattle.refutation_rules.proofs.Children.{known_more}
 
 -- ---- facts that are given
 
-pub fact_given : (f : RefutationContext) (k : Branch) (line : Line) (asked : Option (Fact Concept)) (found : Option (Fact ℕ)) (o : Option Outcome)
-    → line_children f k line ≡ fact_children (known_of f.table k) asked → has_node k 0 ≡ true → IsFactFound f.table asked found → AddsFactIfSome found o → IsOutcome f k line o
-fact_given f k line None None o e known found is = record { children = e ∙ sym (ap (children_after f.table k) is); fit = subst (λ (p : Option Outcome). IsFitIfSome (length f.table) k p) (sym is) tt }
+pub fact_given : (f : RefutationContext) (k : Branch) (line : Line) (asked : Option (Fact Concept))
+    (found : Option (Fact ℕ)) (o : Option Outcome)
+    → line_children f k line ≡ fact_children (known_of f.table k) asked → has_node k 0 ≡ true
+    → IsFactFound f.table asked found → AddsFactIfSome found o → IsOutcome f k line o
+fact_given f k line None None o e known found is = record {
+  children = e ∙ sym (ap (children_after f.table k) is);
+  fit = subst (λ (p : Option Outcome). IsFitIfSome (length f.table) k p) (sym is) tt;
+}
 fact_given f k line None (Some g) o e known found is = absurd found
 fact_given f k line (Some a) None o e known found is = absurd found
 fact_given f k line (Some a) (Some g) (Some (More fs)) e known found is =
@@ -40,7 +46,9 @@ fact_given f k line (Some a) (Some g) _ e known found is = absurd is
 -- ---- nodes that are apart and one
 
 pub differ_read : (table : List Shape) (k : Branch) (y z : ℕ)
-    → are_differing k y z ≡ (knows (known_of table k) y && knows (known_of table k) z && are_apart (known_of table k).facts y z && eqb (rep (known_of table k).facts y) (rep (known_of table k).facts z))
+    → are_differing k y z
+    ≡ (knows (known_of table k) y && knows (known_of table k) z && are_apart (known_of table k).facts y z
+    && eqb (rep (known_of table k).facts y) (rep (known_of table k).facts z))
 differ_read table k y z =
     let kept = keeps_state ℕ Concept (tree_of table) k.facts in
     λ i. has_node k y && has_node k z && sym (kept.aparts y z) i && eqb (sym (kept.reps y) i) (sym (kept.reps z) i)

@@ -1,7 +1,8 @@
 -- How the concepts of a refutation get their numbers in a table, one after another.
 use Rattle.std.specs.Prelude.{◌≡◌, ℕ, ◌<◌, List, ◌+◌, ◌∷◌, map, length, slice_index}
 use Rattle.calculus_specs.specs.Shape.{Shape}
-use Rattle.calculus_specs.specs.Shape.Shape.{top, bottom, name, not_name, intersection, union, some_of, all_of, at_least, at_most}
+use Rattle.calculus_specs.specs.Shape.Shape.{top, bottom, name, not_name, intersection, union, some_of, all_of}
+use Rattle.calculus_specs.specs.Shape.Shape.{at_least, at_most}
 use Rattle.calculus_specs.specs.Tree.{tree_over, trees_of, tree_of}
 use Rattle.shq_nnf.specs.Numbers.{IsNumber}
 use Rattle.shq_nnf.specs.Shapes.{form_of}
@@ -31,4 +32,5 @@ renumbered numbers (at_most n r c) = at_most n r (slice_index numbers c)
 
 -- the number stands for its concept in the later table, and the numbers for its parts are of the earlier one
 abbrev pub IsRenumbered : List Shape → List Shape → List ℕ → Shown → ℕ → Type 0
-IsRenumbered earlier later numbers s n = IsNumber later n (tree_over (trees_of earlier) (renumbered numbers (form_of s)))
+IsRenumbered earlier later numbers s n =
+    IsNumber later n (tree_over (trees_of earlier) (renumbered numbers (form_of s)))

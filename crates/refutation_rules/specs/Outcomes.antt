@@ -1,5 +1,6 @@
 -- What a rule line does to the branch to which it belongs, over concepts by number.
-use Rattle.std.specs.Prelude.{◌≡◌, ℕ, ◌+◌, ◌^◌, ◌<◌, ◌≤◌, nat_eq, true, false, List, [], ◌∷◌, ◌++◌, map, Option, Some, None}
+use Rattle.std.specs.Prelude.{◌≡◌, ℕ, ◌+◌, ◌^◌, ◌<◌, ◌≤◌, nat_eq, true, false, List, [], ◌∷◌, ◌++◌, map, Option, Some}
+use Rattle.std.specs.Prelude.{None}
 use Rattle.std.specs.List.{list_any, range_with_len}
 use Rattle.calculus_specs.specs.Shape.{Shape}
 use Rattle.calculus_specs.specs.Tree.{tree_of}
@@ -22,7 +23,8 @@ branch_with_facts k fs = record { nodes = k.nodes; facts = k.facts ++ fs }
 
 -- n nodes more, with their facts
 abbrev pub branch_with_nodes : Numbered → ℕ → ℕ → ℕ → ℕ → ℕ → Numbered
-branch_with_nodes k x role c first n = record { nodes = k.nodes ++ range_with_len first n; facts = k.facts ++ fresh_facts x role c first n }
+branch_with_nodes k x role c first n =
+    record { nodes = k.nodes ++ range_with_len first n; facts = k.facts ++ fresh_facts x role c first n }
 
 -- the first nodes, of which the one in question is in both concepts
 abbrev pub started_branch : FirstNodes → Numbered
@@ -46,7 +48,8 @@ abbrev pub IsFit : ℕ → Numbered → Outcome → Type 0
 IsFit bound k Closed = Unit {0}
 IsFit bound k (Started n) = (k.nodes ≡ []) × (n.sub < bound) × (n.not_sup < bound) × (n.count ≤ 2 ^ 32)
 IsFit bound k (More fs) = are_listed bound fs.items ≡ true
-IsFit bound k (Nodes n) = (n.concept < bound) × (n.first + n.count ≤ 2 ^ 32) × (list_any (λ z. list_any (λ y. nat_eq y z) k.nodes) (range_with_len n.first n.count) ≡ false)
+IsFit bound k (Nodes n) = (n.concept < bound) × (n.first + n.count ≤ 2 ^ 32)
+    × (list_any (λ z. list_any (λ y. nat_eq y z) k.nodes) (range_with_len n.first n.count) ≡ false)
 IsFit bound k (Branches fs) = are_listed bound fs.items ≡ true
 
 abbrev pub IsFitIfSome : ℕ → Numbered → Option Outcome → Type 0

@@ -65,18 +65,21 @@ StandsFor table c (Some n) = (c ≡ Some (tree_of table n)) × (n < length table
 pub record IsHeldShape (f : RefutationContext) (k : Branch) (x c : ℕ) (s : Shape) : Type 0 where
   pub parts_below : has_parts_below (length f.table) s ≡ true
   pub normal : is_normal f.table s ≡ true
-  pub goes_on : (answer : Concept → Option (List Known)) → at_concept (known_of f.table k) x (concept_at f.shapes c) answer ≡ answer (tree_over (trees_of f.table) s)
+  pub goes_on : (answer : Concept → Option (List Known))
+      → at_concept (known_of f.table k) x (concept_at f.shapes c) answer ≡ answer (tree_over (trees_of f.table) s)
 
 -- the shape of the concept where the node is known and has it
 abbrev pub IsHeld : RefutationContext → Branch → ℕ → ℕ → Option Shown → Type 0
-IsHeld f k x c None = (answer : Concept → Option (List Known)) → at_concept (known_of f.table k) x (concept_at f.shapes c) answer ≡ None
+IsHeld f k x c None = (answer : Concept → Option (List Known))
+    → at_concept (known_of f.table k) x (concept_at f.shapes c) answer ≡ None
 IsHeld f k x c (Some s) = IsHeldShape f k x c (form_of s)
 
 -- what is left of the branch, where the premises hold, is that the node y is in the concept of the number, if there is
 -- one
 abbrev pub AddsConcept : List Shape → Branch → Option (List Known) → ℕ → Option ℕ → Type 0
 AddsConcept table k children y None = children ≡ None
-AddsConcept table k children y (Some n) = (n < length table) × (children ≡ Some (known_of table (branch_with_facts k (Has y n ∷ [])) ∷ []))
+AddsConcept table k children y (Some n) = (n < length table)
+    × (children ≡ Some (known_of table (branch_with_facts k (Has y n ∷ [])) ∷ []))
 
 abbrev pub LineAdds : RefutationContext → Branch → Line → ℕ → Option ℕ → Type 0
 LineAdds f k line y found = AddsConcept f.table k (line_children f k line) y found
@@ -84,17 +87,23 @@ LineAdds f k line y found = AddsConcept f.table k (line_children f k line) y fou
 -- and the same for a restriction that a role passes on, by the number of its filler
 abbrev pub LinePassesOn : RefutationContext → Branch → ℕ → ℕ → ℕ → ℕ → Option ℕ → Type 0
 LinePassesOn f k x y t c None = line_children f k (carry_line x y t c) ≡ None
-LinePassesOn f k x y t c (Some e) = (e < length f.table) × (line_children f k (carry_line x y t c) ≡ Some (known_with (known_of f.table k) (Has y (all_of t (tree_of f.table e)) ∷ []) ∷ []))
+LinePassesOn f k x y t c (Some e) = (e < length f.table)
+    × (line_children f k (carry_line x y t c)
+    ≡ Some (known_with (known_of f.table k) (Has y (all_of t (tree_of f.table e)) ∷ []) ∷ []))
 
 -- a branch for the concept of the number and one for its complement, if there is a number
 abbrev pub LineChooses : RefutationContext → Branch → ℕ → ℕ → Option ℕ → Type 0
 LineChooses f k y c None = line_children f k (choose_line y c) ≡ None
-LineChooses f k y c (Some n) = (n < length f.table) × (line_children f k (choose_line y c) ≡ Some (known_with (known_of f.table k) (Has y (tree_of f.table n) ∷ []) ∷ known_with (known_of f.table k) (Has y (negated_form (tree_of f.table n)) ∷ []) ∷ []))
+LineChooses f k y c (Some n) = (n < length f.table)
+    × (line_children f k (choose_line y c)
+    ≡ Some (known_with (known_of f.table k) (Has y (tree_of f.table n) ∷ [])
+    ∷ known_with (known_of f.table k) (Has y (negated_form (tree_of f.table n)) ∷ []) ∷ []))
 
 -- the branch is closed if the node has the complement of the class, if there is one
 abbrev pub LineCloses : RefutationContext → Branch → ℕ → ℕ → Option ℕ → Type 0
 LineCloses f k x c None = line_children f k (clash_line x c) ≡ None
-LineCloses f k x c (Some a) = line_children f k (clash_line x c) ≡ when (has_tree (known_of f.table k).facts x (complement (name a))) (Some [])
+LineCloses f k x c (Some a) =
+    line_children f k (clash_line x c) ≡ when (has_tree (known_of f.table k).facts x (complement (name a))) (Some [])
 
 -- ---- rows that are used
 
@@ -113,11 +122,15 @@ row_used k x (Some r) = when (has_node k x && list_all (has k.facts x) r.premise
 -- the class of the range where an edge of a role below its own leads from one node to the other
 abbrev pub range_used : RefutationContext → Branch → ℕ → ℕ → Option CachedRange → Option ℕ
 range_used f k x y None = None
-range_used f k x y (Some r) = when (knows (known_of f.table k) x && knows (known_of f.table k) y && has_edge (known_of f.table k).facts (λ q. (theory f).below q r.role) x y) (Some r.concept)
+range_used f k x y (Some r) =
+    when (knows (known_of f.table k) x && knows (known_of f.table k) y
+    && has_edge (known_of f.table k).facts (λ q. (theory f).below q r.role) x y)
+    (Some r.concept)
 
 -- what is kept for a refutation of a query: there is a number for each first node, the roles are by the axioms that the
 -- refutation names, and its concepts, the two sides of the query and bottom have their numbers in the table
-pub record IsRefutationContext (individuals : ℕ) (rows : CacheState) (shapes : List Shape) (query : Query) (roles : List RoleAxiom) (numbers : List ℕ) (sub not_sup none : ℕ) : Type 0 where
+pub record IsRefutationContext (individuals : ℕ) (rows : CacheState) (shapes : List Shape) (query : Query)
+    (roles : List RoleAxiom) (numbers : List ℕ) (sub not_sup none : ℕ) : Type 0 where
   pub few_individuals : individuals ≤ 20000
   pub roles_are : roles ≡ role_axioms rows.axioms rows.named
   pub concepts : AreAllNumbered shapes rows.table numbers

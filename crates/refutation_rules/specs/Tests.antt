@@ -32,27 +32,37 @@ abbrev pub leads : RefutationContext → Branch → ℕ → ℕ → ℕ → Bool
 leads f k role x y = has_edge (known_of f.table k).facts (λ r. (theory f).below r role) x y
 
 abbrev pub leads_to : RefutationContext → Branch → ℕ → ℕ → ℕ → Bool
-leads_to f k role x y = knows (known_of f.table k) y && has_edge (known_of f.table k).facts (λ r. (theory f).below r role) x y
+leads_to f k role x y =
+    knows (known_of f.table k) y && has_edge (known_of f.table k).facts (λ r. (theory f).below r role) x y
 
 -- the same by the roles below a bound alone
 abbrev pub leads_within : RefutationContext → Branch → ℕ → ℕ → ℕ → ℕ → Bool
-leads_within f k bound role x y = list_any (λ lower. (theory f).below lower role && has_edge k.facts (λ r. r == lower) x y) (range_with_len 0 bound)
+leads_within f k bound role x y =
+    list_any (λ lower. (theory f).below lower role && has_edge k.facts (λ r. r == lower) x y) (range_with_len 0 bound)
 
 -- and by a transitive role that is below the upper one
 abbrev pub carries : RefutationContext → Branch → ℕ → ℕ → ℕ → ℕ → Bool
-carries f k role upper x y = (theory f).is_transitive role && (theory f).below role upper && knows (known_of f.table k) y && has_edge (known_of f.table k).facts (λ r. (theory f).below r role) x y
+carries f k role upper x y =
+    (theory f).is_transitive role && (theory f).below role upper && knows (known_of f.table k) y
+    && has_edge (known_of f.table k).facts (λ r. (theory f).below r role) x y
 
 -- the node y is known, the end of such an edge, and in the filler
 abbrev pub is_filler : RefutationContext → Branch → ℕ → ℕ → ℕ → ℕ → Bool
-is_filler f k x role filler y = knows (known_of f.table k) y && has_edge (known_of f.table k).facts (λ r. (theory f).below r role) x y && has_tree (known_of f.table k).facts y (tree_of f.table filler)
+is_filler f k x role filler y =
+    knows (known_of f.table k) y && has_edge (known_of f.table k).facts (λ r. (theory f).below r role) x y
+    && has_tree (known_of f.table k).facts y (tree_of f.table filler)
 
 abbrev pub fill : RefutationContext → Branch → ℕ → ℕ → ℕ → List ℕ → Bool
 fill f k x role filler ys = are_fillers (theory f) (known_of f.table k) x role (tree_of f.table filler) ys
 
 -- these are one more than so many fillers, and pairwise apart
 abbrev pub exceed : RefutationContext → Branch → ℕ → ℕ → ℕ → ℕ → List ℕ → Bool
-exceed f k x count role filler ys = length ys == count + 1 && are_fillers (theory f) (known_of f.table k) x role (tree_of f.table filler) ys && all_apart k.facts ys
+exceed f k x count role filler ys =
+    length ys == count + 1 && are_fillers (theory f) (known_of f.table k) x role (tree_of f.table filler) ys
+    && all_apart k.facts ys
 
 -- the new nodes, where there are numbers for them and none is known
 abbrev pub made_if_new : Branch → NewNodes → Option Outcome
-made_if_new k n = when (nat_le (n.first + n.count) (2 ^ 32) && not (list_any (has_node k) (range_with_len n.first n.count))) (Some (Nodes n))
+made_if_new k n =
+    when (nat_le (n.first + n.count) (2 ^ 32) && not (list_any (has_node k) (range_with_len n.first n.count)))
+    (Some (Nodes n))

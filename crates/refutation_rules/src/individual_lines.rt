@@ -88,7 +88,8 @@ impl<'a> Rules<'a> {
     // The same fact over concepts by number.
     fn numbered(&mut self, fact: Fact<&Concept>) -> Result<Fact<u32>, NoMemory>
         requires { HasCountsWithin fact }
-        ensures fact { IfOk result (λ f. IsFactFound self.new.table (Some (read_fact form_behind fact.entry)) (Some f)) }
+        ensures fact { IfOk result
+            (λ f. IsFactFound self.new.table (Some (read_fact form_behind fact.entry)) (Some f)) }
         ensures kept { Extends self.old.table self.new.table }
         ensures same { IsSameButTable self.old self.new }
     {

@@ -13,7 +13,8 @@ ghost use Rattle.row_cache.specs.Cache.{IsNamedAxiom};
 ghost use Rattle.calculus_specs.specs.Valid.{concept_at};
 ghost use Rattle.refutation_tree.specs.RuleLine.{line_of};
 ghost use Rattle.refutation_rules.specs.Outcomes.{IsBranch};
-ghost use Rattle.refutation_rules.specs.RefutationContext.{theory, IsOutcome, IsSameButTable, StandsFor, IsHeld, IsUsableRow, IsUsableRange};
+ghost use Rattle.refutation_rules.specs.RefutationContext.{theory, IsOutcome, IsSameButTable, StandsFor, IsHeld};
+ghost use Rattle.refutation_rules.specs.RefutationContext.{IsUsableRow, IsUsableRange};
 ghost use Rattle.refutation_rules.specs.Tests.{node_asked, is_in, has_number};
 
 use crate::numbering::{number_concepts, roles_of};
@@ -53,9 +54,17 @@ impl<'a> Model for Rules<'a> {
 
     ghost coded = { Prim.hlevel (codes, concept_code) };
 
-    ghost view = { λ r. record { individuals = r.individuals; axioms = r.rows.axioms; named = r.rows.named; query = r.query.now; shapes = r.refutation.now.shapes; table = r.rows.table } };
+    ghost view = { λ r. record {
+      individuals = r.individuals;
+      axioms = r.rows.axioms;
+      named = r.rows.named;
+      query = r.query.now;
+      shapes = r.refutation.now.shapes;
+      table = r.rows.table;
+    } };
 
-    ghost invariant = { λ r. IsRefutationContext r.individuals r.rows r.refutation.now.shapes r.query.now r.roles r.numbers.items r.sub r.not_sup r.bottom };
+    ghost invariant = { λ r. IsRefutationContext r.individuals r.rows r.refutation.now.shapes r.query.now r.roles
+        r.numbers.items r.sub r.not_sup r.bottom };
 }
 
 impl<'a> Rules<'a> {

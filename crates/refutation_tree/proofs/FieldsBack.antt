@@ -1,5 +1,6 @@
 -- Numbers and names that are written are read back, and their words are plain.
-use Rattle.std.proofs.Common.{◌≡◌, ℕ, ◌^◌, Bool, true, List, [], ◌∷◌, length, map, get_or, refl, ap, ◌∙◌, Option, Some, None, option_map}
+use Rattle.std.proofs.Common.{◌≡◌, ℕ, ◌^◌, Bool, true, List, [], ◌∷◌, length, map, get_or, refl, ap, ◌∙◌, Option, Some}
+use Rattle.std.proofs.Common.{None, option_map}
 use Rattle.std.specs.Prelude.{nat_lt, decimal, position, option_and_then}
 use Rattle.std.specs.List.{list_all}
 use Rattle.std.specs.Str.{bytes_eq}
@@ -24,7 +25,8 @@ pub numbers_back : (ns : List ℕ) → are_small ns ≡ true → numbers_in (map
 numbers_back [] small = refl
 numbers_back (n ∷ ns) small =
     let parts = and_parts (nat_lt n (2 ^ 32)) (are_small ns) small in
-    ap (λ (r : Option ℕ). elim r [ None ↦ None | Some m ↦ option_map (λ ms. m ∷ ms) (numbers_in (map decimal ns)) ]) (number_back n parts.0)
+    ap (λ (r : Option ℕ). elim r [ None ↦ None | Some m ↦ option_map (λ ms. m ∷ ms) (numbers_in (map decimal ns)) ])
+    (number_back n parts.0)
     ∙ ap (option_map (λ ms. n ∷ ms)) (numbers_back ns parts.1)
 
 pub number_plain : (n : ℕ) → nat_lt n (2 ^ 32) ≡ true → list_all is_word_byte (decimal n) ≡ true
@@ -34,4 +36,5 @@ pub numbers_plain : (ns : List ℕ) → are_small ns ≡ true → list_all (list
 numbers_plain [] small = refl
 numbers_plain (n ∷ ns) small =
     let parts = and_parts (nat_lt n (2 ^ 32)) (are_small ns) small in
-    and_from (list_all is_word_byte (decimal n)) (list_all (list_all is_word_byte) (map decimal ns)) (number_plain n parts.0) (numbers_plain ns parts.1)
+    and_from (list_all is_word_byte (decimal n)) (list_all (list_all is_word_byte) (map decimal ns))
+    (number_plain n parts.0) (numbers_plain ns parts.1)

@@ -1,11 +1,13 @@
 -- Shapes that are numbered from 1 are normal over all of them, after top.
-use Rattle.std.proofs.Common.{◌≡◌, ℕ, zero, suc, ◌+◌, ◌<◌, ◌≤◌, true, List, [], ◌∷◌, length, take, refl, ap, sym, ◌∙◌, arith}
+use Rattle.std.proofs.Common.{◌≡◌, ℕ, zero, suc, ◌+◌, ◌<◌, ◌≤◌, true, List, [], ◌∷◌, length, take, refl, ap, sym, ◌∙◌}
+use Rattle.std.proofs.Common.{arith}
 use Rattle.std.specs.Prelude.{nat_lt, slice_index_or}
 use Rattle.std.specs.List.{list_all}
 use Rattle.std.proofs.lemmas.Bool.{and_parts, and_from, ltb-true, lt-ltb}
 use Rattle.std.proofs.lemmas.List.{get_or-take, length-take}
 use Rattle.calculus_specs.specs.Shape.{Shape, shape_of, has_parts_below, is_normal}
-use Rattle.calculus_specs.specs.Shape.Shape.{top, bottom, name, not_name, intersection, union, some_of, all_of, at_least, at_most}
+use Rattle.calculus_specs.specs.Shape.Shape.{top, bottom, name, not_name, intersection, union, some_of, all_of}
+use Rattle.calculus_specs.specs.Shape.Shape.{at_least, at_most}
 use Rattle.shq_nnf.proofs.Grown.{normal_agree}
 use Rattle.refutation_tree.specs.Shapes.{shape_at, is_concept, part_numbers, AreShapes}
 
@@ -15,7 +17,8 @@ module _ (front : List Shape) (n : ℕ) (long : length front ≡ n) where
   all_below (c ∷ cs) h =
       let parts = and_parts (is_concept front c) (list_all (is_concept front) cs) h in
       let below = ltb-true c (length front + 1) (and_parts (nat_lt 0 c) (nat_lt c (length front + 1)) parts.0).1 in
-      and_from (nat_lt c (n + 1)) (list_all (λ d. nat_lt d (n + 1)) cs) (lt-ltb c (n + 1) (omega (arith, below, long))) (all_below cs parts.1)
+      and_from (nat_lt c (n + 1)) (list_all (λ d. nat_lt d (n + 1)) cs) (lt-ltb c (n + 1) (omega (arith, below, long)))
+      (all_below cs parts.1)
 
   one_below : (c : ℕ) → list_all (is_concept front) (c ∷ []) ≡ true → nat_lt c (n + 1) ≡ true
   one_below c h = (and_parts (nat_lt c (n + 1)) true (all_below (c ∷ []) h)).0
@@ -32,11 +35,14 @@ module _ (front : List Shape) (n : ℕ) (long : length front ≡ n) where
   parts_below (at_least m r c) h = one_below c h
   parts_below (at_most m r c) h = one_below c h
 
-same_below : (shapes : List Shape) (n : ℕ) → n < length shapes → (c : ℕ) → c < n + 1 → shape_of (top ∷ take n shapes) c ≡ shape_of (top ∷ shapes) c
+same_below : (shapes : List Shape) (n : ℕ) → n < length shapes → (c : ℕ) → c < n + 1
+    → shape_of (top ∷ take n shapes) c ≡ shape_of (top ∷ shapes) c
 same_below shapes n lt zero less = refl
 same_below shapes n lt (suc c) less = get_or-take n shapes c top (omega arith)
 
-at_place : (shapes : List Shape) → AreShapes shapes → (n : ℕ) → n < length shapes → (has_parts_below (n + 1) (slice_index_or shapes n top) ≡ true) × (is_normal (top ∷ shapes) (slice_index_or shapes n top) ≡ true)
+at_place : (shapes : List Shape) → AreShapes shapes → (n : ℕ) → n < length shapes
+    → (has_parts_below (n + 1) (slice_index_or shapes n top) ≡ true)
+    × (is_normal (top ∷ shapes) (slice_index_or shapes n top) ≡ true)
 at_place shapes good n lt =
     let s = slice_index_or shapes n top in
     let front = take n shapes in
@@ -45,7 +51,8 @@ at_place shapes good n lt =
     let below = parts_below front n long s fit.0 in
     (below, normal_agree (top ∷ front) (top ∷ shapes) (n + 1) s (same_below shapes n lt) below fit.1)
 
-pub shapes_are_normal : (shapes : List Shape) → AreShapes shapes → (c : ℕ) → 1 ≤ c → c ≤ length shapes → (has_parts_below c (shape_at shapes c) ≡ true) × (is_normal (top ∷ shapes) (shape_at shapes c) ≡ true)
+pub shapes_are_normal : (shapes : List Shape) → AreShapes shapes → (c : ℕ) → 1 ≤ c → c ≤ length shapes
+    → (has_parts_below c (shape_at shapes c) ≡ true) × (is_normal (top ∷ shapes) (shape_at shapes c) ≡ true)
 shapes_are_normal shapes good zero low high = absurd (omega arith)
 shapes_are_normal shapes good (suc n) low high =
     let next : n + 1 ≡ suc n = omega arith in

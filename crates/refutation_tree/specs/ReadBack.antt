@@ -6,7 +6,9 @@ use Rattle.certificate_lines.specs.Lines.{lines}
 use Rattle.certificate_lines.specs.Names.{AreNames}
 use Rattle.shq_terms.specs.Listed.{Listed}
 use Rattle.calculus_specs.specs.Line.{Line}
-use Rattle.calculus_specs.specs.Line.Line.{start_line, and_line, or_line, all_line, carry_line, row_line, range_line, some_line, least_line, choose_line, pair_line, bottom_line, clash_line, most_line, fact_line, differ_line}
+use Rattle.calculus_specs.specs.Line.Line.{start_line, and_line, or_line, all_line, carry_line, row_line, range_line}
+use Rattle.calculus_specs.specs.Line.Line.{some_line, least_line, choose_line, pair_line, bottom_line, clash_line}
+use Rattle.calculus_specs.specs.Line.Line.{most_line, fact_line, differ_line}
 use Rattle.refutation_tree.specs.RefutationLists.{RefutationLists, IsKept}
 use Rattle.refutation_tree.specs.RefutationText.{refutation_of}
 use Rattle.refutation_tree.specs.Written.{line_numbers, names_are_listed, refutation_text}
@@ -47,8 +49,10 @@ pub record IsWritable (o : Listed) (k : RefutationLists) : Type 0 where
 
 -- the lines of a refutation's text stand for this refutation
 abbrev pub RefutationsAreReadBack : Type 0
-RefutationsAreReadBack = (o : Listed) (k : RefutationLists) → AreNames o.classes → AreNames o.roles → IsWritable o k → refutation_of o (lines (refutation_text o k)) ≡ Some k
+RefutationsAreReadBack = (o : Listed) (k : RefutationLists) → AreNames o.classes → AreNames o.roles → IsWritable o k
+    → refutation_of o (lines (refutation_text o k)) ≡ Some k
 
 -- what is read over a document can be written
 abbrev pub ReadIsWritable : Type 0
-ReadIsWritable = (o : Listed) (ls : List (List ℕ)) (k : RefutationLists) → length o.axioms < 2 ^ 32 → refutation_of o ls ≡ Some k → IsWritable o k
+ReadIsWritable = (o : Listed) (ls : List (List ℕ)) (k : RefutationLists) → length o.axioms < 2 ^ 32
+    → refutation_of o ls ≡ Some k → IsWritable o k

@@ -1,5 +1,6 @@
 -- The text of a refutation in a certificate, from its line `refutation` on, and what it stands for.
-use Rattle.std.specs.Prelude.{ℕ, ◌+◌, Bool, true, false, ◌&&◌, nat_eq, nat_lt, nat_le, List, [], ◌∷◌, ◌++◌, length, codes, position, Option, Some, None, option_map, option_and_then, if◌then◌else◌}
+use Rattle.std.specs.Prelude.{ℕ, ◌+◌, Bool, true, false, ◌&&◌, nat_eq, nat_lt, nat_le, List, [], ◌∷◌, ◌++◌, length}
+use Rattle.std.specs.Prelude.{codes, position, Option, Some, None, option_map, option_and_then, if◌then◌else◌}
 use Rattle.std.specs.List.{list_all}
 use Rattle.std.specs.Str.{bytes_eq}
 use Rattle.std.specs.FinSet as set
@@ -11,9 +12,12 @@ use Rattle.certificate_lines.specs.Body.{after_line, read_body}
 use Rattle.shq_terms.specs.Listed.{Listed}
 use Rattle.calculus_specs.specs.Rows.{is_ascending}
 use Rattle.calculus_specs.specs.Shape.{Shape}
-use Rattle.calculus_specs.specs.Shape.Shape.{top, bottom, name, not_name, intersection, union, some_of, all_of, at_least, at_most}
+use Rattle.calculus_specs.specs.Shape.Shape.{top, bottom, name, not_name, intersection, union, some_of, all_of}
+use Rattle.calculus_specs.specs.Shape.Shape.{at_least, at_most}
 use Rattle.calculus_specs.specs.Line.{Line}
-use Rattle.calculus_specs.specs.Line.Line.{start_line, and_line, or_line, all_line, carry_line, row_line, range_line, some_line, least_line, choose_line, pair_line, bottom_line, clash_line, most_line, fact_line, differ_line}
+use Rattle.calculus_specs.specs.Line.Line.{start_line, and_line, or_line, all_line, carry_line, row_line, range_line}
+use Rattle.calculus_specs.specs.Line.Line.{some_line, least_line, choose_line, pair_line, bottom_line, clash_line}
+use Rattle.calculus_specs.specs.Line.Line.{most_line, fact_line, differ_line}
 use Rattle.refutation_tree.specs.Shapes.{admits}
 use Rattle.refutation_tree.specs.RuleLine.{names_concepts}
 use Rattle.refutation_tree.specs.RefutationLists.{RefutationLists}
@@ -55,7 +59,8 @@ axioms_numbered count ns = if are_axiom_numbers count ns then Some (axiom_set co
 -- `axioms K ..`
 abbrev pub axioms_line : ℕ → List (List ℕ) → Option Limited
 axioms_line count [] = None
-axioms_line count (k ∷ ws) = if bytes_eq k (codes "axioms") then option_and_then (axioms_numbered count) (numbers_in ws) else None
+axioms_line count (k ∷ ws) =
+    if bytes_eq k (codes "axioms") then option_and_then (axioms_numbered count) (numbers_in ws) else None
 
 -- ---- concept lines
 
@@ -66,13 +71,17 @@ class_in o _ = None
 
 -- a listed role and a number
 abbrev pub restriction_in : Listed → List (List ℕ) → Option Restriction
-restriction_in o (r ∷ c ∷ []) = option_and_then (λ role. option_map (λ filler. record { role = role; filler = filler }) (number_in c)) (name_place o.roles r)
+restriction_in o (r ∷ c ∷ []) =
+    option_and_then (λ role. option_map (λ filler. record { role = role; filler = filler }) (number_in c))
+    (name_place o.roles r)
 restriction_in o _ = None
 
 -- a cardinality before them
 abbrev pub counted_in : Listed → List (List ℕ) → Option Counted
 counted_in o [] = None
-counted_in o (n ∷ ws) = option_and_then (λ count. option_map (λ rest. record { count = count; rest = rest }) (restriction_in o ws)) (number_in n)
+counted_in o (n ∷ ws) =
+    option_and_then (λ count. option_map (λ rest. record { count = count; rest = rest }) (restriction_in o ws))
+    (number_in n)
 
 -- nothing more
 abbrev pub when_none : {A : Type 0} → List (List ℕ) → A → Option A
@@ -100,7 +109,8 @@ shape_in o kind ws = short_shape o kind ws
 
 -- `concept K KIND ..`, where K is the number n
 abbrev pub concept_in : Listed → ℕ → List (List ℕ) → Option Shape
-concept_in o n (c ∷ k ∷ kind ∷ ws) = if is_number n (number_in k) then option_and_then (λ s. shape_in o s ws) (shape_kind kind) else None
+concept_in o n (c ∷ k ∷ kind ∷ ws) =
+    if is_number n (number_in k) then option_and_then (λ s. shape_in o s ws) (shape_kind kind) else None
 concept_in o n _ = None
 
 -- the concept after a count of others
@@ -162,7 +172,9 @@ numbered_line kind ns = short_line kind ns
 -- `X Y ROLE C`
 abbrev pub carry_in : Listed → List (List ℕ) → Option Line
 carry_in o (x ∷ y ∷ ws) =
-    option_and_then (λ m. option_and_then (λ n. option_map (λ q. carry_line m n q.role q.filler) (restriction_in o ws)) (number_in y)) (number_in x)
+    option_and_then
+    (λ m. option_and_then (λ n. option_map (λ q. carry_line m n q.role q.filler) (restriction_in o ws)) (number_in y))
+    (number_in x)
 carry_in o _ = None
 
 abbrev pub rule_in : Listed → LineKind → List (List ℕ) → Option Line

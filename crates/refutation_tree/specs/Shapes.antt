@@ -1,9 +1,11 @@
 -- Shapes that are numbered from 1. Number 0 stands for top, and no shape has it as a part.
-use Rattle.std.specs.Prelude.{◌==◌, not, false, ◌≡◌, ℕ, ◌+◌, ◌<◌, ◌≤◌, nat_lt, ◌&&◌, Bool, true, List, [], ◌∷◌, length, take, slice_index_or}
+use Rattle.std.specs.Prelude.{◌==◌, not, false, ◌≡◌, ℕ, ◌+◌, ◌<◌, ◌≤◌, nat_lt, ◌&&◌, Bool, true, List, [], ◌∷◌, length}
+use Rattle.std.specs.Prelude.{take, slice_index_or}
 use Rattle.std.specs.List.{list_all, list_any}
 use Rattle.std.specs.Str.{bytes_eq}
 use Rattle.calculus_specs.specs.Shape.{Shape, shape_of, has_parts_below, is_normal}
-use Rattle.calculus_specs.specs.Shape.Shape.{top, bottom, name, not_name, intersection, union, some_of, all_of, at_least, at_most}
+use Rattle.calculus_specs.specs.Shape.Shape.{top, bottom, name, not_name, intersection, union, some_of, all_of}
+use Rattle.calculus_specs.specs.Shape.Shape.{at_least, at_most}
 
 -- the shape of a number from 1
 abbrev pub shape_at : List Shape → ℕ → Shape
@@ -54,7 +56,8 @@ admits shapes s = fits shapes s && not (is_among_shapes shapes s)
 -- each shape has its parts among the shapes before it and is normal, and none stands twice
 pub record AreShapes (shapes : List Shape) : Type 0 where
   pub fit : (n : ℕ) → n < length shapes → fits (take n shapes) (slice_index_or shapes n top) ≡ true
-  pub are_distinct : (n m : ℕ) → n < length shapes → m < length shapes → slice_index_or shapes n top ≡ slice_index_or shapes m top → n ≡ m
+  pub are_distinct : (n m : ℕ) → n < length shapes → m < length shapes
+      → slice_index_or shapes n top ≡ slice_index_or shapes m top → n ≡ m
 
 -- after top each shape is normal, and its parts stand below it
 abbrev pub ShapesAreNormal : Type 0

@@ -1,14 +1,18 @@
 -- The text that is written of a refutation.
-use Rattle.std.specs.Prelude.{ℕ, ◌+◌, Bool, true, ◌&&◌, List, [], ◌∷◌, ◌++◌, map, length, codes, decimal, nat_lt, slice_index_or}
+use Rattle.std.specs.Prelude.{ℕ, ◌+◌, Bool, true, ◌&&◌, List, [], ◌∷◌, ◌++◌, map, length, codes, decimal, nat_lt}
+use Rattle.std.specs.Prelude.{slice_index_or}
 use Rattle.std.specs.List.{list_all}
 use Rattle.axiom_sets.specs.Sets.{Limited, member_list}
 use Rattle.certificate_lines.specs.Names.{name_word}
 use Rattle.certificate_lines.specs.Written.{spaced, line_of, fed, text_of}
 use Rattle.shq_terms.specs.Listed.{Listed}
 use Rattle.calculus_specs.specs.Shape.{Shape}
-use Rattle.calculus_specs.specs.Shape.Shape.{top, bottom, name, not_name, intersection, union, some_of, all_of, at_least, at_most}
+use Rattle.calculus_specs.specs.Shape.Shape.{top, bottom, name, not_name, intersection, union, some_of, all_of}
+use Rattle.calculus_specs.specs.Shape.Shape.{at_least, at_most}
 use Rattle.calculus_specs.specs.Line.{Line}
-use Rattle.calculus_specs.specs.Line.Line.{start_line, and_line, or_line, all_line, carry_line, row_line, range_line, some_line, least_line, choose_line, pair_line, bottom_line, clash_line, most_line, fact_line, differ_line}
+use Rattle.calculus_specs.specs.Line.Line.{start_line, and_line, or_line, all_line, carry_line, row_line, range_line}
+use Rattle.calculus_specs.specs.Line.Line.{some_line, least_line, choose_line, pair_line, bottom_line, clash_line}
+use Rattle.calculus_specs.specs.Line.Line.{most_line, fact_line, differ_line}
 use Rattle.refutation_tree.specs.RefutationLists.{RefutationLists}
 
 -- the name of a number between brackets
@@ -131,7 +135,9 @@ abbrev pub axioms_text : Limited → List ℕ
 axioms_text axioms = line_of (codes "axioms") (map decimal (member_list axioms))
 
 abbrev pub refutation_lines : Listed → RefutationLists → List (List ℕ)
-refutation_lines o k = codes "refutation" ∷ axioms_text k.axioms ∷ concept_lines o 1 k.shapes ++ map (rule_text o) k.lines ++ codes "end" ∷ []
+refutation_lines o k =
+    codes "refutation" ∷ axioms_text k.axioms ∷ concept_lines o 1 k.shapes ++ map (rule_text o) k.lines
+    ++ codes "end" ∷ []
 
 -- the line `refutation`, the axioms, the concepts, the rule lines and the line `end`
 abbrev pub refutation_text : Listed → RefutationLists → List ℕ

@@ -1,7 +1,8 @@
 // The fields of a line: numbers, names, and what is made of them.
 ghost use Rattle.std.specs.Prelude.{◌≡◌, map, Some, IfOk, IfErr};
 ghost use Rattle.certificate_lines.specs.Lines.{bytes_of};
-ghost use Rattle.refutation_tree.specs.RefutationText.{numbers_in, class_in, restriction_in, counted_in, one_of, two_of, three_of};
+ghost use Rattle.refutation_tree.specs.RefutationText.{numbers_in, class_in, restriction_in, counted_in, one_of};
+ghost use Rattle.refutation_tree.specs.RefutationText.{two_of, three_of};
 ghost use Rattle.certificate_lines.specs.Names.{name_place};
 ghost use Rattle.certificate_lines.specs.Malformed.{IsFaultAt};
 

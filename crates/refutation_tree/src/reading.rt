@@ -1,12 +1,16 @@
 // The text of a refutation is read.
-ghost use Rattle.std.specs.Prelude.{◌≡◌, ◌<◌, ◌≤◌, ◌+◌, ◌^◌, nat_lt, nat_le, ◌&&◌, IsTrue, [], map, length, All, Some, IfOk, IfErr, OnOk, IfSome, codes, option_map};
+ghost use Rattle.std.specs.Prelude.{◌≡◌, ◌<◌, ◌≤◌, ◌+◌, ◌^◌, nat_lt, nat_le, ◌&&◌, IsTrue, [], map, length, All, Some};
+ghost use Rattle.std.specs.Prelude.{IfOk, IfErr, OnOk, IfSome, codes, option_map};
 ghost use Rattle.std.specs.List.{list_all};
 ghost use Rattle.certificate_lines.specs.Lines.{bytes_of, words};
 ghost use Rattle.certificate_lines.specs.Malformed.{IsFaultOf, IsFaultAt, IsFaultOfLine};
 ghost use Rattle.calculus_specs.specs.Rows.{is_ascending};
 ghost use Rattle.shq_nnf.specs.Shapes.{form_of_owned};
 ghost use Rattle.refutation_tree.specs.RuleLine.{line_of};
-ghost use Rattle.refutation_tree.specs.RefutationText.{are_axiom_numbers, axiom_set, axioms_numbered, axioms_line, with_shape, with_line, concept_added, rule_added, is_concept_line, refutation_line_read, refutation_body, refutation_of};
+ghost use Rattle.refutation_tree.specs.RefutationText.{are_axiom_numbers, axiom_set, axioms_numbered, axioms_line};
+ghost use Rattle.refutation_tree.specs.RefutationText.{with_shape, with_line, concept_added, rule_added};
+ghost use Rattle.refutation_tree.specs.RefutationText.{is_concept_line, refutation_line_read, refutation_body};
+ghost use Rattle.refutation_tree.specs.RefutationText.{refutation_of};
 ghost use Rattle.refutation_tree.specs.ReadBack.{IsWritable};
 ghost use Rattle.refutation_tree.specs.Malformed.{malformed_refutation_line, malformed_in_refutation};
 

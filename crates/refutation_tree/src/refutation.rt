@@ -39,7 +39,11 @@ impl Model for Refutation {
 
     ghost coded = { Prim.hlevel (codes, limited_code) };
 
-    ghost view = { λ r. record { axioms = r.axioms; shapes = map form_of_owned r.shapes.keys; lines = map line_of r.lines.items } };
+    ghost view = { λ r. record {
+      axioms = r.axioms;
+      shapes = map form_of_owned r.shapes.keys;
+      lines = map line_of r.lines.items;
+    } };
 
     ghost invariant = { λ r. IsKept (map form_of_owned r.shapes.keys) (map line_of r.lines.items) };
 }

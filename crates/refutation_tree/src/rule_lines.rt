@@ -2,7 +2,8 @@
 ghost use Rattle.std.specs.Prelude.{◌≡◌, map, Some, IfOk, IfErr, option_map, length};
 ghost use Rattle.certificate_lines.specs.Lines.{bytes_of};
 ghost use Rattle.refutation_tree.specs.RuleLine.{line_of};
-ghost use Rattle.refutation_tree.specs.RefutationText.{start_in, short_line, row_in, most_in, numbered_line, carry_in, rule_in, rule_line};
+ghost use Rattle.refutation_tree.specs.RefutationText.{start_in, short_line, row_in, most_in, numbered_line, carry_in};
+ghost use Rattle.refutation_tree.specs.RefutationText.{rule_in, rule_line};
 ghost use Rattle.certificate_lines.specs.Malformed.{IsFaultAt};
 
 use crate::fields::{one_of, read_numbers, restriction_in, three_of, two_of};

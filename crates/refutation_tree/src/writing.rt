@@ -1,10 +1,14 @@
 // The text of a refutation, as it is written.
-ghost use Rattle.std.specs.Prelude.{◌≡◌, ◌+◌, ◌<◌, ◌++◌, ◌∷◌, [], codes, decimal, length, map, IsTrue, IfOk, OnOk, OnErr};
+ghost use Rattle.std.specs.Prelude.{◌≡◌, ◌+◌, ◌<◌, ◌++◌, ◌∷◌, [], codes, decimal, length, map, IsTrue, IfOk, OnOk};
+ghost use Rattle.std.specs.Prelude.{OnErr};
 ghost use Rattle.std.specs.List.{list_all};
 ghost use Rattle.shq_nnf.specs.Shapes.{form_of};
 ghost use Rattle.certificate_lines.specs.Written.{spaced, fed, line_of};
 ghost use Rattle.refutation_tree.specs.RuleLine.{line_of as plain_line};
-ghost use Rattle.refutation_tree.specs.Written.{class_words, role_words, restriction_text, cardinality_text, shape_words, concept_row, concepts_text, rule_text, rules_text, axioms_text, refutation_text, shape_is_listed, line_is_listed, names_are_listed};
+ghost use Rattle.refutation_tree.specs.Written.{class_words, role_words, restriction_text, cardinality_text};
+ghost use Rattle.refutation_tree.specs.Written.{shape_words, concept_row, concepts_text, rule_text, rules_text};
+ghost use Rattle.refutation_tree.specs.Written.{axioms_text, refutation_text, shape_is_listed, line_is_listed};
+ghost use Rattle.refutation_tree.specs.Written.{names_are_listed};
 
 use crate::{Line, NoMemory, Refutation};
 use axiom_sets::AxiomSet;

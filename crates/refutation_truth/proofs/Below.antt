@@ -1,5 +1,6 @@
 -- Tests and counts of the numbers below a bound.
-use Rattle.std.proofs.Common.{◌≡◌, ℕ, zero, suc, ◌+◌, ◌<◌, ◌≤◌, ◌&&◌, Bool, true, false, not, cond, eqb, refl, ap, ◌∙◌, sym, subst, arith, inl, inr}
+use Rattle.std.proofs.Common.{◌≡◌, ℕ, zero, suc, ◌+◌, ◌<◌, ◌≤◌, ◌&&◌, Bool, true, false, not, cond, eqb, refl, ap, ◌∙◌}
+use Rattle.std.proofs.Common.{sym, subst, arith, inl, inr}
 use Rattle.std.proofs.lemmas.Bool.{cases_eq, and_parts, and_from, and_right, eq-eqb, ne_eqb}
 use Rattle.std.proofs.Math.Bool.{and-true}
 use Rattle.shq_nnf.specs.Below.{all_below, count_below}
@@ -17,7 +18,8 @@ all_at (suc n) p y h lt =
 
 pub all_from : (n : ℕ) (p : ℕ → Bool) → ((y : ℕ) → y < n → p y ≡ true) → all_below n p ≡ true
 all_from zero p each = refl
-all_from (suc n) p each = and_from (all_below n p) (p n) (all_from n p (λ y lt. each y (omega arith))) (each n (omega arith))
+all_from (suc n) p each =
+    and_from (all_below n p) (p n) (all_from n p (λ y lt. each y (omega arith))) (each n (omega arith))
 
 -- ---- so many different numbers that pass
 
@@ -56,12 +58,23 @@ one_more m p n h q = record {
 }
 
 as_many : (m : ℕ) (p : ℕ → Bool) (n : ℕ) → Picks m p n → Picks (suc m) p n
-as_many m p n q = record { pick = q.pick; below = λ j lt. let less = q.below j lt in omega arith; passes = q.passes; different = q.different }
+as_many m p n q = record {
+  pick = q.pick;
+  below = λ j lt. let less = q.below j lt in omega arith;
+  passes = q.passes;
+  different = q.different;
+}
 
 none_picked : (m : ℕ) (p : ℕ → Bool) → Picks m p 0
-none_picked m p = record { pick = λ j. j; below = λ j lt. absurd (omega arith); passes = λ j lt. absurd (omega arith); different = λ j k lt less same. omega arith }
+none_picked m p = record {
+  pick = λ j. j;
+  below = λ j lt. absurd (omega arith);
+  passes = λ j lt. absurd (omega arith);
+  different = λ j k lt less same. omega arith;
+}
 
-picks_by : (m : ℕ) (p : ℕ → Bool) (n : ℕ) (b : Bool) → p m ≡ b → n ≤ count_below m p + cond b 1 0 → ((k : ℕ) → k ≤ count_below m p → Picks m p k) → Picks (suc m) p n
+picks_by : (m : ℕ) (p : ℕ → Bool) (n : ℕ) (b : Bool) → p m ≡ b → n ≤ count_below m p + cond b 1 0
+    → ((k : ℕ) → k ≤ count_below m p → Picks m p k) → Picks (suc m) p n
 picks_by m p n false e le rest = as_many m p n (rest n (omega arith))
 picks_by m p zero true e le rest = none_picked (suc m) p
 picks_by m p (suc n) true e le rest = one_more m p n e (rest n (omega arith))
@@ -99,11 +112,13 @@ count_but (suc m) p v lt h =
           let here = subst (λ (k : ℕ). p k ≡ true) e h in
           let gone = itself_fails p v m (sym e) in
           let plus : count_below (suc m) p ≡ count_below m (but p v) + 1 = λ i. rest i + cond (here i) 1 0 in
-          let none : count_below (suc m) (but p v) ≡ count_below m (but p v) + 0 = ap (λ (b : Bool). count_below m (but p v) + cond b 1 0) gone in
+          let none : count_below (suc m) (but p v) ≡ count_below m (but p v) + 0 =
+          ap (λ (b : Bool). count_below m (but p v) + cond b 1 0) gone in
           omega (arith, plus, none)
       | inr ne ↦
           let rest = count_but m p v (omega arith) h in
           let here = other_passes p v m (λ same. ne (sym same)) in
-          let more : count_below (suc m) (but p v) ≡ count_below m (but p v) + cond (p m) 1 0 = ap (λ (b : Bool). count_below m (but p v) + cond b 1 0) here in
+          let more : count_below (suc m) (but p v) ≡ count_below m (but p v) + cond (p m) 1 0 =
+          ap (λ (b : Bool). count_below m (but p v) + cond b 1 0) here in
           omega (arith, rest, more)
     ]

@@ -1,11 +1,14 @@
 -- Without individuals a query asks what it asked before there were any.
-use Rattle.std.proofs.Common.{◌≡◌, ℕ, zero, suc, ◌-◌, Bool, true, false, not, List, [], ◌∷◌, Option, None, refl, ap, ◌∙◌, sym, subst}
+use Rattle.std.proofs.Common.{◌≡◌, ℕ, zero, suc, ◌-◌, Bool, true, false, not, List, [], ◌∷◌, Option, None, refl, ap}
+use Rattle.std.proofs.Common.{◌∙◌, sym, subst}
 use Rattle.std.specs.Prelude.{◌==◌, slice_get, if◌then◌else◌}
 use Rattle.std.specs.List.{list_all}
 use Rattle.std.proofs.lemmas.Bool.{and_parts}
 use Rattle.shq_nnf.specs.Concept.{Concept}
 use Rattle.shq_nnf.specs.Axiom.{Axiom}
-use Rattle.shq_nnf.specs.Axiom.TheVariants.{SubClassOf, EquivalentClasses, DisjointClasses, DisjointUnion, SubRole, EquivalentRoles, Domain, Range, Functional, Transitive, Member, Pair, SameAll, Different}
+use Rattle.shq_nnf.specs.Axiom.TheVariants.{SubClassOf, EquivalentClasses, DisjointClasses, DisjointUnion, SubRole}
+use Rattle.shq_nnf.specs.Axiom.TheVariants.{EquivalentRoles, Domain, Range, Functional, Transitive, Member, Pair}
+use Rattle.shq_nnf.specs.Axiom.TheVariants.{SameAll, Different}
 use Rattle.shq_nnf.specs.Numbered.{Numbered}
 use Rattle.role_box.specs.On.TheVariants.{Any}
 use Rattle.role_box.specs.Query.{Query}
@@ -45,20 +48,29 @@ either_is_none true = refl
 either_is_none false = refl
 
 no_fact : (a : Axiom) (place : ℕ) → not (is_assertion a) ≡ true → fact_at a place ≡ None
-no_fact a place h = ap (λ (fs : List (Fact Concept)). if place == 0 then None else slice_get fs (place - 1)) (no_facts a h) ∙ either_is_none (place == 0)
+no_fact a place h =
+    ap (λ (fs : List (Fact Concept)). if place == 0 then None else slice_get fs (place - 1)) (no_facts a h)
+    ∙ either_is_none (place == 0)
 
 module _ (place : ℕ) where
-  none_at : (axioms : List Numbered) (n : ℕ) → list_all (λ m. not (is_assertion m.axiom)) axioms ≡ true → fact_in (slice_get axioms n) place ≡ None
+  none_at : (axioms : List Numbered) (n : ℕ) → list_all (λ m. not (is_assertion m.axiom)) axioms ≡ true
+      → fact_in (slice_get axioms n) place ≡ None
   none_at [] n h = refl
-  none_at (a ∷ axioms) zero h = no_fact a.axiom place (and_parts (not (is_assertion a.axiom)) (list_all (λ m. not (is_assertion m.axiom)) axioms) h).0
-  none_at (a ∷ axioms) (suc n) h = none_at axioms n (and_parts (not (is_assertion a.axiom)) (list_all (λ m. not (is_assertion m.axiom)) axioms) h).1
+  none_at (a ∷ axioms) zero h =
+      no_fact a.axiom place
+      (and_parts (not (is_assertion a.axiom)) (list_all (λ m. not (is_assertion m.axiom)) axioms) h).0
+  none_at (a ∷ axioms) (suc n) h =
+      none_at axioms n (and_parts (not (is_assertion a.axiom)) (list_all (λ m. not (is_assertion m.axiom)) axioms) h).1
 
-  none_given : (axioms : List Numbered) (ks : List ℕ) (a : ℕ) → list_all (λ m. not (is_assertion m.axiom)) axioms ≡ true → fact_of_axiom 0 axioms ks a place ≡ None
+  none_given : (axioms : List Numbered) (ks : List ℕ) (a : ℕ) → list_all (λ m. not (is_assertion m.axiom)) axioms ≡ true
+      → fact_of_axiom 0 axioms ks a place ≡ None
   none_given axioms ks a h =
-      ap (λ (o : Option (Fact Concept)). if is_among ks a then listed_fact 0 o else None) (none_at axioms (a - 1) h) ∙ either_is_none (is_among ks a)
+      ap (λ (o : Option (Fact Concept)). if is_among ks a then listed_fact 0 o else None) (none_at axioms (a - 1) h)
+      ∙ either_is_none (is_among ks a)
 
 -- the question of a query is the one without individuals
-same_question : (axioms : List Numbered) (ks : List ℕ) (q : Query) → list_all (λ n. not (is_assertion n.axiom)) axioms ≡ true → q.on ≡ Any
+same_question : (axioms : List Numbered) (ks : List ℕ) (q : Query)
+    → list_all (λ n. not (is_assertion n.axiom)) axioms ≡ true → q.on ≡ Any
     → question_of 0 axioms ks q ≡ on_any (theory_of axioms ks) q.sub q.sup
 same_question axioms ks q h any =
     let node : node_in_question 0 q.on ≡ 0 = ap (node_in_question 0) any in
@@ -71,12 +83,22 @@ same_question axioms ks q h any =
       fact_of = λ a p. none_given p axioms ks a h i;
     }
 
-alike : (one other : Question) (shapes : List Shape) (lines : List Line) → one ≡ other → AreJudgedAlike one other shapes lines
+alike : (one other : Question) (shapes : List Shape) (lines : List Line) → one ≡ other
+    → AreJudgedAlike one other shapes lines
 alike one other shapes lines e = record {
   left = λ branches. ap (λ (q : Question). open_after_all q (concept_at shapes) branches lines) e;
-  refutes = (subst (λ (q : Question). IsRefutation q shapes lines) e, subst (λ (q : Question). IsRefutation q shapes lines) (sym e));
-  breaks = λ place. (subst (λ (q : Question). IsBrokenAt q (concept_at shapes) lines place) e, subst (λ (q : Question). IsBrokenAt q (concept_at shapes) lines place) (sym e));
+  refutes = (
+    subst (λ (q : Question). IsRefutation q shapes lines) e,
+    subst (λ (q : Question). IsRefutation q shapes lines) (sym e),
+  );
+  breaks =
+      λ place. (
+        subst (λ (q : Question). IsBrokenAt q (concept_at shapes) lines place) e,
+        subst (λ (q : Question). IsBrokenAt q (concept_at shapes) lines place) (sym e),
+      );
 }
 
 pub old_stand : OldRefutationsStand
-old_stand axioms ks q shapes lines h any = alike (question_of 0 axioms ks q) (on_any (theory_of axioms ks) q.sub q.sup) shapes lines (same_question axioms ks q h any)
+old_stand axioms ks q shapes lines h any =
+    alike (question_of 0 axioms ks q) (on_any (theory_of axioms ks) q.sub q.sup) shapes lines
+    (same_question axioms ks q h any)

@@ -1,5 +1,6 @@
 -- A question whose node is no first one is not even begun.
-use Rattle.std.proofs.Common.{◌≡◌, ℕ, ◌+◌, ◌≤◌, ◌&&◌, Bool, List, [], ◌∷◌, Option, Some, None, refl, ap, ◌∙◌, subst, arith}
+use Rattle.std.proofs.Common.{◌≡◌, ℕ, ◌+◌, ◌≤◌, ◌&&◌, Bool, List, [], ◌∷◌, Option, Some, None, refl, ap, ◌∙◌, subst}
+use Rattle.std.proofs.Common.{arith}
 use Rattle.std.specs.Prelude.{if◌then◌else◌}
 use Rattle.std.specs.List.{list_all}
 use Rattle.std.proofs.lemmas.Bool.{le-ltb}
@@ -12,21 +13,28 @@ use Rattle.calculus_specs.specs.declared.facts.Fact.{Fact}
 use Rattle.calculus_specs.specs.declared.facts.Fact.TheVariants.{Has}
 use Rattle.calculus_specs.specs.State.{has_tree}
 use Rattle.calculus_specs.specs.Line.{Line, Tree, node}
-use Rattle.calculus_specs.specs.Line.Line.{start_line, and_line, or_line, all_line, carry_line, row_line, range_line, some_line, least_line, choose_line, pair_line, bottom_line, clash_line, most_line, fact_line, differ_line}
-use Rattle.calculus_specs.specs.Rules.{Question, Known, nothing_known, when, with_facts, at_concept, and_children, or_children, all_children, carry_children, row_children, range_children, some_children, least_children, choose_children, clash_children, most_children, fact_children, started, children_of}
+use Rattle.calculus_specs.specs.Line.Line.{start_line, and_line, or_line, all_line, carry_line, row_line, range_line}
+use Rattle.calculus_specs.specs.Line.Line.{some_line, least_line, choose_line, pair_line, bottom_line, clash_line}
+use Rattle.calculus_specs.specs.Line.Line.{most_line, fact_line, differ_line}
+use Rattle.calculus_specs.specs.Rules.{Question, Known, nothing_known, when, with_facts, at_concept, and_children}
+use Rattle.calculus_specs.specs.Rules.{or_children, all_children, carry_children, row_children, range_children}
+use Rattle.calculus_specs.specs.Rules.{some_children, least_children, choose_children, clash_children, most_children}
+use Rattle.calculus_specs.specs.Rules.{fact_children, started, children_of}
 use Rattle.calculus_specs.specs.Valid.{concept_at, AreShut, IsShut}
 use Rattle.refutation_truth.specs.Theory.{node_in_question, question_of}
 use Rattle.refutation_truth.specs.Laws.{UnlistedAreNotRefuted}
 
 -- ---- where nothing is known no line but `start` has its premises
 
-unknown_concept : (x : ℕ) (o : Option Concept) (answer : Concept → Option (List Known)) → at_concept nothing_known x o answer ≡ None
+unknown_concept : (x : ℕ) (o : Option Concept) (answer : Concept → Option (List Known))
+    → at_concept nothing_known x o answer ≡ None
 unknown_concept x None answer = refl
 unknown_concept x (Some c) answer = refl
 
 unknown_row : (x : ℕ) (positions : List ℕ) (o : Option Part) → row_children nothing_known x positions o ≡ None
 unknown_row x positions (Some (inclusion cs d)) =
-    ap (λ (b : Bool). when (b && list_all (λ i. has_tree [] x (conjunct_at cs i)) positions) (Some (with_facts nothing_known (Has x (row_concept cs d positions) ∷ []) ∷ [])))
+    ap (λ (b : Bool). when (b && list_all (λ i. has_tree [] x (conjunct_at cs i)) positions)
+    (Some (with_facts nothing_known (Has x (row_concept cs d positions) ∷ []) ∷ [])))
     (and-false (are_name_positions cs positions))
 unknown_row x positions (Some (range s d)) = refl
 unknown_row x positions None = refl

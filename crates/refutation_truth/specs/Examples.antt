@@ -2,7 +2,8 @@
 use Rattle.std.specs.Prelude.{◌≡◌, ℕ, true, false, List, [], ◌∷◌, Option, Some, None, refl}
 use Rattle.shq_nnf.specs.Concept.{Concept, top, name, complement}
 use Rattle.shq_nnf.specs.Axiom.{Axiom}
-use Rattle.shq_nnf.specs.Axiom.TheVariants.{SubClassOf, DisjointClasses, SubRole, Transitive, Range, Member, SameAll, Different}
+use Rattle.shq_nnf.specs.Axiom.TheVariants.{SubClassOf, DisjointClasses, SubRole, Transitive, Range, Member, SameAll}
+use Rattle.shq_nnf.specs.Axiom.TheVariants.{Different}
 use Rattle.shq_nnf.specs.Numbered.{Numbered}
 use Rattle.role_box.specs.On.{On}
 use Rattle.role_box.specs.On.TheVariants.{Any, Individual}
@@ -33,7 +34,9 @@ on_line_one x = record { «axiom» = x; line = 1 }
 
 -- 1: a in b; 2: role 0 is below role 1; 3: a, b and c are disjoint; 4: role 1 is transitive; 5: role 1 leads into c
 abbrev five : List Numbered
-five = on_line_one (SubClassOf a b) ∷ on_line_one (SubRole 0 1) ∷ on_line_one (DisjointClasses (a ∷ b ∷ c ∷ [])) ∷ on_line_one (Transitive 1) ∷ on_line_one (Range 1 c) ∷ []
+five =
+    on_line_one (SubClassOf a b) ∷ on_line_one (SubRole 0 1) ∷ on_line_one (DisjointClasses (a ∷ b ∷ c ∷ []))
+    ∷ on_line_one (Transitive 1) ∷ on_line_one (Range 1 c) ∷ []
 
 abbrev named : Theory
 named = theory_of five (1 ∷ 2 ∷ 3 ∷ 5 ∷ [])
@@ -94,10 +97,16 @@ abbrev shapes : List Shape
 shapes = name_shape 11 ∷ []
 
 pub refutes_by_first : IsRefutation (on_any (theory_of five (1 ∷ [])) a b) shapes by_first
-refutes_by_first = record { tree = node start_line (tree (node (row_line 0 1 1 (1 ∷ [])) (tree (node (clash_line 0 1) no_trees) no_trees)) no_trees); in_preorder = refl; is_shut = ((tt, tt), tt) }
+refutes_by_first = record {
+  tree =
+      node start_line (tree (node (row_line 0 1 1 (1 ∷ [])) (tree (node (clash_line 0 1) no_trees) no_trees)) no_trees);
+  in_preorder = refl;
+  is_shut = ((tt, tt), tt);
+}
 
 -- and none where the first axiom is not named
-pub unnamed_refutes_nothing : open_after_all (on_any (theory_of five (2 ∷ 3 ∷ [])) a b) (concept_at shapes) (nothing_known ∷ []) by_first
+pub unnamed_refutes_nothing : open_after_all (on_any (theory_of five (2 ∷ 3 ∷ [])) a b) (concept_at shapes)
+    (nothing_known ∷ []) by_first
     ≡ None
 unnamed_refutes_nothing = refl
 
@@ -144,7 +153,9 @@ pub refutes_by_member : IsRefutation member_in_b shapes by_member
 refutes_by_member = record {
   tree =
       node start_line
-      (tree (node (fact_line 1 1) (tree (node (row_line 0 2 1 (1 ∷ [])) (tree (node (clash_line 0 1) no_trees) no_trees)) no_trees)) no_trees);
+      (tree (node (fact_line 1 1)
+      (tree (node (row_line 0 2 1 (1 ∷ [])) (tree (node (clash_line 0 1) no_trees) no_trees)) no_trees))
+      no_trees);
   in_preorder = refl;
   is_shut = (((tt, tt), tt), tt);
 }
@@ -156,7 +167,8 @@ no_second_fact = refl
 pub no_fact_at_zero : left_open member_in_b (start_line ∷ fact_line 1 0 ∷ []) ≡ None
 no_fact_at_zero = refl
 
-pub no_unnamed_fact : left_open (question_of 1 asserted (2 ∷ []) (in_b (Individual 0))) (start_line ∷ fact_line 1 1 ∷ [])
+pub no_unnamed_fact : left_open (question_of 1 asserted (2 ∷ []) (in_b (Individual 0)))
+    (start_line ∷ fact_line 1 1 ∷ [])
     ≡ None
 no_unnamed_fact = refl
 
@@ -185,11 +197,14 @@ any_element_stays = refl
 abbrev same_and_different : Question
 same_and_different = question_of 3 asserted (3 ∷ 4 ∷ []) (in_b Any)
 
-pub joined_are_not_different : left_open same_and_different (start_line ∷ fact_line 3 1 ∷ fact_line 3 2 ∷ fact_line 4 2 ∷ differ_line 0 2 ∷ [])
+pub joined_are_not_different : left_open same_and_different
+    (start_line ∷ fact_line 3 1 ∷ fact_line 3 2 ∷ fact_line 4 2 ∷ differ_line 0 2 ∷ [])
     ≡ Some []
 joined_are_not_different = refl
 
-pub joined_by_both_facts : left_open same_and_different (start_line ∷ fact_line 3 1 ∷ fact_line 4 2 ∷ differ_line 0 2 ∷ []) ≡ None
+pub joined_by_both_facts : left_open same_and_different
+    (start_line ∷ fact_line 3 1 ∷ fact_line 4 2 ∷ differ_line 0 2 ∷ [])
+    ≡ None
 joined_by_both_facts = refl
 
 -- an individual that is different from itself refutes everything

@@ -17,15 +17,18 @@ use Rattle.role_box.specs.Steps.{Leads, IsTransitive}
 use Rattle.calculus_specs.specs.Line.{Line}
 use Rattle.calculus_specs.specs.Rules.{Question, on_any, Known}
 use Rattle.calculus_specs.specs.Valid.{concept_at, open_after_all, IsBrokenAt, IsRefutation}
-use Rattle.refutation_truth.specs.Theory.{named_axioms, all_axioms, theory_of, part_of_axiom, fact_in, fact_of_axiom, question_of}
+use Rattle.refutation_truth.specs.Theory.{named_axioms, all_axioms, theory_of, part_of_axiom, fact_in, fact_of_axiom}
+use Rattle.refutation_truth.specs.Theory.{question_of}
 
 -- a number of an axiom and one of a part find the part with that number in the axiom, if the axiom is named
 abbrev pub PartsAreNumbered : Type 0
-PartsAreNumbered = (axioms : List Numbered) (ks : List ℕ) (a p : ℕ) → part_at (theory_of axioms ks) a p ≡ part_of_axiom axioms ks a p
+PartsAreNumbered = (axioms : List Numbered) (ks : List ℕ) (a p : ℕ)
+    → part_at (theory_of axioms ks) a p ≡ part_of_axiom axioms ks a p
 
 -- the tests of roles answer by chains of the role axioms that are named
 abbrev pub TheoriesHaveRoles : Type 0
-TheoriesHaveRoles = (axioms : List Numbered) (ks : List ℕ) → HasRoles (theory_of axioms ks) (Leads (role_axioms axioms ks)) (IsTransitive (role_axioms axioms ks))
+TheoriesHaveRoles = (axioms : List Numbered) (ks : List ℕ)
+    → HasRoles (theory_of axioms ks) (Leads (role_axioms axioms ks)) (IsTransitive (role_axioms axioms ks))
 
 -- where all individuals that axioms name are listed, an axiom that is named gives all of its facts
 abbrev pub NamedAxiomsGiveFacts : Type 0

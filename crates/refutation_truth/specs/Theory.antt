@@ -1,5 +1,6 @@
 -- What the axioms of some numbers give to refutations. Numbers count from 1, and none is 0.
-use Rattle.std.specs.Prelude.{ℕ, ◌+◌, ◌-◌, ◌&&◌, nat_lt, nat_le, Bool, List, [], ◌∷◌, ◌++◌, map, length, Option, Some, None, slice_get, if◌then◌else◌}
+use Rattle.std.specs.Prelude.{ℕ, ◌+◌, ◌-◌, ◌&&◌, nat_lt, nat_le, Bool, List, [], ◌∷◌, ◌++◌, map, length, Option, Some}
+use Rattle.std.specs.Prelude.{None, slice_get, if◌then◌else◌}
 use Rattle.shq_nnf.specs.Concept.{Concept}
 use Rattle.shq_nnf.specs.Axiom.{Axiom}
 use Rattle.shq_nnf.specs.Numbered.{Numbered}
@@ -44,7 +45,8 @@ parts_at axioms k = parts_in (slice_get axioms (k - 1))
 -- parts of the axiom k, numbered from `first` on
 abbrev pub numbered_parts : ℕ → ℕ → List Part → List NumberedPart
 numbered_parts k first [] = []
-numbered_parts k first (q ∷ qs) = record { axiom_number = k; part_number = first; part = q } ∷ numbered_parts k (first + 1) qs
+numbered_parts k first (q ∷ qs) =
+    record { axiom_number = k; part_number = first; part = q } ∷ numbered_parts k (first + 1) qs
 
 abbrev pub named_parts : List Numbered → List ℕ → List NumberedPart
 named_parts axioms [] = []
@@ -60,7 +62,9 @@ theory_of axioms ks = record {
 
 -- the part of an axiom that has a number, where the axiom is among those of the numbers and has such a part
 abbrev pub part_of_axiom : List Numbered → List ℕ → ℕ → ℕ → Option Part
-part_of_axiom axioms ks a p = if is_among ks a && nat_le 1 p && nat_le p (length (parts_at axioms a)) then Some (part_in (parts_at axioms a) (p - 1)) else None
+part_of_axiom axioms ks a p =
+    if is_among ks a && nat_le 1 p && nat_le p (length (parts_at axioms a))
+    then Some (part_in (parts_at axioms a) (p - 1)) else None
 
 -- ---- the facts of the axioms of these numbers, and what a query asks
 

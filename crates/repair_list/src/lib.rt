@@ -11,7 +11,8 @@ ghost use Rattle.std.specs.List.{All};
 ghost use Rattle.pinpointing_specs.specs.Smallest.{IsHitAlone};
 ghost use Rattle.pinpointing_specs.specs.Order.{IsAscending};
 ghost use Rattle.set_questions.specs.InOrder.{HaveOneLimit};
-ghost use Rattle.repair_list.specs.Alone.{AreRepairs, FinishedRepairsAreAll, IsRepairAdded, NeedsAlone, HasAlone, HitsBeside};
+ghost use Rattle.repair_list.specs.Alone.{AreRepairs, FinishedRepairsAreAll, IsRepairAdded, NeedsAlone, HasAlone};
+ghost use Rattle.repair_list.specs.Alone.{HitsBeside};
 
 use axiom_sets::AxiomSet;
 pub use hitting_set_tree::{Found, enumerate};

@@ -1,5 +1,6 @@
 -- Roles of axioms are below the axioms' limit, and the test of paths is that of chains.
-use Rattle.std.proofs.Common.{◌≡◌, ℕ, zero, suc, ◌<◌, ◌≤◌, eqb, true, List, [], ◌∷◌, length, get_or, arith, inl, inr, subst, sym, refl}
+use Rattle.std.proofs.Common.{◌≡◌, ℕ, zero, suc, ◌<◌, ◌≤◌, eqb, true, List, [], ◌∷◌, length, get_or, arith, inl, inr}
+use Rattle.std.proofs.Common.{subst, sym, refl}
 use Rattle.std.proofs.lemmas.Bool.{or_cases, or_left, or_right, and_parts, eqb-true, eq-eqb, false≢true}
 use Rattle.calculus_specs.specs.Roles.{IsBelow, itself, by_step}
 use Rattle.role_box.specs.declared.role_axiom.RoleAxiom.{RoleAxiom}
@@ -55,10 +56,12 @@ one_chain axioms r s h =
       | inr l ↦ by_step r r s (itself r) l
     ]
 
-pub chain_of_bounded : (axioms : List RoleAxiom) (n r s : ℕ) → has_path (same_or_leads axioms) n r s ≡ true → IsBelow (Leads axioms) r s
+pub chain_of_bounded : (axioms : List RoleAxiom) (n r s : ℕ) → has_path (same_or_leads axioms) n r s ≡ true
+    → IsBelow (Leads axioms) r s
 chain_of_bounded axioms n r s h = chain_of_path (same_or_leads axioms) (Leads axioms) (one_chain axioms) n r s h
 
-pub bounded_of_chain : (axioms : List RoleAxiom) (n : ℕ) → role_limit axioms ≤ n → (r s : ℕ) → IsBelow (Leads axioms) r s → has_path (same_or_leads axioms) n r s ≡ true
+pub bounded_of_chain : (axioms : List RoleAxiom) (n : ℕ) → role_limit axioms ≤ n → (r s : ℕ)
+    → IsBelow (Leads axioms) r s → has_path (same_or_leads axioms) n r s ≡ true
 bounded_of_chain axioms n le r s b =
     path_of_chain (same_or_leads axioms) (Leads axioms) n
     (λ x. or_left (eqb x x) (leads axioms x x) (eq-eqb x x refl))
@@ -67,10 +70,12 @@ bounded_of_chain axioms n le r s b =
 
 pub test_is_below : TestIsBelow
 unfolding is_below
-test_is_below axioms r s = (chain_of_bounded axioms (role_limit axioms) r s, bounded_of_chain axioms (role_limit axioms) (omega arith) r s)
+test_is_below axioms r s =
+    (chain_of_bounded axioms (role_limit axioms) r s, bounded_of_chain axioms (role_limit axioms) (omega arith) r s)
 
 -- a bound above the limit finds the same paths
-pub is_below-bounded : (axioms : List RoleAxiom) (n : ℕ) → role_limit axioms ≤ n → (r s : ℕ) → is_below axioms r s ≡ has_path (same_or_leads axioms) n r s
+pub is_below-bounded : (axioms : List RoleAxiom) (n : ℕ) → role_limit axioms ≤ n → (r s : ℕ)
+    → is_below axioms r s ≡ has_path (same_or_leads axioms) n r s
 is_below-bounded axioms n le r s =
     same_truth (is_below axioms r s) (has_path (same_or_leads axioms) n r s)
     (λ h. bounded_of_chain axioms n le r s ((test_is_below axioms r s).0 h))
@@ -83,10 +88,13 @@ get_or_limit [] k lt = absurd (omega arith)
 get_or_limit (r ∷ rs) zero lt = omega arith
 get_or_limit (r ∷ rs) (suc k) lt = let within = get_or_limit rs k (omega arith) in omega arith
 
-pub get_or_role_limit : (axioms : List RoleAxiom) (k : ℕ) (d : RoleAxiom) → k < length axioms → axiom_limit (get_or axioms k d) ≤ role_limit axioms
+pub get_or_role_limit : (axioms : List RoleAxiom) (k : ℕ) (d : RoleAxiom) → k < length axioms
+    → axiom_limit (get_or axioms k d) ≤ role_limit axioms
 get_or_role_limit [] k d lt = absurd (omega arith)
 get_or_role_limit (a ∷ as_) zero d lt = omega arith
 get_or_role_limit (a ∷ as_) (suc k) d lt = let within = get_or_role_limit as_ k d (omega arith) in omega arith
 
-pub item_limit : (axioms : List RoleAxiom) (k : ℕ) (a : RoleAxiom) → k < length axioms → a ≡ get_or axioms k a → axiom_limit a ≤ role_limit axioms
-item_limit axioms k a lt e = subst (λ (x : RoleAxiom). axiom_limit x ≤ role_limit axioms) (sym e) (get_or_role_limit axioms k a lt)
+pub item_limit : (axioms : List RoleAxiom) (k : ℕ) (a : RoleAxiom) → k < length axioms → a ≡ get_or axioms k a
+    → axiom_limit a ≤ role_limit axioms
+item_limit axioms k a lt e =
+    subst (λ (x : RoleAxiom). axiom_limit x ≤ role_limit axioms) (sym e) (get_or_role_limit axioms k a lt)

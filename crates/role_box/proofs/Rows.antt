@@ -1,5 +1,7 @@
 -- Rows of sets of roles.
-use Rattle.std.proofs.Common.{◌≡◌, ℕ, suc, ◌+◌, ◌<◌, ◌≤◌, ◌≢◌, ◌&&◌, ◌||◌, eqb, Bool, true, false, List, [], ◌∷◌, ◌++◌, length, get_or, drop, refl, ap, sym, ◌∙◌, arith, inl, inr, add-one, eq-eqb, ne_eqb, subst, length-append, drop-cons, take}
+use Rattle.std.proofs.Common.{◌≡◌, ℕ, suc, ◌+◌, ◌<◌, ◌≤◌, ◌≢◌, ◌&&◌, ◌||◌, eqb, Bool, true, false, List, [], ◌∷◌, ◌++◌}
+use Rattle.std.proofs.Common.{length, get_or, drop, refl, ap, sym, ◌∙◌, arith, inl, inr, add-one, eq-eqb, ne_eqb, subst}
+use Rattle.std.proofs.Common.{length-append, drop-cons, take}
 use Rattle.std.proofs.Math.ListN.{set, get_or-append}
 use Rattle.std.proofs.Math.Bool.{or_assoc, or-false, and-or_distrib_right}
 use Rattle.std.proofs.lemmas.Bool.{cases_eq, cases_lt}
@@ -18,14 +20,17 @@ pub linked_row : (rows : List (List ℕ)) (r s : ℕ) (row : List ℕ) → get_o
 unfolding linked
 linked_row rows r s row e = ap (λ (x : List ℕ). has x s) e
 
-pub linked_same_row : (old rows : List (List ℕ)) (r s : ℕ) → get_or rows r [] ≡ get_or old r [] → linked rows r s ≡ linked old r s
+pub linked_same_row : (old rows : List (List ℕ)) (r s : ℕ) → get_or rows r [] ≡ get_or old r []
+    → linked rows r s ≡ linked old r s
 unfolding linked
 linked_same_row old rows r s e = ap (λ (x : List ℕ). has x s) e
 
-pub linked-set_same : (rows : List (List ℕ)) (i s : ℕ) (row : List ℕ) → i < length rows → linked (set rows i row) i s ≡ has row s
+pub linked-set_same : (rows : List (List ℕ)) (i s : ℕ) (row : List ℕ) → i < length rows
+    → linked (set rows i row) i s ≡ has row s
 linked-set_same rows i s row lt = linked_row (set rows i row) i s row (get_or-set_same rows i row [] lt)
 
-pub linked-set_other : (rows : List (List ℕ)) (i r s : ℕ) (row : List ℕ) → r ≢ i → linked (set rows i row) r s ≡ linked rows r s
+pub linked-set_other : (rows : List (List ℕ)) (i r s : ℕ) (row : List ℕ) → r ≢ i
+    → linked (set rows i row) r s ≡ linked rows r s
 linked-set_other rows i r s row ne = linked_same_row rows (set rows i row) r s (get_or-set_other rows i r row [] ne)
 
 pub linked_past : (rows : List (List ℕ)) (r s : ℕ) → length rows ≤ r → linked rows r s ≡ false
@@ -56,10 +61,14 @@ linked-set_more rows i row more lt h r s =
 
 -- ---- one row more
 
-pub linked-push_same : (rows : List (List ℕ)) (row : List ℕ) (r s : ℕ) → r ≡ length rows → linked (rows ++ row ∷ []) r s ≡ has row s
-linked-push_same rows row r s e = linked_row (rows ++ row ∷ []) r s row (ap (λ (k : ℕ). get_or (rows ++ row ∷ []) k []) e ∙ get_or-append_seam rows row [] [])
+pub linked-push_same : (rows : List (List ℕ)) (row : List ℕ) (r s : ℕ) → r ≡ length rows
+    → linked (rows ++ row ∷ []) r s ≡ has row s
+linked-push_same rows row r s e =
+    linked_row (rows ++ row ∷ []) r s row
+    (ap (λ (k : ℕ). get_or (rows ++ row ∷ []) k []) e ∙ get_or-append_seam rows row [] [])
 
-pub linked-push_other : (rows : List (List ℕ)) (row : List ℕ) (r s : ℕ) → r < length rows → linked (rows ++ row ∷ []) r s ≡ linked rows r s
+pub linked-push_other : (rows : List (List ℕ)) (row : List ℕ) (r s : ℕ) → r < length rows
+    → linked (rows ++ row ∷ []) r s ≡ linked rows r s
 linked-push_other rows row r s lt = linked_same_row rows (rows ++ row ∷ []) r s (get_or-append rows (row ∷ []) [] r lt)
 
 -- ---- the rows that are passed by way of a middle role
@@ -68,7 +77,8 @@ pub record IsPassed (old rows : List (List ℕ)) (through : List ℕ) (middle pl
   pub passed : (r s : ℕ) → r < place → linked rows r s ≡ (linked old r s || (linked old r middle && has through s))
   pub kept : (r s : ℕ) → place ≤ r → linked rows r s ≡ linked old r s
 
-pub passed_more : (old rows : List (List ℕ)) (through : List ℕ) (middle place : ℕ) (row : List ℕ) (passes : Bool) → place < length rows
+pub passed_more : (old rows : List (List ℕ)) (through : List ℕ) (middle place : ℕ) (row : List ℕ) (passes : Bool)
+    → place < length rows
     → passes ≡ has (get_or rows place []) middle
     → ((s : ℕ) → has row s ≡ (has (get_or rows place []) s || (passes && has through s)))
     → IsPassed old rows through middle place → IsPassed old (set rows place row) through middle (place + 1)
@@ -78,10 +88,13 @@ passed_more old rows through middle place row passes lt test h before =
           elim (cases_eq r place) [
             | inl e ↦
                 (let now : linked (set rows place row) place s ≡ has row s = linked-set_same rows place s row lt in
-                let was : linked rows place s ≡ has (get_or rows place []) s = linked_row rows place s (get_or rows place []) refl in
-                let was_middle : linked rows place middle ≡ has (get_or rows place []) middle = linked_row rows place middle (get_or rows place []) refl in
+                let was : linked rows place s ≡ has (get_or rows place []) s =
+                linked_row rows place s (get_or rows place []) refl in
+                let was_middle : linked rows place middle ≡ has (get_or rows place []) middle =
+                linked_row rows place middle (get_or rows place []) refl in
                 let old_row : linked rows place s ≡ linked old place s = before.kept place s (omega arith) in
-                let old_middle : linked rows place middle ≡ linked old place middle = before.kept place middle (omega arith) in
+                let old_middle : linked rows place middle ≡ linked old place middle =
+                before.kept place middle (omega arith) in
                 let here = h s in
                 cc)
             | inr ne ↦
@@ -97,10 +110,12 @@ passed_more old rows through middle place row passes lt test h before =
     }
 
 -- all rows are passed
-pub all_passed : (old rows : List (List ℕ)) (middle place : ℕ) → length rows ≡ length old → length old ≤ place → IsPassed old rows (get_or old middle []) middle place
+pub all_passed : (old rows : List (List ℕ)) (middle place : ℕ) → length rows ≡ length old → length old ≤ place
+    → IsPassed old rows (get_or old middle []) middle place
     → (r s : ℕ) → linked rows r s ≡ (linked old r s || (linked old r middle && linked old middle s))
 all_passed old rows middle place same le before r s =
-    let through : linked old middle s ≡ has (get_or old middle []) s = linked_row old middle s (get_or old middle []) refl in
+    let through : linked old middle s ≡ has (get_or old middle []) s =
+    linked_row old middle s (get_or old middle []) refl in
     elim (cases_lt r place) [
       | inl lt ↦ (let passed = before.passed r s lt in cc)
       | inr ge ↦
@@ -122,7 +137,8 @@ path_more base old rows middle passed before r s =
     let a = before r s in
     let b = before r middle in
     let d = before middle s in
-    let last : has_path base (suc middle) r s ≡ (has_path base middle r s || (has_path base middle r middle && has_path base middle middle s)) = refl in
+    let last : has_path base (suc middle) r s
+    ≡ (has_path base middle r s || (has_path base middle r middle && has_path base middle middle s)) = refl in
     rw add-one cc
 
 -- each role alone in its row
@@ -148,29 +164,40 @@ own_more rows row empty role none more before =
             | inr ne ↦
                 (let lt : r < role = omega arith in
                 let n = before.count_is in
-                let now : linked (rows ++ row ∷ []) r s ≡ linked rows r s = linked-push_other rows row r s (omega arith) in
+                let now : linked (rows ++ row ∷ []) r s ≡ linked rows r s =
+                linked-push_other rows row r s (omega arith) in
                 let earlier = before.own r s lt in
                 cc)
           ];
     }
 
 -- one role of an equivalence more
-pub equivalence_more : (old rows : List (List ℕ)) (all : List ℕ) (roles : List ℕ) (i : ℕ) (row : List ℕ) → i < length roles → get_or roles i 0 < length rows
+pub equivalence_more : (old rows : List (List ℕ)) (all : List ℕ) (roles : List ℕ) (i : ℕ) (row : List ℕ)
+    → i < length roles → get_or roles i 0 < length rows
     → ((s : ℕ) → has row s ≡ (has (get_or rows (get_or roles i 0) []) s || has all s))
-    → ((r s : ℕ) → (linked rows r s || (is_among (drop i roles) r && has all s)) ≡ (linked old r s || (is_among roles r && has all s)))
-    → (r s : ℕ) → (linked (set rows (get_or roles i 0) row) r s || (is_among (drop (i + 1) roles) r && has all s)) ≡ (linked old r s || (is_among roles r && has all s))
+    → ((r s : ℕ)
+    → (linked rows r s || (is_among (drop i roles) r && has all s))
+    ≡ (linked old r s || (is_among roles r && has all s)))
+    → (r s : ℕ)
+    → (linked (set rows (get_or roles i 0) row) r s || (is_among (drop (i + 1) roles) r && has all s))
+    ≡ (linked old r s || (is_among roles r && has all s))
 equivalence_more old rows all roles i row within lt h before r s =
     let role = get_or roles i 0 in
     let rest = drop (suc i) roles in
     let e : drop i roles ≡ role ∷ rest = drop-cons roles i 0 within in
-    let now : linked (set rows role row) r s ≡ (linked rows r s || (eqb role r && has all s)) = linked-set_more rows role row (has all) lt h r s in
-    let earlier : (linked rows r s || ((eqb role r || is_among rest r) && has all s)) ≡ (linked old r s || (is_among roles r && has all s)) =
-    subst (λ (xs : List ℕ). (linked rows r s || (is_among xs r && has all s)) ≡ (linked old r s || (is_among roles r && has all s))) e (before r s) in
+    let now : linked (set rows role row) r s ≡ (linked rows r s || (eqb role r && has all s)) =
+    linked-set_more rows role row (has all) lt h r s in
+    let earlier : (linked rows r s || ((eqb role r || is_among rest r) && has all s))
+    ≡ (linked old r s || (is_among roles r && has all s)) =
+    subst (λ (xs : List ℕ). (linked rows r s || (is_among xs r && has all s))
+    ≡ (linked old r s || (is_among roles r && has all s)))
+    e (before r s) in
     let step = or_and_gathered (linked rows r s) (eqb role r) (is_among rest r) (has all s) in
     rw add-one cc
 
 -- the row of one role more
-pub joined_more : (rows : List (List ℕ)) (roles joined new : List ℕ) (role : ℕ) (passes : Bool) → passes ≡ has roles role
+pub joined_more : (rows : List (List ℕ)) (roles joined new : List ℕ) (role : ℕ) (passes : Bool)
+    → passes ≡ has roles role
     → ((s : ℕ) → has new s ≡ (has joined s || (passes && has (get_or rows role []) s)))
     → ((s : ℕ) → has joined s ≡ any_below role (λ t. has roles t && linked rows t s))
     → (s : ℕ) → has new s ≡ any_below (role + 1) (λ t. has roles t && linked rows t s)
@@ -178,7 +205,8 @@ joined_more rows roles joined new role passes test more before s =
     let now = more s in
     let earlier = before s in
     let row : linked rows role s ≡ has (get_or rows role []) s = linked_row rows role s (get_or rows role []) refl in
-    let last : any_below (suc role) (λ t. has roles t && linked rows t s) ≡ (any_below role (λ t. has roles t && linked rows t s) || (has roles role && linked rows role s)) = refl in
+    let last : any_below (suc role) (λ t. has roles t && linked rows t s)
+    ≡ (any_below role (λ t. has roles t && linked rows t s) || (has roles role && linked rows role s)) = refl in
     rw add-one cc
 
 -- the paths of rows that hold the single steps
@@ -188,7 +216,8 @@ pub closed_paths : (axioms : List RoleAxiom) (first stepped closed : List (List 
     → ((r s : ℕ) → linked closed r s ≡ has_path (linked stepped) (length stepped) r s)
     → (r s : ℕ) → r < count → linked closed r s ≡ has_path (same_or_leads axioms) count r s
 closed_paths axioms first stepped closed count len own steps paths r s lt =
-    let same : (x y : ℕ) → x < count → linked stepped x y ≡ same_or_leads axioms x y = λ x y within. (let a = own x y within in let b = steps x y in cc) in
+    let same : (x y : ℕ) → x < count → linked stepped x y ≡ same_or_leads axioms x y =
+    λ x y within. (let a = own x y within in let b = steps x y in cc) in
     let last : count < suc count = omega arith in
     let a = has_path-same (linked stepped) (same_or_leads axioms) count same count r s last lt in
     let b = paths r s in
@@ -201,10 +230,12 @@ pub inclusion_more : (rows : List (List ℕ)) (lower upper : ℕ) (row : List �
 inclusion_more rows lower upper row lt more r s = linked-set_more rows lower row (eqb upper) lt more r s
 
 -- rows that are written back whole
-pub written_rows : (axioms : List RoleAxiom) (before after rest : List (List ℕ)) (n count : ℕ) → length after ≡ n → length before ≡ count
+pub written_rows : (axioms : List RoleAxiom) (before after rest : List (List ℕ)) (n count : ℕ) → length after ≡ n
+    → length before ≡ count
     → ((r s : ℕ) → r < length before → linked after r s ≡ has_path (same_or_leads axioms) (length before) r s)
     → (r s : ℕ) → r < count → linked (take n (after ++ rest)) r s ≡ has_path (same_or_leads axioms) count r s
 written_rows axioms before after rest n count len count_is paths r s lt =
-    let whole : take n (after ++ rest) ≡ after = subst (λ (k : ℕ). take k (after ++ rest) ≡ after) len (take-append_seam after rest) in
+    let whole : take n (after ++ rest) ≡ after =
+    subst (λ (k : ℕ). take k (after ++ rest) ≡ after) len (take-append_seam after rest) in
     let path : linked after r s ≡ has_path (same_or_leads axioms) (length before) r s = paths r s (omega arith) in
     cc

@@ -16,11 +16,17 @@ pub has_none : (s : ℕ) → has (replicate 16 0) s ≡ false
 has_none s = ap (λ (t : NumberSet). sets.contains t s) (number_set-zeros 16) ∙ sets.contains-empty nat_cmp s
 
 eqb_turned : (a b : ℕ) → eqb a b ≡ eqb b a
-eqb_turned a b = same_truth (eqb a b) (eqb b a) (λ h. eq-eqb b a (sym (eqb-true a b h))) (λ h. eq-eqb a b (sym (eqb-true b a h)))
+eqb_turned a b =
+    same_truth (eqb a b) (eqb b a) (λ h. eq-eqb b a (sym (eqb-true a b h))) (λ h. eq-eqb a b (sym (eqb-true b a h)))
 
-pub has_put : (old new : List ℕ) (r s : ℕ) → number_set new ≡ sets.insert (number_set old) r → has new s ≡ (has old s || eqb r s)
+pub has_put : (old new : List ℕ) (r s : ℕ) → number_set new ≡ sets.insert (number_set old) r
+    → has new s ≡ (has old s || eqb r s)
 has_put old new r s e =
-    ap (λ (t : NumberSet). sets.contains t s) e ∙ contains_insert (number_set old) r s ∙ ap (λ (b : Bool). b || has old s) (eqb_turned s r) ∙ or_comm (eqb r s) (has old s)
+    ap (λ (t : NumberSet). sets.contains t s) e ∙ contains_insert (number_set old) r s
+    ∙ ap (λ (b : Bool). b || has old s) (eqb_turned s r) ∙ or_comm (eqb r s) (has old s)
 
-pub has_united : (old others new : List ℕ) (s : ℕ) → number_set new ≡ sets.union (number_set old) (number_set others) → has new s ≡ (has old s || has others s)
-has_united old others new s e = ap (λ (t : NumberSet). sets.contains t s) e ∙ sets.contains-union nat_cmp_total (number_set old) (number_set others) s
+pub has_united : (old others new : List ℕ) (s : ℕ) → number_set new ≡ sets.union (number_set old) (number_set others)
+    → has new s ≡ (has old s || has others s)
+has_united old others new s e =
+    ap (λ (t : NumberSet). sets.contains t s) e
+    ∙ sets.contains-union nat_cmp_total (number_set old) (number_set others) s

@@ -17,13 +17,15 @@ pub record IsClosed (axioms : List RoleAxiom) (rows : List (List ℕ)) (transiti
   pub listed : role_limit axioms ≤ length rows
   pub rows_are : (r s : ℕ) → r < length rows → linked rows r s ≡ is_below axioms r s
   pub transitive_are : (t : ℕ) → has transitive t ≡ is_transitive axioms t
-  pub complex_are : (s : ℕ) → has complex s ≡ any_below (length rows) (λ t. is_transitive axioms t && is_below axioms t s)
+  pub complex_are : (s : ℕ)
+      → has complex s ≡ any_below (length rows) (λ t. is_transitive axioms t && is_below axioms t s)
 
 -- ---- the transitive roles between two roles
 
 -- the list has the transitive roles that are above the one role and below the other
 abbrev pub AreBetween : List RoleAxiom → ℕ → ℕ → List ℕ → Type 0
-AreBetween axioms lower upper roles = (t : ℕ) → Contains roles t ↔ (IsTransitive axioms t × IsBelow (Leads axioms) lower t × IsBelow (Leads axioms) t upper)
+AreBetween axioms lower upper roles = (t : ℕ)
+    → Contains roles t ↔ (IsTransitive axioms t × IsBelow (Leads axioms) lower t × IsBelow (Leads axioms) t upper)
 
 abbrev pub is_between : List RoleAxiom → ℕ → ℕ → ℕ → Bool
 is_between axioms lower upper t = is_transitive axioms t && is_below axioms lower t && is_below axioms t upper

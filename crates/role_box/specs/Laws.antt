@@ -12,4 +12,5 @@ TestIsBelow = (axioms : List RoleAxiom) (r s : ℕ) → (is_below axioms r s ≡
 
 -- the test by paths answers yes exactly where no transitive role is below the role
 abbrev pub TestIsSimple : Type 0
-TestIsSimple = (axioms : List RoleAxiom) (s : ℕ) → (is_simple axioms s ≡ true) ↔ IsSimple (Leads axioms) (IsTransitive axioms) s
+TestIsSimple = (axioms : List RoleAxiom) (s : ℕ)
+    → (is_simple axioms s ≡ true) ↔ IsSimple (Leads axioms) (IsTransitive axioms) s

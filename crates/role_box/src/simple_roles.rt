@@ -2,7 +2,8 @@
 ghost use Rattle.std.specs.Prelude.{◌≡◌, ◌≤◌, IfOk, length};
 ghost use Rattle.std.specs.List.{list_any, range_with_len};
 ghost use Rattle.role_box.specs.Counted.{counted_roles, counted_by_query};
-ghost use Rattle.role_box.specs.Simple.{all_role_axioms, first_not_simple, line_not_simple, are_simple_by, is_transitivity, AreRolesOf, are_simple_in, line_in};
+ghost use Rattle.role_box.specs.Simple.{all_role_axioms, first_not_simple, line_not_simple, are_simple_by};
+ghost use Rattle.role_box.specs.Simple.{is_transitivity, AreRolesOf, are_simple_in, line_in};
 
 use crate::counted_roles::{axiom_counts_simple, both_count_simple, class_counts_simple};
 use crate::{NoMemory, RoleBox};

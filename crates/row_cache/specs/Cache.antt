@@ -1,5 +1,6 @@
 -- The rows that are cached with a table of concepts.
-use Rattle.std.specs.Prelude.{◌≡◌, ℕ, ◌-◌, ◌&&◌, nat_eq, true, false, IsTrue, List, [], length, Option, Some, None, slice_get, if◌then◌else◌}
+use Rattle.std.specs.Prelude.{◌≡◌, ℕ, ◌-◌, ◌&&◌, nat_eq, true, false, IsTrue, List, [], length, Option, Some, None}
+use Rattle.std.specs.Prelude.{slice_get, if◌then◌else◌}
 use Rattle.std.specs.Cmp.Lexicographic.{pointwise}
 use Rattle.std.specs.Map.{lookup}
 use denote.Ref.{Bor}
@@ -35,7 +36,8 @@ named_part c a p = part_at (theory_of c.axioms c.named) a p
 -- the axiom of a number, whose cardinalities are within the limit; none where it is not named
 abbrev pub IsNamedAxiom : List Numbered → List ℕ → ℕ → Option (Bor Numbered) → Type 0
 IsNamedAxiom axioms ks a None = is_among ks a ≡ false
-IsNamedAxiom axioms ks a (Some n) = (is_among ks a ≡ true) × (slice_get axioms (a - 1) ≡ Some n.now) × IsTrue (axiom_has_counts_within 100 n.now.axiom)
+IsNamedAxiom axioms ks a (Some n) = (is_among ks a ≡ true) × (slice_get axioms (a - 1) ≡ Some n.now)
+    × IsTrue (axiom_has_counts_within 100 n.now.axiom)
 
 -- the axioms and those that are named stay
 pub record HasSameAxioms (earlier later : CacheState) : Type 0 where
@@ -84,7 +86,8 @@ abbrev pub IsRangeCached : CacheState → ℕ → Option CachedRange → Type 0
 IsRangeCached c a answer = (r : CachedRange) → answer ≡ Some r → cached_range c a ≡ Some r
 
 -- a cached row is answered, and then nothing is made; and what is answered is cached afterwards
-pub record IsMadeOnce (earlier later : CacheState) (a p : ℕ) (positions : List ℕ) (answer : Option CachedRow) : Type 0 where
+pub record IsMadeOnce (earlier later : CacheState) (a p : ℕ) (positions : List ℕ) (answer : Option CachedRow) :
+    Type 0 where
   pub from_cache : (r : CachedRow) → cached_row earlier a p positions ≡ Some r → (later ≡ earlier) × (answer ≡ Some r)
   pub afterwards : IsCached later a p positions answer
 
@@ -98,11 +101,15 @@ pub record AreCurrent (c : CacheState) : Type 0 where
   pub ranges_are : (a : ℕ) (r : CachedRange) → cached_range_for c.ranges a ≡ Some r → IsRangeOf c a (Some r)
 
 -- a table of the axioms of an ontology, by a set of numbers of these
-pub record IsRowCache (axioms : List Numbered) (named : Limited) (table : List Shape) (rows : List ((ℕ × ℕ) × CacheEntry)) (ranges : List (ℕ × CachedRange)) : Type 0 where
+pub record IsRowCache (axioms : List Numbered) (named : Limited) (table : List Shape)
+    (rows : List ((ℕ × ℕ) × CacheEntry)) (ranges : List (ℕ × CachedRange)) : Type 0 where
   pub numbers : IsWithin (length axioms) named.members
   pub within : AreInLimit axioms
-  pub current : AreCurrent (record { axioms = axioms; named = member_list named; table = table; rows = rows; ranges = ranges })
+  pub current : AreCurrent
+      (record { axioms = axioms; named = member_list named; table = table; rows = rows; ranges = ranges })
 
 -- the row takes the place of what was cached for the part
-abbrev pub StoresRow : {S : Type 0} → IndexMap (ℕ × ℕ) CacheEntry S → IndexMap (ℕ × ℕ) CacheEntry S → ℕ → ℕ → List ℕ → CachedRow → Type 0
-StoresRow old new a p positions row = Updates (λ k l. nat_eq k.0 l.0 && nat_eq k.1 l.1) old new (a, p) (Some (record { positions = positions; row = row }))
+abbrev pub StoresRow : {S : Type 0} → IndexMap (ℕ × ℕ) CacheEntry S → IndexMap (ℕ × ℕ) CacheEntry S → ℕ → ℕ → List ℕ
+    → CachedRow → Type 0
+StoresRow old new a p positions row = Updates (λ k l. nat_eq k.0 l.0 && nat_eq k.1 l.1) old new (a, p)
+    (Some (record { positions = positions; row = row }))

@@ -1,11 +1,13 @@
 -- The rows of the parts of axioms, as a refutation uses them, and by the numbers of a table.
-use Rattle.std.specs.Prelude.{◌≡◌, ℕ, Bool, true, false, zero, suc, ◌+◌, ◌≤◌, List, [], ◌∷◌, map, length, slice_index_or, Option, Some, None, IsTrue, All, if◌then◌else◌}
+use Rattle.std.specs.Prelude.{◌≡◌, ℕ, Bool, true, false, zero, suc, ◌+◌, ◌≤◌, List, [], ◌∷◌, map, length}
+use Rattle.std.specs.Prelude.{slice_index_or, Option, Some, None, IsTrue, All, if◌then◌else◌}
 use Rattle.std.specs.List.{list_all}
 use Rattle.shq_terms.specs.Concept.{Concept}
 use Rattle.shq_terms.specs.declared.axioms.Numbered.{Numbered}
 use Rattle.calculus_specs.specs.Shape.{Shape}
 use Rattle.calculus_specs.specs.Shape.Shape.{name}
-use Rattle.calculus_specs.specs.Rows.{Part, inclusion, range, part_at, is_among, is_name, conjunct_at, are_name_positions, row_concept}
+use Rattle.calculus_specs.specs.Rows.{Part, inclusion, range, part_at, is_among, is_name, conjunct_at}
+use Rattle.calculus_specs.specs.Rows.{are_name_positions, row_concept}
 use Rattle.calculus_specs.specs.Tree.{tree_of}
 use Rattle.axiom_sets.specs.Sets.{Limited, member_list}
 use Rattle.refutation_truth.specs.Theory.{theory_of}
@@ -17,7 +19,8 @@ use Rattle.row_cache.specs.declared.cached_row.CachedRange.{CachedRange}
 
 -- the cardinalities of each axiom are within the limit, and so are its parts
 abbrev pub AreInLimit : List Numbered → Type 0
-AreInLimit axioms = All (λ n. IsTrue (axiom_has_counts_within 100 n.axiom) × (length (axiom_parts n.axiom) ≤ 500000)) axioms
+AreInLimit axioms =
+    All (λ n. IsTrue (axiom_has_counts_within 100 n.axiom) × (length (axiom_parts n.axiom) ≤ 500000)) axioms
 
 -- a row: an element that has each of the premises has the concept
 pub record PlainRow : Type 0 where
@@ -28,7 +31,9 @@ pub record PlainRow : Type 0 where
 abbrev pub row_for : Option Part → List ℕ → Option PlainRow
 row_for None positions = None
 row_for (Some (range r d)) positions = None
-row_for (Some (inclusion cs d)) positions = if are_name_positions cs positions then Some (record { premises = map (conjunct_at cs) positions; concept = row_concept cs d positions }) else None
+row_for (Some (inclusion cs d)) positions =
+    if are_name_positions cs positions
+    then Some (record { premises = map (conjunct_at cs) positions; concept = row_concept cs d positions }) else None
 
 -- the numbers of the table stand for the row; where there is none, none is told
 abbrev pub IsRow : List Shape → Option PlainRow → Option CachedRow → Type 0
@@ -75,10 +80,12 @@ IsPartIn table axioms named a p found = IsPartFound table (part_in_set axioms na
 -- the row of an inclusion whose conjuncts and right side are numbers of the table, and the number of its concept in a
 -- later one
 abbrev pub row_at : List Shape → List ℕ → ℕ → List ℕ → Option PlainRow
-row_at table conjuncts right positions = row_for (Some (inclusion (trees_at table conjuncts) (tree_of table right))) positions
+row_at table conjuncts right positions =
+    row_for (Some (inclusion (trees_at table conjuncts) (tree_of table right))) positions
 
 abbrev pub IsRowConcept : List Shape → List Shape → List ℕ → ℕ → List ℕ → ℕ → Type 0
-IsRowConcept earlier later conjuncts right positions number = IsNumber later number (row_concept (trees_at earlier conjuncts) (tree_of earlier right) positions)
+IsRowConcept earlier later conjuncts right positions number =
+    IsNumber later number (row_concept (trees_at earlier conjuncts) (tree_of earlier right) positions)
 
 -- whether the conjuncts at these positions are names
 abbrev pub is_name_at : List Shape → List ℕ → ℕ → Bool
@@ -99,4 +106,6 @@ conjunct_number_at conjuncts (suc i) = slice_index_or conjuncts i 0
 -- the numbers of the conjuncts whose positions, counted from `first`, are not in the list
 abbrev pub other_numbers : ℕ → List ℕ → List ℕ → List ℕ
 other_numbers first positions [] = []
-other_numbers first positions (c ∷ cs) = if is_among positions first then other_numbers (first + 1) positions cs else c ∷ other_numbers (first + 1) positions cs
+other_numbers first positions (c ∷ cs) =
+    if is_among positions first then other_numbers (first + 1) positions cs
+    else c ∷ other_numbers (first + 1) positions cs

@@ -9,7 +9,8 @@ ghost use Rattle.shq_nnf.specs.Bounds.{negated_trees};
 ghost use Rattle.shq_nnf.specs.Numbers.{Extends, AreNumbers, trees_at};
 ghost use Rattle.std.specs.FinSet as set;
 ghost use Rattle.axiom_sets.specs.Sets.{IsWithin, member_list};
-ghost use Rattle.row_cache.specs.Rows.{AreInLimit, IsRow, IsRowIn, IsRangeIn, IsPartIn, row_at, IsRowConcept, is_name_at, are_names_at, is_name_shape, conjunct_number_at, other_numbers};
+ghost use Rattle.row_cache.specs.Rows.{AreInLimit, IsRow, IsRowIn, IsRangeIn, IsPartIn, row_at, IsRowConcept};
+ghost use Rattle.row_cache.specs.Rows.{is_name_at, are_names_at, is_name_shape, conjunct_number_at, other_numbers};
 
 use crate::NoMemory;
 use axiom_sets::AxiomSet;

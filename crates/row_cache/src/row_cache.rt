@@ -8,7 +8,8 @@ ghost use Rattle.shq_nnf.specs.Shapes.{form_of, concept_of};
 ghost use Rattle.shq_nnf.specs.Numbers.{Extends, IsNumber};
 ghost use Rattle.axiom_sets.specs.Sets.{IsWithin, member_list};
 ghost use Rattle.row_cache.specs.Rows.{AreInLimit};
-ghost use Rattle.row_cache.specs.Cache.{empty_cache, IsNamedAxiom, IsRowOf, IsRangeOf, HasSameAxioms, KeepsEntries, cached_row, cached_range, IsCached, IsRangeCached, IsMadeOnce, IsRangeMadeOnce};
+ghost use Rattle.row_cache.specs.Cache.{empty_cache, IsNamedAxiom, IsRowOf, IsRangeOf, HasSameAxioms, KeepsEntries};
+ghost use Rattle.row_cache.specs.Cache.{cached_row, cached_range, IsCached, IsRangeCached, IsMadeOnce, IsRangeMadeOnce};
 
 use crate::NoMemory;
 use crate::cache_entry::{CacheEntry, find_range, find_row, store_range, store_row};
@@ -42,7 +43,13 @@ impl<'a> Model for RowCache<'a> {
 
     ghost coded = { Prim.hlevel (codes, concept_code) };
 
-    ghost view = { λ r. record { axioms = r.ontology.now.axioms; named = member_list r.named.now; table = r.concepts; rows = r.rows.entries; ranges = r.ranges.entries } };
+    ghost view = { λ r. record {
+      axioms = r.ontology.now.axioms;
+      named = member_list r.named.now;
+      table = r.concepts;
+      rows = r.rows.entries;
+      ranges = r.ranges.entries;
+    } };
 
     ghost invariant = { λ r. IsRowCache r.ontology.now.axioms r.named.now r.concepts r.rows.entries r.ranges.entries };
 }

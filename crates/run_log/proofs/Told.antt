@@ -35,7 +35,8 @@ not_outside_all true = refl
 not_outside_all false = refl
 
 module _ (o : Listed) (log : List Entry) (honest : EachIsHonest o log) (tests : AreClassTests o log) where
-  step_is_true : (x y : Concept) → IsStep log x y → Entails (all_axioms o.axioms) (record { sub = x; sup = y; on = Any })
+  step_is_true : (x y : Concept) → IsStep log x y
+      → Entails (all_axioms o.axioms) (record { sub = x; sup = y; on = Any })
   step_is_true _ _ (by_test s q steps u any there) =
       let h = All-contains (IsHonestEntry o) log (Test s q steps (Yes u)) honest there in
       let t = All-contains (IsClassTest o) log (Test s q steps (Yes u)) tests there in
@@ -52,7 +53,8 @@ module _ (o : Listed) (log : List Entry) (honest : EachIsHonest o log) (tests : 
       itself true = refl
       itself false = refl
   all_true _ _ (onward x y z step rest) = λ i some placed meets v lt.
-      none_outside (holds i x v) (holds i y v) (holds i z v) (step_is_true x y step i some placed meets v lt) (all_true y z rest i some placed meets v lt)
+      none_outside (holds i x v) (holds i y v) (holds i z v) (step_is_true x y step i some placed meets v lt)
+      (all_true y z rest i some placed meets v lt)
 
 pub chain_is_true : ChainsAreTrue
 chain_is_true o log x y honest tests chain = all_true o log honest tests x y chain

@@ -1,5 +1,6 @@
 -- Honest logs: what the log of a job says is so, and nothing was asked that it answers already.
-use Rattle.std.specs.Prelude.{◌≡◌, ℕ, ◌+◌, ◌*◌, ◌<◌, ◌≤◌, true, List, [], ◌∷◌, length, take, Some, slice_get, All, Contains}
+use Rattle.std.specs.Prelude.{◌≡◌, ℕ, ◌+◌, ◌*◌, ◌<◌, ◌≤◌, true, List, [], ◌∷◌, length, take, Some, slice_get, All}
+use Rattle.std.specs.Prelude.{Contains}
 use Rattle.std.specs.List.{list_any}
 use Rattle.lane_sieve.specs.Sets.{NumberSet, IsPart}
 use Rattle.axiom_sets.specs.Sets.{Limited, IsFull, IsWithin, member_list}
@@ -137,7 +138,8 @@ AsksNothingTwice log = (i j : ℕ) (s t : Limited) (p q : Query) (m n : ℕ) (e 
 -- one step from a class to one of which it is part: a test of all that is in the former found so, or the latter has all
 -- things, or the former has none
 pub data IsStep (log : List Entry) : Concept → Concept → Type 0 where
-  by_test : (s : Limited) (q : Query) (steps : ℕ) (u : Limited) → q.on ≡ Any → Contains log (Test s q steps (Yes u)) → IsStep log q.sub q.sup
+  by_test : (s : Limited) (q : Query) (steps : ℕ) (u : Limited) → q.on ≡ Any → Contains log (Test s q steps (Yes u))
+      → IsStep log q.sub q.sup
   in_top : (x : Concept) → IsStep log x top
   of_bottom : (y : Concept) → IsStep log bottom y
 

@@ -18,7 +18,8 @@ use Rattle.run_log.specs.HonestLog.{IsAxiomSet, IsWhole, axioms_of, FollowsIn, E
 
 -- what follows from the axioms of a set follows from the axioms with its numbers
 abbrev pub SetsAreNamed : Type 0
-SetsAreNamed = (o : Listed) (s : Limited) (q : Query) → IsAxiomSet o s → (FollowsIn o s q ↔ FollowsFrom o.axioms q s.members)
+SetsAreNamed = (o : Listed) (s : Limited) (q : Query) → IsAxiomSet o s
+    → (FollowsIn o s q ↔ FollowsFrom o.axioms q s.members)
 
 -- the axioms of the set of all are all axioms
 abbrev pub WholeIsAll : Type 0
@@ -26,7 +27,8 @@ WholeIsAll = (o : Listed) (s : Limited) → IsWhole o s → axioms_of o s ≡ al
 
 -- what follows from a set follows from a greater one
 abbrev pub FollowsInMore : Type 0
-FollowsInMore = (o : Listed) (s t : Limited) (q : Query) → IsAxiomSet o s → IsAxiomSet o t → IsPart s.members t.members → FollowsIn o s q → FollowsIn o t q
+FollowsInMore = (o : Listed) (s t : Limited) (q : Query) → IsAxiomSet o s → IsAxiomSet o t → IsPart s.members t.members
+    → FollowsIn o s q → FollowsIn o t q
 
 -- what such an end says of another set
 abbrev pub Tells : Listed → Limited → Query → TestEnd → Type 0
@@ -36,10 +38,12 @@ Tells o asked q (Spent t) = Unit {0}
 
 -- where an entry of an honest log answers for another set, it is so
 abbrev pub AnswersAreTrue : Type 0
-AnswersAreTrue = (o : Listed) (log : List Entry) (asked s : Limited) (q : Query) (steps : ℕ) (e : TestEnd) → EachIsHonest o log → IsAxiomSet o asked
+AnswersAreTrue = (o : Listed) (log : List Entry) (asked s : Limited) (q : Query) (steps : ℕ) (e : TestEnd)
+    → EachIsHonest o log → IsAxiomSet o asked
     → Contains log (Test s q steps e) → EndAnswers s e asked → Tells o asked q e
 
 -- where a chain of an honest classification leads from one class to another, the former is part of the latter
 abbrev pub ChainsAreTrue : Type 0
-ChainsAreTrue = (o : Listed) (log : List Entry) (x y : Concept) → EachIsHonest o log → AreClassTests o log → IsChain log x y
+ChainsAreTrue = (o : Listed) (log : List Entry) (x y : Concept) → EachIsHonest o log → AreClassTests o log
+    → IsChain log x y
     → Entails (all_axioms o.axioms) (record { sub = x; sup = y; on = Any })

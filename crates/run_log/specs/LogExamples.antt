@@ -1,5 +1,6 @@
 -- Worked logs: for each thing that an honest log has to be, one that is so and one that is not.
-use Rattle.std.specs.Prelude.{◌≡◌, ℕ, zero, suc, ◌+◌, Bool, true, false, ◌&&◌, nat_le, List, [], ◌∷◌, Some, slice_get, refl}
+use Rattle.std.specs.Prelude.{◌≡◌, ℕ, zero, suc, ◌+◌, Bool, true, false, ◌&&◌, nat_le, List, [], ◌∷◌, Some, slice_get}
+use Rattle.std.specs.Prelude.{refl}
 use Rattle.std.proofs.Common.{lit<, ap, sym, ◌∙◌, arith}
 use Rattle.std.proofs.lemmas.Bool.Decides.{nat_tests}
 use Rattle.std.proofs.lemmas.List.Elements.{All-nil, All-cons, All-head}
@@ -16,13 +17,15 @@ use Rattle.run_log.specs.declared.entry.Entry.TheVariants.{Test, Node}
 use Rattle.run_log.specs.declared.entry.TestEnd.TheVariants.{Yes, No, Spent}
 use Rattle.run_log.specs.Trails.{TrailLists}
 use Rattle.run_log.specs.Entries.{spent_of, is_spent}
-use Rattle.run_log.specs.HonestLog.{IsWhole, IsWithinBudget, EndsWhenSpent, IsOneTest, AreClassTests, IsClassTest, AsksNothingTwice, IsStep, IsChain, AsksNoChain}
+use Rattle.run_log.specs.HonestLog.{IsWhole, IsWithinBudget, EndsWhenSpent, IsOneTest, AreClassTests, IsClassTest}
+use Rattle.run_log.specs.HonestLog.{AsksNothingTwice, IsStep, IsChain, AsksNoChain}
 use Rattle.run_log.specs.HonestLog.IsStep.{by_test, in_top, of_bottom}
 use Rattle.run_log.specs.HonestLog.IsChain.{none, onward}
 
 -- three classes, an individual, and no axioms
 abbrev pub bare : Listed
-bare = record { axioms = []; classes = (65 ∷ []) ∷ (66 ∷ []) ∷ (67 ∷ []) ∷ []; roles = []; individuals = (97 ∷ []) ∷ [] }
+bare =
+    record { axioms = []; classes = (65 ∷ []) ∷ (66 ∷ []) ∷ (67 ∷ []) ∷ []; roles = []; individuals = (97 ∷ []) ∷ [] }
 
 -- the set of no axioms
 abbrev pub no_axioms : Limited
@@ -72,7 +75,9 @@ spent_first = Test no_axioms (inclusion 1 0) 3 (Spent no_trail) ∷ Test no_axio
 
 -- a test that says so was the last one, and the whole budget was spent
 last_place : (place : ℕ) (e : Entry) → slice_get spent_last place ≡ Some e → is_spent e ≡ true → place + 1 ≡ 2
-last_place zero e at spent = let k : Test no_axioms (inclusion 0 1) 4 No ≡ e = cc in let m : is_spent (Test no_axioms (inclusion 0 1) 4 No) ≡ true = ap is_spent k ∙ spent in cc
+last_place zero e at spent =
+    let k : Test no_axioms (inclusion 0 1) 4 No ≡ e = cc in
+    let m : is_spent (Test no_axioms (inclusion 0 1) 4 No) ≡ true = ap is_spent k ∙ spent in cc
 last_place (suc zero) e at spent = refl
 last_place (suc (suc place)) e at spent = cc
 
@@ -83,7 +88,8 @@ pub not_while_some_is_left : ¬ EndsWhenSpent 8 spent_last
 not_while_some_is_left h = let k : 7 ≡ 8 = h.is_whole refl in omega (arith, k)
 
 pub not_before_the_end : ¬ EndsWhenSpent 7 spent_first
-not_before_the_end h = let k : 1 ≡ 2 = h.is_last 0 (Test no_axioms (inclusion 1 0) 3 (Spent no_trail)) refl refl in omega (arith, k)
+not_before_the_end h =
+    let k : 1 ≡ 2 = h.is_last 0 (Test no_axioms (inclusion 1 0) 3 (Spent no_trail)) refl refl in omega (arith, k)
 
 -- ---- one question
 
@@ -130,7 +136,9 @@ zero_is_not_one : ¬ (name 0 ≡ name 1)
 zero_is_not_one h = let k : ◌≡◌ {A = ℕ} 0 1 = cc in omega (arith, k)
 
 pub is_class_test : AreClassTests bare (first_test ∷ [])
-is_class_test = All-cons (IsClassTest bare) first_test [] (no_axioms_are_whole, lit< tt, lit< tt, zero_is_not_one, refl) (All-nil (IsClassTest bare))
+is_class_test =
+    All-cons (IsClassTest bare) first_test [] (no_axioms_are_whole, lit< tt, lit< tt, zero_is_not_one, refl)
+    (All-nil (IsClassTest bare))
 
 -- a class and itself are not asked about
 pub is_no_class_test : ¬ AreClassTests bare (Test no_axioms (inclusion 0 0) 4 (Yes no_axioms) ∷ [])
@@ -154,13 +162,16 @@ asks_once (suc i) (suc zero) s t p q m n e f lt at bt same = omega (arith, lt)
 asks_once i (suc (suc j)) s t p q m n e f lt at bt same = cc
 
 pub asks_twice : ¬ AsksNothingTwice (first_test ∷ first_test ∷ [])
-asks_twice h = h 0 1 no_axioms no_axioms (inclusion 0 1) (inclusion 0 1) 4 4 (Yes no_axioms) (Yes no_axioms) (lit< tt) refl refl refl
+asks_twice h =
+    h 0 1 no_axioms no_axioms (inclusion 0 1) (inclusion 0 1) 4 4 (Yes no_axioms) (Yes no_axioms) (lit< tt) refl refl
+    refl
 
 -- what a chain leads to passes each test that no step of it leaves
 abbrev pub IsKeptBy : (Concept → Bool) → List Entry → Type 0
 IsKeptBy p log = (x y : Concept) → IsStep log x y → p x ≡ true → p y ≡ true
 
-pub stays : (p : Concept → Bool) (log : List Entry) → IsKeptBy p log → (x y : Concept) → IsChain log x y → p x ≡ true → p y ≡ true
+pub stays : (p : Concept → Bool) (log : List Entry) → IsKeptBy p log → (x y : Concept) → IsChain log x y → p x ≡ true
+    → p y ≡ true
 stays p log kept x y (none _) h = h
 stays p log kept x y (onward _ z _ step rest) h = stays p log kept z y rest (kept x z step h)
 
@@ -176,7 +187,9 @@ none_leaves_zero _ _ (in_top x) h = refl
 none_leaves_zero _ _ (of_bottom y) h = cc
 
 none_leaves_one : IsKeptBy (is_top_or 1) (first_test ∷ [])
-none_leaves_one _ _ (by_test s q steps u any (zero, lt, is)) h = let e : q ≡ inclusion 0 1 = cc in let k : name 0 ≡ q.sub = ap sub_of (sym e) in let b : is_top_or 1 (name 0) ≡ true = ap (is_top_or 1) k ∙ h in cc
+none_leaves_one _ _ (by_test s q steps u any (zero, lt, is)) h =
+    let e : q ≡ inclusion 0 1 = cc in
+    let k : name 0 ≡ q.sub = ap sub_of (sym e) in let b : is_top_or 1 (name 0) ≡ true = ap (is_top_or 1) k ∙ h in cc
 none_leaves_one _ _ (by_test s q steps u any (suc k, lt, is)) h = absurd (omega (arith, lt))
 none_leaves_one _ _ (in_top x) h = refl
 none_leaves_one _ _ (of_bottom y) h = cc
@@ -186,13 +199,15 @@ asks_what_is_open zero s q steps e at chain =
     let a : inclusion 0 1 ≡ q = cc in
     let k : name 0 ≡ q.sub = ap sub_of a in
     let m : name 1 ≡ q.sup = ap sup_of a in
-    let b : is_top_or 0 q.sup ≡ true = stays (is_top_or 0) [] none_leaves_zero q.sub q.sup chain (ap (is_top_or 0) (sym k)) in
+    let b : is_top_or 0 q.sup ≡ true =
+    stays (is_top_or 0) [] none_leaves_zero q.sub q.sup chain (ap (is_top_or 0) (sym k)) in
     let c : is_top_or 0 (name 1) ≡ true = ap (is_top_or 0) m ∙ b in cc
 asks_what_is_open (suc zero) s q steps e at chain =
     let a : inclusion 1 2 ≡ q = cc in
     let k : name 1 ≡ q.sub = ap sub_of a in
     let m : name 2 ≡ q.sup = ap sup_of a in
-    let b : is_top_or 1 q.sup ≡ true = stays (is_top_or 1) (first_test ∷ []) none_leaves_one q.sub q.sup chain (ap (is_top_or 1) (sym k)) in
+    let b : is_top_or 1 q.sup ≡ true =
+    stays (is_top_or 1) (first_test ∷ []) none_leaves_one q.sub q.sup chain (ap (is_top_or 1) (sym k)) in
     let c : is_top_or 1 (name 2) ≡ true = ap (is_top_or 1) m ∙ b in cc
 asks_what_is_open (suc (suc place)) s q steps e at chain = cc
 
@@ -201,7 +216,8 @@ pub asks_what_follows : ¬ AsksNoChain three_tests
 asks_what_follows h =
     h 2 no_axioms (inclusion 0 2) 4 No refl
     (onward (name 0) (name 1) (name 2) (by_test no_axioms (inclusion 0 1) 4 no_axioms refl (0, lit< tt, refl))
-    (onward (name 1) (name 2) (name 2) (by_test no_axioms (inclusion 1 2) 4 no_axioms refl (1, lit< tt, refl)) (none (name 2))))
+    (onward (name 1) (name 2) (name 2) (by_test no_axioms (inclusion 1 2) 4 no_axioms refl (1, lit< tt, refl))
+    (none (name 2))))
 
 -- a test on an individual leads from no class to another
 none_leaves_by_individual : IsKeptBy (is_top_or 0) (test_at_one ∷ [])
@@ -215,5 +231,6 @@ none_leaves_by_individual _ _ (of_bottom y) h = cc
 
 pub no_chain_by_individual : ¬ IsChain (test_at_one ∷ []) (name 0) (name 1)
 no_chain_by_individual chain =
-    let k : is_top_or 0 (name 1) ≡ true = stays (is_top_or 0) (test_at_one ∷ []) none_leaves_by_individual (name 0) (name 1) chain refl in
+    let k : is_top_or 0 (name 1) ≡ true =
+    stays (is_top_or 0) (test_at_one ∷ []) none_leaves_by_individual (name 0) (name 1) chain refl in
     cc

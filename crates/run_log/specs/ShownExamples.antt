@@ -34,10 +34,19 @@ consistent = record { sub = top; sup = bottom; on = Any }
 abbrev one_no : List Entry
 one_no = Test no_axioms consistent 0 No ∷ []
 
-shown_each : (x y : Concept) → IsClass empty x → IsClass empty y → ¬ (x ≡ y) → IsChain one_no x y ⊎ IsRuledOut one_no x y
+shown_each : (x y : Concept) → IsClass empty x → IsClass empty y → ¬ (x ≡ y)
+    → IsChain one_no x y ⊎ IsRuledOut one_no x y
 shown_each bottom y cx cy differ = inl (onward bottom y y (of_bottom y) (none y))
 shown_each x top cx cy differ = inl (onward x top top (in_top x) (none top))
-shown_each top bottom cx cy differ = inr (record { tested = no_axioms; query = consistent; of_all = refl; steps = 0; is_no = (0, lit< tt, refl); lower = none top; upper = none bottom })
+shown_each top bottom cx cy differ = inr (record {
+  tested = no_axioms;
+  query = consistent;
+  of_all = refl;
+  steps = 0;
+  is_no = (0, lit< tt, refl);
+  lower = none top;
+  upper = none bottom;
+})
 shown_each (name a) y cx cy differ = absurd (omega (arith, cx))
 shown_each x (name a) cx cy differ = absurd (omega (arith, cy))
 shown_each top y cx cy differ = absurd cy
@@ -51,7 +60,8 @@ nothing_is_ruled_out x y r = omega (arith, r.is_no.1)
 
 pub shows_no_classes : ¬ ShowsClasses empty []
 shows_no_classes h = elim (h top bottom tt tt top_is_not_bottom) [
-  | inl chain ↦ (let k : is_top_or 0 bottom ≡ true = stays (is_top_or 0) [] none_leaves_zero top bottom chain refl in cc)
+  | inl chain ↦
+      (let k : is_top_or 0 bottom ≡ true = stays (is_top_or 0) [] none_leaves_zero top bottom chain refl in cc)
   | inr out ↦ nothing_is_ruled_out top bottom out
 ]
   where
@@ -75,11 +85,20 @@ no_member j k within true h = let m = within k h in absurd (omega (arith, m.0, m
 no_member j k within false h = refl
 
 is_empty : (j : NumberSet) → IsWithin 0 j → set.empty ≡ j
-is_empty j within = set.same_set nat_cmp_total set.nat_cmp-IsAntisymmetric set.empty j (λ k. set.contains-empty nat_cmp k ∙ sym (no_member j k within (set.contains j k) refl))
+is_empty j within =
+    set.same_set nat_cmp_total set.nat_cmp-IsAntisymmetric set.empty j
+    (λ k. set.contains-empty nat_cmp k ∙ sym (no_member j k within (set.contains j k) refl))
 
 pub shows_pinpointing : ShowsPinpointing empty trivial one_yes
 shows_pinpointing = record {
-  justifications = λ j is. record { tested = no_axioms; steps = 0; enough = no_axioms; is_yes = (0, lit< tt, refl); is_set = is_empty j is.within };
+  justifications =
+      λ j is. record {
+        tested = no_axioms;
+        steps = 0;
+        enough = no_axioms;
+        is_yes = (0, lit< tt, refl);
+        is_set = is_empty j is.within;
+      };
   repairs = λ m r local is. absurd (is.ends (trivial_follows (rest (of_axioms empty.axioms r))));
 }
 

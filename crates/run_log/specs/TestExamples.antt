@@ -1,5 +1,6 @@
 -- Worked tests: what a log may say of the end of a test, and what it may not.
-use Rattle.std.specs.Prelude.{◌≡◌, ℕ, zero, suc, ◌+◌, ◌-◌, ◌<◌, true, false, ◌==◌, List, [], ◌∷◌, ◌++◌, length, Some, None, slice_get, Contains, if◌then◌else◌, refl}
+use Rattle.std.specs.Prelude.{◌≡◌, ℕ, zero, suc, ◌+◌, ◌-◌, ◌<◌, true, false, ◌==◌, List, [], ◌∷◌, ◌++◌, length, Some}
+use Rattle.std.specs.Prelude.{None, slice_get, Contains, if◌then◌else◌, refl}
 use Rattle.std.proofs.Common.{lit<, ap, sym, subst, ◌∙◌, arith, inl, inr}
 use Rattle.std.proofs.lemmas.Bool.Decides.{nat_tests}
 use Rattle.std.proofs.lemmas.List.Elements.{All-nil, All-cons, All-head, All-same}
@@ -15,21 +16,24 @@ use Rattle.shq_terms.specs.declared.axioms.On.TheVariants.{Any, Individual}
 use Rattle.shq_terms.specs.declared.axioms.Query.{Query}
 use Rattle.shq_meaning.specs.Truth.{Interpretation, Entails}
 use Rattle.calculus_specs.specs.Shape.{Shape, shape_of, has_parts_below, is_normal, IsTable}
-use Rattle.calculus_specs.specs.Shape.Shape.{top as top_shape, bottom as bottom_shape, name as name_shape, not_name, intersection as intersection_shape, at_most}
+use Rattle.calculus_specs.specs.Shape.Shape.{top as top_shape, bottom as bottom_shape, name as name_shape, not_name}
+use Rattle.calculus_specs.specs.Shape.Shape.{intersection as intersection_shape, at_most}
 use Rattle.calculus_specs.specs.Tree.{tree_of, trees_of, tree_over}
 use Rattle.calculus_specs.specs.Rows.{Row, NumberedPart, IsRowOf, IsChoice, is_row_of, is_numbered, is_among}
 use Rattle.calculus_specs.proofs.Unique.{tree_of_shape, numbers_unique}
 use Rattle.calculus_specs.specs.declared.facts.Fact.{Fact}
 use Rattle.calculus_specs.specs.declared.facts.Fact.TheVariants.{Has}
 use Rattle.calculus_specs.specs.State.{has}
-use Rattle.refutation_truth.specs.Theory.{named_axioms, named_parts, theory_of, listed_fact, fact_in, fact_of_axiom, question_of}
+use Rattle.refutation_truth.specs.Theory.{named_axioms, named_parts, theory_of, listed_fact, fact_in, fact_of_axiom}
+use Rattle.refutation_truth.specs.Theory.{question_of}
 use Rattle.tableau_specs.specs.declared.Item.{Item}
 use Rattle.tableau_specs.specs.declared.Item.TheVariants.{Fact as Says}
 use Rattle.tableau_specs.specs.declared.Branch.{Branch}
 use Rattle.tableau_specs.specs.Items.{facts_of}
 use Rattle.tableau_specs.specs.Clash.IsClash.{of_names}
 use Rattle.tableau_specs.specs.Clash.IsPlainClash.{plain_bottom, plain_names, plain_most, plain_differ}
-use Rattle.tableau_specs.specs.Steps.{SearchContext, IsGiven, IsCarried, Adds, Generates, MayBranch, IsLegal, IsSaturated, HasPlainClash}
+use Rattle.tableau_specs.specs.Steps.{SearchContext, IsGiven, IsCarried, Adds, Generates, MayBranch, IsLegal}
+use Rattle.tableau_specs.specs.Steps.{IsSaturated, HasPlainClash}
 use Rattle.tableau_specs.specs.Steps.Adds.{by_and, by_all, by_carry, by_row}
 use Rattle.tableau_specs.specs.Steps.Generates.{by_some, by_least}
 use Rattle.tableau_specs.specs.Steps.MayBranch.{on_union, on_filler, on_pair}
@@ -41,7 +45,8 @@ use Rattle.run_log.specs.declared.entry.Entry.{Entry}
 use Rattle.run_log.specs.declared.entry.Entry.TheVariants.{Test}
 use Rattle.run_log.specs.declared.entry.TestEnd.TheVariants.{No}
 use Rattle.run_log.specs.Entries.{is_spent}
-use Rattle.run_log.specs.HonestLog.{IsAxiomSet, FollowsIn, CostsSteps, IsHonestYes, IsHonestNo, GoesOn, IsHonestEntry, IsHonest}
+use Rattle.run_log.specs.HonestLog.{IsAxiomSet, FollowsIn, CostsSteps, IsHonestYes, IsHonestNo, GoesOn, IsHonestEntry}
+use Rattle.run_log.specs.HonestLog.{IsHonest}
 use Rattle.run_log.specs.HonestLog.Purpose.{decision}
 use Rattle.run_log.specs.LogExamples.{bare, no_axioms, no_axioms_are_whole}
 
@@ -72,7 +77,8 @@ absurdity_is_refuted : ¬ Entails [] absurdity
 absurdity_is_refuted h = let k : true ≡ false = h one_element (omega arith) (λ a. lit< tt) refl 0 (lit< tt) in cc
 
 absurdity_follows_not : (s : Limited) → ¬ FollowsIn bare s absurdity
-absurdity_follows_not s h = absurdity_is_refuted (subst (λ (as_ : List Axiom). Entails as_ absurdity) (none_named (member_list s)) h)
+absurdity_follows_not s h =
+    absurdity_is_refuted (subst (λ (as_ : List Axiom). Entails as_ absurdity) (none_named (member_list s)) h)
 
 -- ---- a table: number 0 is top, 1 a class, 2 its complement, 3 another class, 4 the intersection of 1 and 3
 
@@ -128,22 +134,30 @@ no_parts (k ∷ ks) = no_parts ks
 no_rows : (ks : List ℕ) → IsChoice (theory_of [] ks) table []
 no_rows ks = record {
   rows_fit = All-nil (IsRowOf (theory_of [] ks) table);
-  each_once = All-same (λ n. count_by (λ r. is_row_of r n) [] ≡ 1) (named_parts [] ks) [] (no_parts ks) (All-nil (λ n. count_by (λ r. is_row_of r n) [] ≡ 1));
+  each_once =
+      All-same (λ n. count_by (λ r. is_row_of r n) [] ≡ 1) (named_parts [] ks) [] (no_parts ks)
+      (All-nil (λ n. count_by (λ r. is_row_of r n) [] ≡ 1));
 }
 
 no_row_fits : (ks : List ℕ) (shapes : List Shape) (row : Row) → ¬ IsRowOf (theory_of [] ks) shapes row
 no_row_fits ks shapes row h =
-    let k : None ≡ Some h.part = ap (λ (ps : List NumberedPart). option_map (λ n. n.part) (find (is_numbered row.axiom_number row.part_number) ps)) (sym (no_parts ks)) ∙ h.is_there in
+    let k : None ≡ Some h.part =
+    ap (λ (ps : List NumberedPart). option_map (λ n. n.part) (find (is_numbered row.axiom_number row.part_number) ps))
+    (sym (no_parts ks))
+    ∙ h.is_there in
     cc
 
-none_are_chosen : (ks : List ℕ) (shapes : List Shape) (rows : List Row) → IsChoice (theory_of [] ks) shapes rows → rows ≡ []
+none_are_chosen : (ks : List ℕ) (shapes : List Shape) (rows : List Row) → IsChoice (theory_of [] ks) shapes rows
+    → rows ≡ []
 none_are_chosen ks shapes [] h = refl
-none_are_chosen ks shapes (row ∷ rows) h = absurd (no_row_fits ks shapes row (All-head (IsRowOf (theory_of [] ks) shapes) row rows h.rows_fit))
+none_are_chosen ks shapes (row ∷ rows) h =
+    absurd (no_row_fits ks shapes row (All-head (IsRowOf (theory_of [] ks) shapes) row rows h.rows_fit))
 
 -- ---- given facts, of which there are none
 
 no_facts : (n : ℕ) (ks : List ℕ) (a p : ℕ) → fact_of_axiom n [] ks a p ≡ None
-no_facts n ks a p = elim (is_among ks a) as (λ b. (if b then listed_fact n (fact_in (slice_get [] (a - 1)) p) else None) ≡ None) [ true ↦ refl | false ↦ refl ]
+no_facts n ks a p = elim (is_among ks a) as
+    (λ b. (if b then listed_fact n (fact_in (slice_get [] (a - 1)) p) else None) ≡ None) [ true ↦ refl | false ↦ refl ]
 
 have_numbers : (ks : List ℕ) (q : Query) (shapes : List Shape) → FactsHaveNumbers (question_of 1 [] ks q) shapes
 have_numbers ks q shapes a p f given = let k : None ≡ Some f = sym (no_facts 1 ks a p) ∙ given in cc
@@ -156,15 +170,18 @@ at_top = facts_of (start 1 0 0)
 only_top : (x c : ℕ) → has at_top x c ≡ true → c ≡ 0
 only_top x c h = grind (arith, nat_tests)
 
-module _ (w : SearchContext) (begins : shape_of w.table 0 ≡ top_shape) (no_row : w.rows ≡ []) (no_fact : (a p : ℕ) → w.fact_of a p ≡ None) where
+module _ (w : SearchContext) (begins : shape_of w.table 0 ≡ top_shape) (no_row : w.rows ≡ [])
+    (no_fact : (a p : ℕ) → w.fact_of a p ≡ None) where
   is_top_shape : (x c : ℕ) → has at_top x c ≡ true → shape_of w.table c ≡ top_shape
   is_top_shape x c h = ap (shape_of w.table) (only_top x c h) ∙ begins
 
   nothing_to_add : (x d : ℕ) → Adds w at_top x d → has at_top x d ≡ true
   nothing_to_add x d (by_and _ c _ parts lt h sh in_) = let k = is_top_shape x c h in cc
   nothing_to_add x d (by_all z _ c s e lt mt h sh edge) = let k = is_top_shape z c h in cc
-  nothing_to_add x d (by_carry z _ c s t e _ carried sh) = let k = is_top_shape z c carried.holds in let m = carried.shape in cc
-  nothing_to_add x d (by_row _ row lt there used) = let k = subst (λ (rows : List Row). Contains rows row) no_row there in absurd (omega (arith, k.1))
+  nothing_to_add x d (by_carry z _ c s t e _ carried sh) =
+      let k = is_top_shape z c carried.holds in let m = carried.shape in cc
+  nothing_to_add x d (by_row _ row lt there used) =
+      let k = subst (λ (rows : List Row). Contains rows row) no_row there in absurd (omega (arith, k.1))
 
   nothing_to_give : (f : Fact ℕ) → ¬ IsGiven w f
   nothing_to_give f given = let k = sym (no_fact given.axiom_number given.place) ∙ given.is_there in cc
@@ -200,24 +217,32 @@ module _ (w : SearchContext) (begins : shape_of w.table 0 ≡ top_shape) (no_row
 -- ---- searches whether all things are in no class
 
 tree_of_first : (shapes : List Shape) → IsTable shapes → tree_of shapes 0 ≡ top
-tree_of_first shapes t = tree_of_shape shapes 0 t.has_top (t.parts_below 0 t.has_top) ∙ ap (tree_over (trees_of shapes)) t.begins_with_top
+tree_of_first shapes t =
+    tree_of_shape shapes 0 t.has_top (t.parts_below 0 t.has_top) ∙ ap (tree_over (trees_of shapes)) t.begins_with_top
 
 is_first_number : (shapes : List Shape) → IsTable shapes → (c : ℕ) → c < length shapes → tree_of shapes c ≡ top → c ≡ 0
 is_first_number shapes t c lt reads = numbers_unique shapes t c 0 lt t.has_top (reads ∙ sym (tree_of_first shapes t))
 
 -- over whatever rows, the first trail has node 1 with top alone, from which no step is legal
-module _ (ks : List ℕ) (shapes : List Shape) (rows : List Row) (k : ℕ) (trail : List Item) (r : IsReached (question_of 1 [] ks absurdity) shapes rows k trail) where
+module _ (ks : List ℕ) (shapes : List Shape) (rows : List Row) (k : ℕ) (trail : List Item)
+    (r : IsReached (question_of 1 [] ks absurdity) shapes rows k trail) where
   abbrev context : SearchContext
   context = context_of (question_of 1 [] ks absurdity) shapes rows
 
   begins_at_top : start 1 r.sub_number r.not_sup_number ≡ start 1 0 0
-  begins_at_top = λ i. start 1 (is_first_number shapes r.is_table r.sub_number r.sub_listed r.sub_reads i) (is_first_number shapes r.is_table r.not_sup_number r.not_sup_listed r.not_sup_reads i)
+  begins_at_top =
+      λ i. start 1 (is_first_number shapes r.is_table r.sub_number r.sub_listed r.sub_reads i)
+      (is_first_number shapes r.is_table r.not_sup_number r.not_sup_listed r.not_sup_reads i)
 
   no_step_from_top : (new : List Item) → ¬ IsLegal context (start 1 0 0) new
-  no_step_from_top new = (end_of_search context 1 0 0 0 (start 1 0 0) (lit< tt) refl).0 (top_is_saturated context r.is_table.begins_with_top (none_are_chosen ks shapes rows r.is_choice) (no_facts 1 ks)) new
+  no_step_from_top new =
+      (end_of_search context 1 0 0 0 (start 1 0 0) (lit< tt) refl).0
+      (top_is_saturated context r.is_table.begins_with_top (none_are_chosen ks shapes rows r.is_choice) (no_facts 1 ks))
+      new
 
   no_first_step : (first new : List Item) → first ≡ start 1 r.sub_number r.not_sup_number → ¬ IsLegal context first new
-  no_first_step first new is legal = no_step_from_top new (subst (λ (t : List Item). IsLegal context t new) (is ∙ begins_at_top) legal)
+  no_first_step first new is legal =
+      no_step_from_top new (subst (λ (t : List Item). IsLegal context t new) (is ∙ begins_at_top) legal)
 
 -- ---- ends of tests
 
@@ -225,7 +250,8 @@ abbrev numbers : List ℕ
 numbers = member_list no_axioms
 
 no_axioms_are_a_set : IsAxiomSet bare no_axioms
-no_axioms_are_a_set = record { limit_is = refl; within = λ k h. (let m : false ≡ true = sym (set.contains-empty nat_cmp k) ∙ h in cc) }
+no_axioms_are_a_set =
+    record { limit_is = refl; within = λ k h. (let m : false ≡ true = sym (set.contains-empty nat_cmp k) ∙ h in cc) }
 
 -- what is in class 0 and its complement clashes at once
 itself_costs_nothing : CostsSteps bare no_axioms itself 0
@@ -265,10 +291,22 @@ absurdity_is_reached = record {
 }
 
 absurdity_costs_nothing : CostsSteps bare no_axioms absurdity 0
-absurdity_costs_nothing = record { table = table; rows = []; trail = start 1 0 0; reached = absurdity_is_reached; ends = inl (top_is_saturated (context_of (question_of 1 [] numbers absurdity) table []) refl refl (no_facts 1 numbers)) }
+absurdity_costs_nothing = record {
+  table = table;
+  rows = [];
+  trail = start 1 0 0;
+  reached = absurdity_is_reached;
+  ends =
+      inl (top_is_saturated (context_of (question_of 1 [] numbers absurdity) table []) refl refl (no_facts 1 numbers));
+}
 
 pub is_yes : IsHonestYes bare no_axioms itself 0 no_axioms
-is_yes = record { of_axioms = no_axioms_are_a_set; part = λ k h. h; follows = itself_follows no_axioms; cost = itself_costs_nothing }
+is_yes = record {
+  of_axioms = no_axioms_are_a_set;
+  part = λ k h. h;
+  follows = itself_follows no_axioms;
+  cost = itself_costs_nothing;
+}
 
 -- a yes to what does not follow is not honest, whatever it says of its steps
 pub is_no_yes : (steps : ℕ) (u : Limited) → ¬ IsHonestYes bare no_axioms absurdity steps u
@@ -367,7 +405,8 @@ begins_nowhere_else h = let k : Has 1 4 ≡ Has 0 h.sub_number = first_fact (h.f
 
 -- where the search was at its end, it was not the budget that ended it
 pub does_not_go_on : (t : TrailLists) → ¬ GoesOn bare no_axioms absurdity 0 t
-does_not_go_on t h = no_first_step numbers t.table h.rows 0 t.items h.reached t.items h.next h.reached.follows h.is_legal
+does_not_go_on t h =
+    no_first_step numbers t.table h.rows 0 t.items h.reached t.items h.next h.reached.follows h.is_legal
 
 -- ---- a whole log
 
@@ -382,7 +421,9 @@ pub is_honest_decision : IsHonest bare (decision absurdity) 1 one_no
 is_honest_decision = record {
   budget_kept = record {
     within = omega arith;
-    honest = All-cons (IsHonestEntry bare) (Test no_axioms absurdity 0 No) [] (no_axioms_are_a_set, is_no) (All-nil (IsHonestEntry bare));
+    honest =
+        All-cons (IsHonestEntry bare) (Test no_axioms absurdity 0 No) [] (no_axioms_are_a_set, is_no)
+        (All-nil (IsHonestEntry bare));
     ends = record { is_last = never; is_whole = λ h. cc };
   };
   one = record { asked = no_axioms; steps = 0; ended = No; is_whole = no_axioms_are_whole; is_log = refl };

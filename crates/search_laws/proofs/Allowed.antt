@@ -1,12 +1,16 @@
 -- A concept is allowed where its names are listed and it counts roles of a kind alone. So are the normal forms of it
 -- and of its complement.
-use Rattle.std.proofs.Common.{◌≡◌, ℕ, zero, suc, not, ltb, Bool, true, false, cond, List, [], ◌∷◌, ◌++◌, filter, refl, ◌∙◌, sym}
+use Rattle.std.proofs.Common.{◌≡◌, ℕ, zero, suc, not, ltb, Bool, true, false, cond, List, [], ◌∷◌, ◌++◌, filter, refl}
+use Rattle.std.proofs.Common.{◌∙◌, sym}
 use Rattle.std.specs.List.{list_any, list_all, flat_map}
 use Rattle.std.proofs.lemmas.Bool.{and_parts, and_from}
 use Rattle.std.proofs.lemmas.List.Folds.{list_all-append}
-use Rattle.shq_terms.specs.Concept.{Concept, top, bottom, name, complement, intersection, union, some_of, all_of, at_least, at_most, exactly, Parts, no_parts, part, parts_of, part_list}
+use Rattle.shq_terms.specs.Concept.{Concept, top, bottom, name, complement, intersection, union, some_of, all_of}
+use Rattle.shq_terms.specs.Concept.{at_least, at_most, exactly, Parts, no_parts, part, parts_of, part_list}
 use Rattle.shq_terms.specs.Uses.{uses_listed, parts_use_listed}
-use Rattle.calculus_specs.specs.Normal.{is_top, is_bottom, conjuncts_of, conjuncts, intersected, and_of, disjuncts_of, disjuncts, united, or_of, least_form, fewer_form, most_form, more_form, normal_form, negated_form, normal_forms, negated_forms}
+use Rattle.calculus_specs.specs.Normal.{is_top, is_bottom, conjuncts_of, conjuncts, intersected, and_of, disjuncts_of}
+use Rattle.calculus_specs.specs.Normal.{disjuncts, united, or_of, least_form, fewer_form, most_form, more_form}
+use Rattle.calculus_specs.specs.Normal.{normal_form, negated_form, normal_forms, negated_forms}
 use Rattle.calculus_specs.specs.Rows.{conjuncts_in}
 use Rattle.role_box.specs.Counted.{counted_roles, counted_in}
 
@@ -25,7 +29,9 @@ module _ (classes roles : ℕ) (p : ℕ → Bool) where
   first_part : (c : Concept) (cs : Parts) → PartsAllowed (part c cs) → IsAllowed c × PartsAllowed cs
   first_part c cs h =
       let t = and_parts (uses_listed classes roles c) (parts_use_listed classes roles cs) h.0 in
-      let u = and_parts (list_all p (counted_roles c)) (list_all p (counted_in cs)) (sym (list_all-append p (counted_roles c) (counted_in cs)) ∙ h.1) in
+      let u =
+      and_parts (list_all p (counted_roles c)) (list_all p (counted_in cs))
+      (sym (list_all-append p (counted_roles c) (counted_in cs)) ∙ h.1) in
       ((t.0, u.0), (t.1, u.1))
 
   of_parts : (cs : Parts) → PartsAllowed cs → AreAllowed (part_list cs)
@@ -41,7 +47,8 @@ module _ (classes roles : ℕ) (p : ℕ → Bool) where
   to_parts (c ∷ cs) h =
       let rest = to_parts cs h.1 in (
         and_from (uses_listed classes roles c) (parts_use_listed classes roles (parts_of cs)) h.0.0 rest.0,
-        list_all-append p (counted_roles c) (counted_in (parts_of cs)) ∙ and_from (list_all p (counted_roles c)) (list_all p (counted_in (parts_of cs))) h.0.1 rest.1,
+        list_all-append p (counted_roles c) (counted_in (parts_of cs))
+            ∙ and_from (list_all p (counted_roles c)) (list_all p (counted_in (parts_of cs))) h.0.1 rest.1,
       )
 
   pub allowed_append : (cs ds : List Concept) → AreAllowed cs → AreAllowed ds → AreAllowed (cs ++ ds)
@@ -50,7 +57,8 @@ module _ (classes roles : ℕ) (p : ℕ → Bool) where
 
   allowed_filter : (q : Concept → Bool) (cs : List Concept) → AreAllowed cs → AreAllowed (filter q cs)
   allowed_filter q [] h = tt
-  allowed_filter q (c ∷ cs) h = elim (q c) as (λ b. AreAllowed (cond b (c ∷ filter q cs) (filter q cs))) [ true ↦ (h.0, allowed_filter q cs h.1) | false ↦ allowed_filter q cs h.1 ]
+  allowed_filter q (c ∷ cs) h = elim (q c) as (λ b. AreAllowed (cond b (c ∷ filter q cs) (filter q cs)))
+      [ true ↦ (h.0, allowed_filter q cs h.1) | false ↦ allowed_filter q cs h.1 ]
 
   -- ---- intersections and unions
 
@@ -94,7 +102,8 @@ module _ (classes roles : ℕ) (p : ℕ → Bool) where
   allowed_conjuncts_in (at_most n r c) h = (h, tt)
   allowed_conjuncts_in (exactly n r c) h = (h, tt)
 
-  allowed_opened : (f : Concept → List Concept) → ((c : Concept) → IsAllowed c → AreAllowed (f c)) → (cs : List Concept) → AreAllowed cs → AreAllowed (flat_map f cs)
+  allowed_opened : (f : Concept → List Concept) → ((c : Concept) → IsAllowed c → AreAllowed (f c)) → (cs : List Concept)
+      → AreAllowed cs → AreAllowed (flat_map f cs)
   allowed_opened f each [] h = tt
   allowed_opened f each (c ∷ cs) h = allowed_append (f c) (flat_map f cs) (each c h.0) (allowed_opened f each cs h.1)
 
@@ -115,12 +124,16 @@ module _ (classes roles : ℕ) (p : ℕ → Bool) where
   allowed_and : (cs : List Concept) → AreAllowed cs → IsAllowed (and_of cs)
   allowed_and cs h =
       allowed_either (list_any is_bottom (conjuncts cs)) bottom (intersected (conjuncts cs)) (refl, refl)
-      (allowed_intersected (conjuncts cs) (allowed_filter (λ c. not (is_top c)) (flat_map conjuncts_of cs) (allowed_opened conjuncts_of allowed_conjuncts cs h)))
+      (allowed_intersected (conjuncts cs)
+      (allowed_filter (λ c. not (is_top c)) (flat_map conjuncts_of cs)
+      (allowed_opened conjuncts_of allowed_conjuncts cs h)))
 
   pub allowed_or : (cs : List Concept) → AreAllowed cs → IsAllowed (or_of cs)
   allowed_or cs h =
       allowed_either (list_any is_top (disjuncts cs)) top (united (disjuncts cs)) (refl, refl)
-      (allowed_united (disjuncts cs) (allowed_filter (λ c. not (is_bottom c)) (flat_map disjuncts_of cs) (allowed_opened disjuncts_of allowed_disjuncts cs h)))
+      (allowed_united (disjuncts cs)
+      (allowed_filter (λ c. not (is_bottom c)) (flat_map disjuncts_of cs)
+      (allowed_opened disjuncts_of allowed_disjuncts cs h)))
 
   -- ---- restrictions
 
@@ -132,7 +145,10 @@ module _ (classes roles : ℕ) (p : ℕ → Bool) where
   used r c h k = (and_from (ltb r roles) (uses_listed classes roles c) h k.0, k.1)
 
   counted : (r : ℕ) (c : Concept) → MayCount r → IsAllowed c → IsAllowed (at_least 2 r c)
-  counted r c h k = (and_from (ltb r roles) (uses_listed classes roles c) h.0 k.0, and_from (p r) (list_all p (counted_roles c)) h.1 k.1)
+  counted r c h k = (
+    and_from (ltb r roles) (uses_listed classes roles c) h.0 k.0,
+    and_from (p r) (list_all p (counted_roles c)) h.1 k.1,
+  )
 
   allowed_least : (n r : ℕ) (c : Concept) → MayCount r → IsAllowed c → IsAllowed (least_form n r c)
   allowed_least zero r c h k = (refl, refl)
@@ -174,12 +190,17 @@ module _ (classes roles : ℕ) (p : ℕ → Bool) where
     allowed_normal (union cs) h = allowed_or (normal_forms cs) (allowed_normals cs h)
     allowed_normal (some_of r c) h = let t = used_parts r c h in used r (normal_form c) t.0 (allowed_normal c t.1)
     allowed_normal (all_of r c) h = let t = used_parts r c h in used r (normal_form c) t.0 (allowed_normal c t.1)
-    allowed_normal (at_least n r c) h = let t = counted_parts r c h in allowed_least n r (normal_form c) t.0 (allowed_normal c t.1)
-    allowed_normal (at_most n r c) h = let t = counted_parts r c h in allowed_most n r (normal_form c) (negated_form c) t.0 (allowed_normal c t.1) (allowed_negated c t.1)
+    allowed_normal (at_least n r c) h =
+        let t = counted_parts r c h in allowed_least n r (normal_form c) t.0 (allowed_normal c t.1)
+    allowed_normal (at_most n r c) h =
+        let t = counted_parts r c h in
+        allowed_most n r (normal_form c) (negated_form c) t.0 (allowed_normal c t.1) (allowed_negated c t.1)
     allowed_normal (exactly n r c) h =
         let t = counted_parts r c h in
-        allowed_and (least_form n r (normal_form c) ∷ most_form n r (normal_form c) (negated_form c) ∷ [])
-        (allowed_least n r (normal_form c) t.0 (allowed_normal c t.1), (allowed_most n r (normal_form c) (negated_form c) t.0 (allowed_normal c t.1) (allowed_negated c t.1), tt))
+        allowed_and (least_form n r (normal_form c) ∷ most_form n r (normal_form c) (negated_form c) ∷ []) (
+          allowed_least n r (normal_form c) t.0 (allowed_normal c t.1),
+          (allowed_most n r (normal_form c) (negated_form c) t.0 (allowed_normal c t.1) (allowed_negated c t.1), tt),
+        )
 
     pub allowed_negated : (c : Concept) → IsAllowed c → IsAllowed (negated_form c)
     allowed_negated top h = (refl, refl)
@@ -190,12 +211,17 @@ module _ (classes roles : ℕ) (p : ℕ → Bool) where
     allowed_negated (union cs) h = allowed_and (negated_forms cs) (allowed_negateds cs h)
     allowed_negated (some_of r c) h = let t = used_parts r c h in used r (negated_form c) t.0 (allowed_negated c t.1)
     allowed_negated (all_of r c) h = let t = used_parts r c h in used r (negated_form c) t.0 (allowed_negated c t.1)
-    allowed_negated (at_least n r c) h = let t = counted_parts r c h in allowed_fewer n r (normal_form c) (negated_form c) t.0 (allowed_normal c t.1) (allowed_negated c t.1)
-    allowed_negated (at_most n r c) h = let t = counted_parts r c h in allowed_more n r (normal_form c) t.0 (allowed_normal c t.1)
+    allowed_negated (at_least n r c) h =
+        let t = counted_parts r c h in
+        allowed_fewer n r (normal_form c) (negated_form c) t.0 (allowed_normal c t.1) (allowed_negated c t.1)
+    allowed_negated (at_most n r c) h =
+        let t = counted_parts r c h in allowed_more n r (normal_form c) t.0 (allowed_normal c t.1)
     allowed_negated (exactly n r c) h =
         let t = counted_parts r c h in
-        allowed_or (fewer_form n r (normal_form c) (negated_form c) ∷ more_form n r (normal_form c) ∷ [])
-        (allowed_fewer n r (normal_form c) (negated_form c) t.0 (allowed_normal c t.1) (allowed_negated c t.1), (allowed_more n r (normal_form c) t.0 (allowed_normal c t.1), tt))
+        allowed_or (fewer_form n r (normal_form c) (negated_form c) ∷ more_form n r (normal_form c) ∷ []) (
+          allowed_fewer n r (normal_form c) (negated_form c) t.0 (allowed_normal c t.1) (allowed_negated c t.1),
+          (allowed_more n r (normal_form c) t.0 (allowed_normal c t.1), tt),
+        )
 
     allowed_normals : (cs : Parts) → PartsAllowed cs → AreAllowed (normal_forms cs)
     allowed_normals no_parts h = tt

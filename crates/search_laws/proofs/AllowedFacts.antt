@@ -1,13 +1,16 @@
 -- The facts that axioms within the limits give to a search: their concepts are allowed, the roles of their edges are
 -- listed, and they are of listed individuals alone.
-use Rattle.std.proofs.Common.{◌≡◌, ℕ, zero, suc, ◌-◌, ◌&&◌, ltb, Bool, true, List, [], ◌∷◌, ◌++◌, map, Some, None, ap, ◌∙◌, sym, subst, inl, inr}
+use Rattle.std.proofs.Common.{◌≡◌, ℕ, zero, suc, ◌-◌, ◌&&◌, ltb, Bool, true, List, [], ◌∷◌, ◌++◌, map, Some, None, ap}
+use Rattle.std.proofs.Common.{◌∙◌, sym, subst, inl, inr}
 use Rattle.std.specs.Prelude.{if◌then◌else◌}
 use Rattle.std.specs.List.{list_all, slice_get}
 use Rattle.std.proofs.lemmas.Bool.{cases_eq, and_parts, eq-eqb, ne_eqb}
 use Rattle.shq_terms.specs.Concept.{Concept}
 use Rattle.shq_terms.specs.Uses.{uses_listed, axiom_uses_listed, all_use_listed}
 use Rattle.shq_terms.specs.declared.axioms.Axiom.{Axiom}
-use Rattle.shq_terms.specs.declared.axioms.Axiom.TheVariants.{SubClassOf, EquivalentClasses, DisjointClasses, DisjointUnion, SubRole, EquivalentRoles, Domain, Range, Functional, Transitive, Member, Pair, SameAll, Different}
+use Rattle.shq_terms.specs.declared.axioms.Axiom.TheVariants.{SubClassOf, EquivalentClasses, DisjointClasses}
+use Rattle.shq_terms.specs.declared.axioms.Axiom.TheVariants.{DisjointUnion, SubRole, EquivalentRoles, Domain, Range}
+use Rattle.shq_terms.specs.declared.axioms.Axiom.TheVariants.{Functional, Transitive, Member, Pair, SameAll, Different}
 use Rattle.shq_terms.specs.declared.axioms.Numbered.{Numbered}
 use Rattle.calculus_specs.specs.declared.facts.Fact.{Fact}
 use Rattle.calculus_specs.specs.declared.facts.Fact.TheVariants.{Has, Edge, Apart, Same}
@@ -23,7 +26,8 @@ pub record IsGivenBy (k : ℕ) (axioms : List Numbered) (a place : ℕ) (f : Fac
   pub is_in : fact_in (slice_get axioms (a - 1)) place ≡ Some f
   pub of_listed : nodes_pass (λ x. ltb x k) f ≡ true
 
-pub given_by : (k : ℕ) (axioms : List Numbered) (ks : List ℕ) (a place : ℕ) (f : Fact Concept) → fact_of_axiom k axioms ks a place ≡ Some f → IsGivenBy k axioms a place f
+pub given_by : (k : ℕ) (axioms : List Numbered) (ks : List ℕ) (a place : ℕ) (f : Fact Concept)
+    → fact_of_axiom k axioms ks a place ≡ Some f → IsGivenBy k axioms a place f
 given_by k axioms ks a place f e =
     let s = given_split k axioms ks a place f e in
     let t = listed_split k (fact_in (slice_get axioms (a - 1)) place) f s.1 in
@@ -59,8 +63,10 @@ module _ (classes roles individuals : ℕ) (p : ℕ → Bool) where
   apart_allowed [] = tt
   apart_allowed (a ∷ as_) = facts_append (map (Apart a) as_) (apart_facts as_) (apart_each a as_) (apart_allowed as_)
 
-  facts_allowed : (a : Axiom) → axiom_uses_listed classes roles individuals a ≡ true → list_all p (counted_by a) ≡ true → FactsAllowed (facts_of a)
-  facts_allowed (Member c a) h k = (allowed_normal classes roles p c ((and_parts (uses_listed classes roles c) (ltb a individuals) h).0, k), tt)
+  facts_allowed : (a : Axiom) → axiom_uses_listed classes roles individuals a ≡ true → list_all p (counted_by a) ≡ true
+      → FactsAllowed (facts_of a)
+  facts_allowed (Member c a) h k =
+      (allowed_normal classes roles p c ((and_parts (uses_listed classes roles c) (ltb a individuals) h).0, k), tt)
   facts_allowed (Pair r a b) h k = ((and_parts (ltb r roles) (ltb a individuals && ltb b individuals) h).0, tt)
   facts_allowed (SameAll as_) h k = same_allowed as_
   facts_allowed (Different as_) h k = apart_allowed as_
@@ -75,32 +81,48 @@ module _ (classes roles individuals : ℕ) (p : ℕ → Bool) where
   facts_allowed (Functional r) h k = tt
   facts_allowed (Transitive r) h k = tt
 
-  at_allowed : (fs : List (Fact Concept)) (n : ℕ) (f : Fact Concept) → FactsAllowed fs → slice_get fs n ≡ Some f → FactAllowed f
+  at_allowed : (fs : List (Fact Concept)) (n : ℕ) (f : Fact Concept) → FactsAllowed fs → slice_get fs n ≡ Some f
+      → FactAllowed f
   at_allowed [] n f h e = cc
   at_allowed (g ∷ fs) zero f h e = let same : g ≡ f = cc in subst FactAllowed same h.0
   at_allowed (g ∷ fs) (suc n) f h e = at_allowed fs n f h.1 e
 
-  nth_allowed : (fs : List (Fact Concept)) (place : ℕ) (f : Fact Concept) → FactsAllowed fs → nth_fact fs place ≡ Some f → FactAllowed f
+  nth_allowed : (fs : List (Fact Concept)) (place : ℕ) (f : Fact Concept) → FactsAllowed fs → nth_fact fs place ≡ Some f
+      → FactAllowed f
   nth_allowed fs place f h e = elim (cases_eq place 0) [
     | inl is ↦
-        let none : nth_fact fs place ≡ None = ap (λ (b : Bool). if b then None else slice_get fs (place - 1)) (eq-eqb place 0 is) in
+        let none : nth_fact fs place ≡ None =
+        ap (λ (b : Bool). if b then None else slice_get fs (place - 1)) (eq-eqb place 0 is) in
         absurd (cc)
     | inr isnt ↦
-        let given : nth_fact fs place ≡ slice_get fs (place - 1) = ap (λ (b : Bool). if b then None else slice_get fs (place - 1)) (ne_eqb place 0 isnt) in
+        let given : nth_fact fs place ≡ slice_get fs (place - 1) =
+        ap (λ (b : Bool). if b then None else slice_get fs (place - 1)) (ne_eqb place 0 isnt) in
         at_allowed fs (place - 1) f h (sym given ∙ e)
   ]
 
-  in_allowed : (axioms : List Numbered) (n place : ℕ) (f : Fact Concept) → all_use_listed classes roles individuals axioms ≡ true → list_all (λ (a : Numbered). list_all p (counted_by a.axiom)) axioms ≡ true
+  in_allowed : (axioms : List Numbered) (n place : ℕ) (f : Fact Concept)
+      → all_use_listed classes roles individuals axioms ≡ true
+      → list_all (λ (a : Numbered). list_all p (counted_by a.axiom)) axioms ≡ true
       → fact_in (slice_get axioms n) place ≡ Some f → FactAllowed f
   in_allowed [] n place f h k e = absurd (cc)
   in_allowed (a ∷ axioms) zero place f h k e =
       nth_allowed (facts_of a.axiom) place f
-      (facts_allowed a.axiom (and_parts (axiom_uses_listed classes roles individuals a.axiom) (all_use_listed classes roles individuals axioms) h).0
-      (and_parts (list_all p (counted_by a.axiom)) (list_all (λ (b : Numbered). list_all p (counted_by b.axiom)) axioms) k).0) e
+      (facts_allowed a.axiom
+      (and_parts (axiom_uses_listed classes roles individuals a.axiom) (all_use_listed classes roles individuals axioms)
+      h).0
+      (and_parts (list_all p (counted_by a.axiom)) (list_all (λ (b : Numbered). list_all p (counted_by b.axiom)) axioms)
+      k).0) e
   in_allowed (a ∷ axioms) (suc n) place f h k e =
-      in_allowed axioms n place f (and_parts (axiom_uses_listed classes roles individuals a.axiom) (all_use_listed classes roles individuals axioms) h).1
-      (and_parts (list_all p (counted_by a.axiom)) (list_all (λ (b : Numbered). list_all p (counted_by b.axiom)) axioms) k).1 e
+      in_allowed axioms n place f
+      (and_parts (axiom_uses_listed classes roles individuals a.axiom) (all_use_listed classes roles individuals axioms)
+      h).1
+      (and_parts (list_all p (counted_by a.axiom)) (list_all (λ (b : Numbered). list_all p (counted_by b.axiom)) axioms)
+      k).1
+      e
 
-  pub given_allowed : (k : ℕ) (axioms : List Numbered) (ks : List ℕ) → all_use_listed classes roles individuals axioms ≡ true → list_all (λ (a : Numbered). list_all p (counted_by a.axiom)) axioms ≡ true
+  pub given_allowed : (k : ℕ) (axioms : List Numbered) (ks : List ℕ)
+      → all_use_listed classes roles individuals axioms ≡ true
+      → list_all (λ (a : Numbered). list_all p (counted_by a.axiom)) axioms ≡ true
       → (a place : ℕ) (f : Fact Concept) → fact_of_axiom k axioms ks a place ≡ Some f → FactAllowed f
-  given_allowed k axioms ks h c a place f e = in_allowed axioms (a - 1) place f h c (given_by k axioms ks a place f e).is_in
+  given_allowed k axioms ks h c a place f e =
+      in_allowed axioms (a - 1) place f h c (given_by k axioms ks a place f e).is_in

@@ -1,5 +1,6 @@
 -- The law: the other search ends saturated too.
-use Rattle.std.proofs.Common.{◌≡◌, ℕ, zero, suc, ◌<◌, ◌⊎◌, eqb, Bool, true, false, List, [], ◌∷◌, ◌++◌, length, Some, refl, ap, ◌∙◌, sym, subst, arith, inl, inr, eq-eqb, length-append}
+use Rattle.std.proofs.Common.{◌≡◌, ℕ, zero, suc, ◌<◌, ◌⊎◌, eqb, Bool, true, false, List, [], ◌∷◌, ◌++◌, length, Some}
+use Rattle.std.proofs.Common.{refl, ap, ◌∙◌, sym, subst, arith, inl, inr, eq-eqb, length-append}
 use Rattle.std.proofs.lemmas.List.{append-nil, get_or_push}
 use Rattle.std.proofs.lemmas.List.Elements.{All-weaker}
 use Rattle.std.proofs.lemmas.Bool.{cases_Bool, cases_lt, eqb-true}
@@ -39,7 +40,9 @@ is_complement : (a : ℕ) (s : Shape) → s ≡ not_name a → is_complement_of 
 is_complement a s e = ap (is_complement_of a) e ∙ eq-eqb a a refl
 
 -- some number below the bound has the shape, or none has
-complement_below : (table : List Shape) (a bound : ℕ) → ((n : ℕ) × (n < bound) × (shape_of table n ≡ not_name a)) ⊎ ((n : ℕ) → n < bound → ¬ (shape_of table n ≡ not_name a))
+complement_below : (table : List Shape) (a bound : ℕ)
+    → ((n : ℕ) × (n < bound) × (shape_of table n ≡ not_name a))
+    ⊎ ((n : ℕ) → n < bound → ¬ (shape_of table n ≡ not_name a))
 complement_below table a zero = inr (λ n lt. absurd (omega (arith, lt)))
 complement_below table a (suc bound) = elim (cases_Bool (is_complement_of a (shape_of table bound))) [
   | inl hit ↦ inl (bound, omega arith, complement_is a (shape_of table bound) hit)
@@ -47,12 +50,15 @@ complement_below table a (suc bound) = elim (cases_Bool (is_complement_of a (sha
     | inl found ↦ inl (found.0, omega (arith, found.1), found.2)
     | inr none ↦ inr (λ n lt sh. elim (cases_lt n bound) [
       | inl less ↦ none n less sh
-      | inr same ↦ (let e : n ≡ bound = omega arith in let k = is_complement a (shape_of table bound) (ap (shape_of table) (sym e) ∙ sh) in cc)
+      | inr same ↦
+          (let e : n ≡ bound = omega arith in
+          let k = is_complement a (shape_of table bound) (ap (shape_of table) (sym e) ∙ sh) in cc)
     ])
   ]
 ]
 
-row_up : (theory : Theory) (table more : List Shape) (row : Row) → IsRowOf theory table row → IsRowOf theory (table ++ more) row
+row_up : (theory : Theory) (table more : List Shape) (row : Row) → IsRowOf theory table row
+    → IsRowOf theory (table ++ more) row
 row_up theory table more row h = record {
   part = h.part;
   is_there = h.is_there;
@@ -60,25 +66,33 @@ row_up theory table more row h = record {
   is_right = h.is_right ∙ ap (λ (t : Concept). Some t) (sym (tree_of-append table more row.concept h.listed));
 }
 
-choice_up : (theory : Theory) (table more : List Shape) (rows : List Row) → IsChoice theory table rows → IsChoice theory (table ++ more) rows
+choice_up : (theory : Theory) (table more : List Shape) (rows : List Row) → IsChoice theory table rows
+    → IsChoice theory (table ++ more) rows
 choice_up theory table more rows h = record {
-  rows_fit = All-weaker (IsRowOf theory table) (IsRowOf theory (table ++ more)) (row_up theory table more) rows h.rows_fit;
+  rows_fit =
+      All-weaker (IsRowOf theory table) (IsRowOf theory (table ++ more)) (row_up theory table more) rows h.rows_fit;
   each_once = h.each_once;
 }
 
 -- ---- the law
 
-module _ (q : Question) (table : List Shape) (rows : List Row) (number a : ℕ) (trail : List Item) (earlier : List (List Item)) (good : IsTable table)
-    (fits : IsChoice q.theory table rows) (have : FactsHaveNumbers q table) (is_first : q.at < q.first) (unnamed : IsUnnamed q)
+module _ (q : Question) (table : List Shape) (rows : List Row) (number a : ℕ) (trail : List Item)
+    (earlier : List (List Item)) (good : IsTable table)
+    (fits : IsChoice q.theory table rows) (have : FactsHaveNumbers q table) (is_first : q.at < q.first)
+    (unnamed : IsUnnamed q)
     (number_listed : number < length table) (number_reads : tree_of table number ≡ normal_form q.sub)
     (run : IsRun (context_of q table rows) (start q.at number 0) (trail ∷ earlier))
     (sat : IsSaturated (context_of q table rows) trail) (out : LeavesOut q.at table (trail ∷ earlier) a) where
   -- over the table, or one that has grown
-  answers : (more : List Shape) (n : ℕ) → IsTable (table ++ more) → shape_of (table ++ more) n ≡ not_name a → EndsSaturated (with_sup q (name a)) (length earlier)
+  answers : (more : List Shape) (n : ℕ) → IsTable (table ++ more) → shape_of (table ++ more) n ≡ not_name a
+      → EndsSaturated (with_sup q (name a)) (length earlier)
   answers more n longer shape_n =
-      let f = followed q table more rows good fits n a shape_n is_first unnamed number number_listed trail earlier run out in
+      let f =
+      followed q table more rows good fits n a shape_n is_first unnamed number number_listed trail earlier run out in
       let w = short q table more rows in
-      let set = setting q table more rows good fits n a shape_n is_first unnamed number number_listed f.rest earlier (subst (λ (is : List Item). IsRun w (start q.at number 0) (is ∷ earlier)) f.splits run)
+      let set =
+      setting q table more rows good fits n a shape_n is_first unnamed number number_listed f.rest earlier
+      (subst (λ (is : List Item). IsRun w (start q.at number 0) (is ∷ earlier)) f.splits run)
       (subst (λ (is : List Item). LeavesOut q.at table (is ∷ earlier) a) f.splits out) in
       let n_listed : n < length (table ++ more) = listed (table ++ more) n (λ k. (let l = sym shape_n ∙ k in cc)) in
       record {
@@ -95,20 +109,26 @@ module _ (q : Question) (table : List Shape) (rows : List Row) (number a : ℕ) 
           sub_reads = tree_of-append table more number number_listed ∙ number_reads;
           not_sup_number = n;
           not_sup_listed = n_listed;
-          not_sup_reads = shape_tree (table ++ more) longer n n_listed ∙ ap (tree_over (trees_of (table ++ more))) shape_n;
+          not_sup_reads =
+              shape_tree (table ++ more) longer n n_listed ∙ ap (tree_over (trees_of (table ++ more))) shape_n;
           follows = f.follows;
         };
-        is_saturated = saturated q table more rows good n a shape_n unnamed number f.rest set longer have (subst (IsSaturated w) f.splits sat);
+        is_saturated =
+            saturated q table more rows good n a shape_n unnamed number f.rest set longer have
+            (subst (IsSaturated w) f.splits sat);
       }
 
   answered : EndsSaturated (with_sup q (name a)) (length earlier)
   answered = elim (complement_below table a (length table)) [
     | inl found ↦
-        answers [] found.0 (subst IsTable (sym (append-nil table)) good) (ap (λ (t : List Shape). shape_of t found.0) (append-nil table) ∙ found.2)
+        answers [] found.0 (subst IsTable (sym (append-nil table)) good)
+        (ap (λ (t : List Shape). shape_of t found.0) (append-nil table) ∙ found.2)
     | inr none ↦
-        answers (not_name a ∷ []) (length table) (table_with_new table (not_name a) good refl refl none) (get_or_push table (not_name a) top (length table) refl)
+        answers (not_name a ∷ []) (length table) (table_with_new table (not_name a) good refl refl none)
+        (get_or_push table (not_name a) top (length table) refl)
   ]
 
 pub one_run_answers_more : OneRunAnswersMore
 one_run_answers_more q table rows number k a trail earlier good fits have is_first unnamed lt reads run steps sat out =
-    subst (EndsSaturated (with_sup q (name a))) steps (answered q table rows number a trail earlier good fits have is_first unnamed lt reads run sat out)
+    subst (EndsSaturated (with_sup q (name a))) steps
+    (answered q table rows number a trail earlier good fits have is_first unnamed lt reads run sat out)

@@ -1,5 +1,6 @@
 -- A trail has few nodes.
-use Rattle.std.proofs.Common.{◌≡◌, ℕ, zero, suc, ◌+◌, ◌*◌, ◌^◌, ◌<◌, ◌≤◌, eqb, leb, ltb, true, List, [], ◌∷◌, ◌++◌, length, None, ap, ◌∙◌, sym, subst, arith, inl, inr, le-leb, length-append}
+use Rattle.std.proofs.Common.{◌≡◌, ℕ, zero, suc, ◌+◌, ◌*◌, ◌^◌, ◌<◌, ◌≤◌, eqb, leb, ltb, true, List, [], ◌∷◌, ◌++◌}
+use Rattle.std.proofs.Common.{length, None, ap, ◌∙◌, sym, subst, arith, inl, inr, le-leb, length-append}
 use Rattle.std.specs.List.{list_any}
 use Rattle.std.proofs.lemmas.Bool.{cases_Bool, cases_lt, ltb-true}
 use Rattle.std.proofs.lemmas.Nat.{mul-le}
@@ -28,19 +29,27 @@ use Rattle.search_laws.proofs.Tally.{facts_after}
 use Rattle.search_laws.proofs.Level.{level, IsLevel, levels_built, fresh_old, fresh_new}
 use Rattle.search_laws.proofs.Paths.{had_in, few_above}
 use Rattle.search_laws.proofs.Asked.{many, by_role, with_concept, IsMaking, making}
-use Rattle.search_laws.proofs.BoundNodes.{IsPlain, plain_count, plain_level, alternative_plain, deep, filled, filled_most, Fits, fits_plain, fits_make}
+use Rattle.search_laws.proofs.BoundNodes.{IsPlain, plain_count, plain_level, alternative_plain, deep, filled}
+use Rattle.search_laws.proofs.BoundNodes.{filled_most, Fits, fits_plain, fits_make}
 
-built_before : (w : SearchContext) (old new : List Item) → IsBuilt w.first (IsGiven w) (old ++ new) → IsBuilt w.first (IsGiven w) old
-built_before w old new h = subst (IsBuilt w.first (IsGiven w)) (take-append_seam old new) (built_take w.first (IsGiven w) (old ++ new) (length old) h (omega (arith, length-append old new)))
+built_before : (w : SearchContext) (old new : List Item) → IsBuilt w.first (IsGiven w) (old ++ new)
+    → IsBuilt w.first (IsGiven w) old
+built_before w old new h =
+    subst (IsBuilt w.first (IsGiven w)) (take-append_seam old new)
+    (built_take w.first (IsGiven w) (old ++ new) (length old) h (omega (arith, length-append old new)))
 
 -- ---- paths are levels
 
-first_level : (first : ℕ) (fs : List (Fact ℕ)) → IsLevel first fs → (x : ℕ) → parent_from first fs x ≡ None → level fs x ≡ 0
-first_level first fs l x h = elim (cases_Bool (ltb x first)) [ inl low ↦ l.first_is x (ltb-true x first low) | inr high ↦ l.none x (rw high at h) ]
+first_level : (first : ℕ) (fs : List (Fact ℕ)) → IsLevel first fs → (x : ℕ) → parent_from first fs x ≡ None
+    → level fs x ≡ 0
+first_level first fs l x h = elim (cases_Bool (ltb x first))
+    [ inl low ↦ l.first_is x (ltb-true x first low) | inr high ↦ l.none x (rw high at h) ]
 
-pub path_level : (first : ℕ) (fs : List (Fact ℕ)) → IsLevel first fs → (x n : ℕ) → HasPath first fs x n → n ≡ level fs x + 1
+pub path_level : (first : ℕ) (fs : List (Fact ℕ)) → IsLevel first fs → (x n : ℕ) → HasPath first fs x n
+    → n ≡ level fs x + 1
 path_level first fs l x n (from_first x' is_first) = omega (arith, first_level first fs l x' is_first.has_no_parent)
-path_level first fs l x n (below x' p m h path) = let o = origin_of_parent first fs x' p h in omega (arith, path_level first fs l p m path, l.up x' p o.0 o.1)
+path_level first fs l x n (below x' p m h path) =
+    let o = origin_of_parent first fs x' p h in omega (arith, path_level first fs l p m path, l.up x' p o.0 o.1)
 
 -- ---- what new nodes are made by
 
@@ -66,25 +75,33 @@ module _ (w : SearchContext) (none_given : (f : Fact ℕ) → ¬ IsGiven w f) (a
   low_plain : (fs : List (Fact ℕ)) (f : Fact ℕ) → IsPlain f → Low fs → Low (fs ++ f ∷ [])
   low_plain fs f p h v lt = omega (arith, plain_level fs f p v, h v (omega (arith, plain_count w.first fs f p)))
 
-  low_fresh : (fs : List (Fact ℕ)) (x s e n : ℕ) → x < node_count_from w.first fs → level fs x + 1 ≤ 2 ^ length ds → Low fs → Low (fs ++ fresh_facts x s e (node_count_from w.first fs) (suc n))
+  low_fresh : (fs : List (Fact ℕ)) (x s e n : ℕ) → x < node_count_from w.first fs → level fs x + 1 ≤ 2 ^ length ds
+      → Low fs → Low (fs ++ fresh_facts x s e (node_count_from w.first fs) (suc n))
   low_fresh fs x s e n lt few h v mt = elim (cases_lt v (node_count_from w.first fs)) [
     | inl old ↦ omega (arith, fresh_old w.first fs x s e (suc n) v old, h v old)
-    | inr new ↦ let count = count-fresh w.first fs x s e (suc n) in omega (arith, fresh_new w.first fs x s e (suc n) v lt new (omega arith), few)
+    | inr new ↦
+        let count = count-fresh w.first fs x s e (suc n) in
+        omega (arith, fresh_new w.first fs x s e (suc n) v lt new (omega arith), few)
   ]
 
-  low_make : (old : List Item) (new : List (Fact ℕ)) → IsBuilt w.first (IsGiven w) old → AreIn ds (facts_of old) → IsMaking w (facts_of old) new → Low (facts_of old) → Low (facts_of old ++ new)
+  low_make : (old : List Item) (new : List (Fact ℕ)) → IsBuilt w.first (IsGiven w) old → AreIn ds (facts_of old)
+      → IsMaking w (facts_of old) new → Low (facts_of old) → Low (facts_of old ++ new)
   low_make old new built all k h =
       let g = levels_built w none_given old built in
       let o = k.is_open in
       let few = few_above w ds (facts_of old) all g.0 g.1 k.at o.is_rep o.is_clear in
-      subst (λ (gs : List (Fact ℕ)). Low (facts_of old ++ gs)) (sym k.is_new) (low_fresh (facts_of old) k.at (by_role (shape_of w.table k.by)) (with_concept (shape_of w.table k.by)) k.more o.is_node few h)
+      subst (λ (gs : List (Fact ℕ)). Low (facts_of old ++ gs)) (sym k.is_new)
+      (low_fresh (facts_of old) k.at (by_role (shape_of w.table k.by)) (with_concept (shape_of w.table k.by)) k.more
+      o.is_node few h)
 
-  pub low : (ns : List ℕ) (trail : List Item) → IsGrown w (start at a b) ns trail → IsBuilt w.first (IsGiven w) trail → AreIn ds (facts_of trail) → Low (facts_of trail)
+  pub low : (ns : List ℕ) (trail : List Item) → IsGrown w (start at a b) ns trail → IsBuilt w.first (IsGiven w) trail
+      → AreIn ds (facts_of trail) → Low (facts_of trail)
   low ns trail at_first built all = λ v lt. omega arith
   low ns trail (by_add ms old x d g adds out) built all =
       let e = facts_after old (Has x d ∷ []) in
       let all' = in_front ds (facts_of old) (Has x d ∷ []) (subst (AreIn ds) e all) in
-      subst Low (sym e) (low_plain (facts_of old) (Has x d) tt (low ms old g (built_before w old (says (Has x d ∷ [])) built) all'))
+      subst Low (sym e)
+      (low_plain (facts_of old) (Has x d) tt (low ms old g (built_before w old (says (Has x d ∷ [])) built) all'))
   low ns trail (by_give ms old f g is_given out) built all = absurd (none_given f is_given)
   low ns trail (by_make ms old new g makes) built all =
       let e = facts_after old new in
@@ -92,16 +109,24 @@ module _ (w : SearchContext) (none_given : (f : Fact ℕ) → ¬ IsGiven w f) (a
       let built' = built_before w old (says new) built in
       subst Low (sym e) (low_make old new built' all' (making w (facts_of old) new makes) (low ms old g built' all'))
   low ns trail (by_choice ms old c f g may alt) built all =
-      let e : facts_of (old ++ Mark c ∷ Says f ∷ []) ≡ facts_of old ++ f ∷ [] = facts_of-append old (Mark c ∷ Says f ∷ []) in
+      let e : facts_of (old ++ Mark c ∷ Says f ∷ []) ≡ facts_of old ++ f ∷ [] =
+      facts_of-append old (Mark c ∷ Says f ∷ []) in
       let all' = in_front ds (facts_of old) (f ∷ []) (subst (AreIn ds) e all) in
-      subst Low (sym e) (low_plain (facts_of old) f (alternative_plain w.table c.branch c.alternative f alt) (low ms old g (built_before w old (Mark c ∷ Says f ∷ []) built) all'))
+      subst Low (sym e)
+      (low_plain (facts_of old) f (alternative_plain w.table c.branch c.alternative f alt)
+      (low ms old g (built_before w old (Mark c ∷ Says f ∷ []) built) all'))
 
   -- ---- the nodes of each level are few
 
-  module _ (one : w.first ≡ 1) (most : ℕ) (some : 1 ≤ most) (itself : (s : ℕ) → w.theory.below s s ≡ true) (begins : shape_of w.table 0 ≡ top)
+  module _ (one : w.first ≡ 1) (most : ℕ) (some : 1 ≤ most) (itself : (s : ℕ) → w.theory.below s s ≡ true)
+      (begins : shape_of w.table 0 ≡ top)
       (asked : (c n s e : ℕ) → list_any (eqb c) ds ≡ true → shape_of w.table c ≡ at_least n s e → n ≤ most) where
-    pub fits : (h : ℕ) (ns : List ℕ) (trail : List Item) → IsGrown w (start at a b) ns trail → AreIn ds (facts_of trail) → Fits w ds most h (facts_of trail)
-    fits h ns trail at_first all = let few : deep w ds h (facts_of (start at a b)) ≤ w.first = count_most w.first (λ z. leb (level (facts_of (start at a b)) z) h) in omega (arith, one)
+    pub fits : (h : ℕ) (ns : List ℕ) (trail : List Item) → IsGrown w (start at a b) ns trail → AreIn ds (facts_of trail)
+        → Fits w ds most h (facts_of trail)
+    fits h ns trail at_first all =
+        let few : deep w ds h (facts_of (start at a b)) ≤ w.first =
+        count_most w.first (λ z. leb (level (facts_of (start at a b)) z) h) in
+        omega (arith, one)
     fits h ns trail (by_add ms old x d g adds out) all =
         let e = facts_after old (Has x d ∷ []) in
         let all' = in_front ds (facts_of old) (Has x d ∷ []) (subst (AreIn ds) e all) in
@@ -112,11 +137,16 @@ module _ (w : SearchContext) (none_given : (f : Fact ℕ) → ¬ IsGiven w f) (a
         let all' = in_front ds (facts_of old) new (subst (AreIn ds) e all) in
         let k = making w (facts_of old) new makes in
         let there = made_by w ds most some begins asked (facts_of old) new k all' in
-        subst (Fits w ds most h) (sym e) (fits_make w ds most h (facts_of old) new k itself (made_few w ds most some begins asked (facts_of old) new k there) there (fits h ms old g all'))
+        subst (Fits w ds most h) (sym e)
+        (fits_make w ds most h (facts_of old) new k itself
+        (made_few w ds most some begins asked (facts_of old) new k there) there (fits h ms old g all'))
     fits h ns trail (by_choice ms old c f g may alt) all =
-        let e : facts_of (old ++ Mark c ∷ Says f ∷ []) ≡ facts_of old ++ f ∷ [] = facts_of-append old (Mark c ∷ Says f ∷ []) in
+        let e : facts_of (old ++ Mark c ∷ Says f ∷ []) ≡ facts_of old ++ f ∷ [] =
+        facts_of-append old (Mark c ∷ Says f ∷ []) in
         let all' = in_front ds (facts_of old) (f ∷ []) (subst (AreIn ds) e all) in
-        subst (Fits w ds most h) (sym e) (fits_plain w ds most h (facts_of old) f (alternative_plain w.table c.branch c.alternative f alt) (fits h ms old g all'))
+        subst (Fits w ds most h) (sym e)
+        (fits_plain w ds most h (facts_of old) f (alternative_plain w.table c.branch c.alternative f alt)
+        (fits h ms old g all'))
 
     -- ---- powers
 
@@ -126,19 +156,25 @@ module _ (w : SearchContext) (none_given : (f : Fact ℕ) → ¬ IsGiven w f) (a
         let e : d * (l * g + 1) ≡ g * (d * l) + d = grind arith in
         omega arith
 
-    pub deep_few : (fs : List (Fact ℕ)) (c : ℕ) → length ds ≤ c → IsLevel w.first fs → ((h : ℕ) → Fits w ds most h fs) → (h : ℕ) → deep w ds h fs ≤ (c * most + 1) ^ h
+    pub deep_few : (fs : List (Fact ℕ)) (c : ℕ) → length ds ≤ c → IsLevel w.first fs → ((h : ℕ) → Fits w ds most h fs)
+        → (h : ℕ) → deep w ds h fs ≤ (c * most + 1) ^ h
     deep_few fs c le l fit zero = omega (arith, fit 0, pow-zero (c * most + 1))
     deep_few fs c le l fit (suc h) =
         let rest = deep_few fs c le l fit h in
         let d = deep w ds h fs in
-        let pos = count_one (node_count_from w.first fs) (λ z. leb (level fs z) h) 0 (omega (arith, one, first_le w.first fs)) (le-leb (level fs 0) h (omega (arith, l.first_is 0 (omega (arith, one))))) in
+        let pos =
+        count_one (node_count_from w.first fs) (λ z. leb (level fs z) h) 0 (omega (arith, one, first_le w.first fs))
+        (le-leb (level fs 0) h (omega (arith, l.first_is 0 (omega (arith, one))))) in
         let r = filled_most w ds h fs in
         let wide = mul-le d (length ds) d c (omega arith) le in
         let step = grows most c d (filled w ds h fs) pos (omega arith) in
         let more = mul-le d (c * most + 1) ((c * most + 1) ^ h) (c * most + 1) rest (omega arith) in
         omega (arith, fit (suc h), pow-suc (c * most + 1) h)
 
-    pub nodes_few : (fs : List (Fact ℕ)) (c : ℕ) → length ds ≤ c → IsLevel w.first fs → ((h : ℕ) → Fits w ds most h fs) → Low fs → node_count_from w.first fs ≤ (c * most + 1) ^ (2 ^ length ds)
+    pub nodes_few : (fs : List (Fact ℕ)) (c : ℕ) → length ds ≤ c → IsLevel w.first fs → ((h : ℕ) → Fits w ds most h fs)
+        → Low fs → node_count_from w.first fs ≤ (c * most + 1) ^ (2 ^ length ds)
     nodes_few fs c le l fit lows =
-        let all = count_all (node_count_from w.first fs) (λ z. leb (level fs z) (2 ^ length ds)) (λ z lt. le-leb (level fs z) (2 ^ length ds) (lows z lt)) in
+        let all =
+        count_all (node_count_from w.first fs) (λ z. leb (level fs z) (2 ^ length ds))
+        (λ z lt. le-leb (level fs z) (2 ^ length ds) (lows z lt)) in
         omega (arith, all, deep_few fs c le l fit (2 ^ length ds))

@@ -68,7 +68,9 @@ few_steps_at_first q cs facts table rows k trail closed all_facts r first =
     let v = node_count_from q.first (facts_of trail) in
     let keep = keeping w q.at a b k trail r.follows in
     let ts = map (numbered table) facts in
-    let t = tally w q.at a b r.at_first ds (so_count ts) (counts_so w ts (given_among table r.is_table q rows facts all_facts)) v keep.numbers trail keep.grown (omega arith) (numbers_in q cs table rows k trail closed r) in
+    let t =
+    tally w q.at a b r.at_first ds (so_count ts) (counts_so w ts (given_among table r.is_table q rows facts all_facts))
+    v keep.numbers trail keep.grown (omega arith) (numbers_in q cs table rows k trail closed r) in
     let some = t.at_first_steps first in
     let all = keep.all_are_kept (ones w q.at a b keep.numbers trail keep.grown first) in
     let g = given_most ds v (facts_of trail) in
@@ -87,7 +89,9 @@ few_marks q cs table rows k trail closed r =
     let ds = numbers_of table cs in
     let v = node_count_from q.first (facts_of trail) in
     let keep = keeping w q.at a b k trail r.follows in
-    let t = tally w q.at a b r.at_first ds (λ fs. length fs) (counts_all w) v keep.numbers trail keep.grown (omega arith) (numbers_in q cs table rows k trail closed r) in
+    let t =
+    tally w q.at a b r.at_first ds (λ fs. length fs) (counts_all w) v keep.numbers trail keep.grown (omega arith)
+    (numbers_in q cs table rows k trail closed r) in
     let some = t.mark_steps in
     let g = given_most ds v (facts_of trail) in
     let j = joined_most ds v (facts_of trail) in

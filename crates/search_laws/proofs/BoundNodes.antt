@@ -1,5 +1,6 @@
 -- The nodes of a trail, counted by how deep they stand.
-use Rattle.std.proofs.Common.{◌≡◌, ℕ, zero, suc, ◌+◌, ◌-◌, ◌*◌, ◌<◌, ◌≤◌, eqb, leb, cond, Bool, true, false, List, [], ◌∷◌, ◌++◌, length, refl, ap, ◌∙◌, arith, inl, inr, le-leb}
+use Rattle.std.proofs.Common.{◌≡◌, ℕ, zero, suc, ◌+◌, ◌-◌, ◌*◌, ◌<◌, ◌≤◌, eqb, leb, cond, Bool, true, false, List, []}
+use Rattle.std.proofs.Common.{◌∷◌, ◌++◌, length, refl, ap, ◌∙◌, arith, inl, inr, le-leb}
 use Rattle.std.specs.List.{list_any}
 use Rattle.std.proofs.lemmas.Bool.{cases_Bool, cases_lt, leb-true, false_from_ne_true}
 use Rattle.std.proofs.lemmas.Nat.{mul-le}
@@ -28,20 +29,23 @@ sum_longer n (suc k) m f e =
     omega (arith, ap (λ (a : ℕ). sum_below a f) m')
 
 -- a sum over those that pass
-sum_passing : (n m : ℕ) (p : ℕ → Bool) (f : ℕ → ℕ) → ((y : ℕ) → f y ≤ m) → sum_below n (λ y. cond (p y) (f y) 0) ≤ count_below n p * m
+sum_passing : (n m : ℕ) (p : ℕ → Bool) (f : ℕ → ℕ) → ((y : ℕ) → f y ≤ m)
+    → sum_below n (λ y. cond (p y) (f y) 0) ≤ count_below n p * m
 sum_passing zero m p f le = omega arith
 sum_passing (suc n) m p f le = elim (cases_Bool (p n)) [
   | inl here ↦
       let rest = sum_passing n m p f le in
       let a : cond (p n) (f n) 0 ≡ f n = ap (λ (b : Bool). cond b (f n) 0) here in
-      let b : count_below n p + cond (p n) 1 0 ≡ count_below n p + 1 = ap (λ (b : Bool). count_below n p + cond b 1 0) here in
+      let b : count_below n p + cond (p n) 1 0 ≡ count_below n p + 1 =
+      ap (λ (b : Bool). count_below n p + cond b 1 0) here in
       let c : (count_below n p + cond (p n) 1 0) * m ≡ (count_below n p + 1) * m = ap (λ (k : ℕ). k * m) b in
       let d : (count_below n p + 1) * m ≡ count_below n p * m + m = grind arith in
       omega (arith, le n)
   | inr out ↦
       let rest = sum_passing n m p f le in
       let a : cond (p n) (f n) 0 ≡ 0 = ap (λ (b : Bool). cond b (f n) 0) out in
-      let b : count_below n p + cond (p n) 1 0 ≡ count_below n p = ap (λ (b : Bool). count_below n p + cond b 1 0) out ∙ add_none (count_below n p) in
+      let b : count_below n p + cond (p n) 1 0 ≡ count_below n p =
+      ap (λ (b : Bool). count_below n p + cond b 1 0) out ∙ add_none (count_below n p) in
       let c : (count_below n p + cond (p n) 1 0) * m ≡ count_below n p * m = ap (λ (k : ℕ). k * m) b in
       omega arith
 ]
@@ -57,7 +61,8 @@ IsPlain (Has x c) = Unit {0}
 IsPlain (Apart x y) = Unit {0}
 IsPlain (Same x y) = Unit {0}
 
-pub plain_count : (first : ℕ) (fs : List (Fact ℕ)) (f : Fact ℕ) → IsPlain f → node_count_from first (fs ++ f ∷ []) ≡ node_count_from first fs
+pub plain_count : (first : ℕ) (fs : List (Fact ℕ)) (f : Fact ℕ) → IsPlain f
+    → node_count_from first (fs ++ f ∷ []) ≡ node_count_from first fs
 plain_count first fs f h = omega (arith, count-append first fs (f ∷ []), one f h, count_front first [] fs)
   where
     one : (f : Fact ℕ) → IsPlain f → node_count_from first (f ∷ []) ≡ first
@@ -97,17 +102,22 @@ module _ (w : SearchContext) (ds : List ℕ) where
   filled h fs = sum_below (node_count_from w.first fs) (met_at h fs)
 
   pub filled_most : (h : ℕ) (fs : List (Fact ℕ)) → filled h fs ≤ deep h fs * length ds
-  filled_most h fs = sum_passing (node_count_from w.first fs) (length ds) (λ x. leb (level fs x) h) (λ x. count_in ds (is_met w fs x)) (λ x. in_most ds (is_met w fs x))
+  filled_most h fs =
+      sum_passing (node_count_from w.first fs) (length ds) (λ x. leb (level fs x) h) (λ x. count_in ds (is_met w fs x))
+      (λ x. in_most ds (is_met w fs x))
 
-  met_at_stays : (h : ℕ) (fs gs : List (Fact ℕ)) (x : ℕ) → level (fs ++ gs) x ≡ level fs x → met_at h fs x ≤ met_at h (fs ++ gs) x
-  met_at_stays h fs gs x same = rw same (by_test (leb (level fs x) h) (in_le ds (is_met w fs x) (is_met w (fs ++ gs) x) (met_stays w fs gs x)))
+  met_at_stays : (h : ℕ) (fs gs : List (Fact ℕ)) (x : ℕ) → level (fs ++ gs) x ≡ level fs x
+      → met_at h fs x ≤ met_at h (fs ++ gs) x
+  met_at_stays h fs gs x same =
+      rw same (by_test (leb (level fs x) h) (in_le ds (is_met w fs x) (is_met w (fs ++ gs) x) (met_stays w fs gs x)))
     where
       by_test : {a b : ℕ} → (t : Bool) → a ≤ b → cond t a 0 ≤ cond t b 0
       by_test true le = le
       by_test false le = omega arith
 
   -- more facts fill no less
-  filled_le : (h : ℕ) (fs gs : List (Fact ℕ)) → ((v : ℕ) → v < node_count_from w.first fs → level (fs ++ gs) v ≡ level fs v) → filled h fs ≤ filled h (fs ++ gs)
+  filled_le : (h : ℕ) (fs gs : List (Fact ℕ))
+      → ((v : ℕ) → v < node_count_from w.first fs → level (fs ++ gs) v ≡ level fs v) → filled h fs ≤ filled h (fs ++ gs)
   filled_le h fs gs same =
       let n = node_count_from w.first fs in
       let m = node_count_from w.first (fs ++ gs) in
@@ -116,43 +126,60 @@ module _ (w : SearchContext) (ds : List ℕ) where
       let more = sum_longer n (m - n) m (met_at h (fs ++ gs)) (omega arith) in
       omega arith
 
-  filled_more : (h : ℕ) (fs gs : List (Fact ℕ)) (x c : ℕ) → ((v : ℕ) → v < node_count_from w.first fs → level (fs ++ gs) v ≡ level fs v) → x < node_count_from w.first fs → level fs x ≤ h → list_any (eqb c) ds ≡ true
+  filled_more : (h : ℕ) (fs gs : List (Fact ℕ)) (x c : ℕ)
+      → ((v : ℕ) → v < node_count_from w.first fs → level (fs ++ gs) v ≡ level fs v) → x < node_count_from w.first fs
+      → level fs x ≤ h → list_any (eqb c) ds ≡ true
       → is_met w fs x c ≡ false → is_met w (fs ++ gs) x c ≡ true → filled h fs + 1 ≤ filled h (fs ++ gs)
   filled_more h fs gs x c same lt low at out here =
       let n = node_count_from w.first fs in
       let m = node_count_from w.first (fs ++ gs) in
       let count = count_front w.first fs gs in
       let up = in_more ds (is_met w fs x) (is_met w (fs ++ gs) x) c at (met_stays w fs gs x) out here in
-      let a : met_at h fs x ≡ count_in ds (is_met w fs x) = ap (λ (b : Bool). cond b (count_in ds (is_met w fs x)) 0) (le-leb (level fs x) h low) in
+      let a : met_at h fs x ≡ count_in ds (is_met w fs x) =
+      ap (λ (b : Bool). cond b (count_in ds (is_met w fs x)) 0) (le-leb (level fs x) h low) in
       let b : met_at h (fs ++ gs) x ≡ count_in ds (is_met w (fs ++ gs) x) =
-      ap (λ (b : Bool). cond b (count_in ds (is_met w (fs ++ gs) x)) 0) (le-leb (level (fs ++ gs) x) h (omega (arith, same x lt, low))) in
-      let first = sum_more n (met_at h fs) (met_at h (fs ++ gs)) x lt (λ z mt. met_at_stays h fs gs z (same z mt)) (omega arith) in
+      ap (λ (b : Bool). cond b (count_in ds (is_met w (fs ++ gs) x)) 0)
+      (le-leb (level (fs ++ gs) x) h (omega (arith, same x lt, low))) in
+      let first =
+      sum_more n (met_at h fs) (met_at h (fs ++ gs)) x lt (λ z mt. met_at_stays h fs gs z (same z mt)) (omega arith) in
       let more = sum_longer n (m - n) m (met_at h (fs ++ gs)) (omega arith) in
       omega arith
 
   deep_plain : (h : ℕ) (fs : List (Fact ℕ)) (f : Fact ℕ) → IsPlain f → deep h (fs ++ f ∷ []) ≡ deep h fs
   deep_plain h fs f p =
       ap (λ (n : ℕ). count_below n (λ z. leb (level (fs ++ f ∷ []) z) h)) (plain_count w.first fs f p)
-      ∙ count_agree (node_count_from w.first fs) (λ z. leb (level (fs ++ f ∷ []) z) h) (λ z. leb (level fs z) h) (λ z lt. ap (λ (k : ℕ). leb k h) (plain_level fs f p z))
+      ∙ count_agree (node_count_from w.first fs) (λ z. leb (level (fs ++ f ∷ []) z) h) (λ z. leb (level fs z) h)
+      (λ z lt. ap (λ (k : ℕ). leb k h) (plain_level fs f p z))
 
-  deep_old : (h : ℕ) (fs : List (Fact ℕ)) (x s e n : ℕ) → count_below (node_count_from w.first fs) (λ z. leb (level (fs ++ fresh_facts x s e (node_count_from w.first fs) n) z) h) ≡ deep h fs
+  deep_old : (h : ℕ) (fs : List (Fact ℕ)) (x s e n : ℕ)
+      → count_below (node_count_from w.first fs)
+      (λ z. leb (level (fs ++ fresh_facts x s e (node_count_from w.first fs) n) z) h)
+      ≡ deep h fs
   deep_old h fs x s e n =
-      count_agree (node_count_from w.first fs) (λ z. leb (level (fs ++ fresh_facts x s e (node_count_from w.first fs) n) z) h) (λ z. leb (level fs z) h) (λ z lt. ap (λ (k : ℕ). leb k h) (fresh_old w.first fs x s e n z lt))
+      count_agree (node_count_from w.first fs)
+      (λ z. leb (level (fs ++ fresh_facts x s e (node_count_from w.first fs) n) z) h) (λ z. leb (level fs z) h)
+      (λ z lt. ap (λ (k : ℕ). leb k h) (fresh_old w.first fs x s e n z lt))
 
   -- new nodes count where the node above them is less deep
-  deep_make : (h : ℕ) (fs : List (Fact ℕ)) (x s e n : ℕ) → deep h (fs ++ fresh_facts x s e (node_count_from w.first fs) (suc n)) ≤ deep h fs + suc n
+  deep_make : (h : ℕ) (fs : List (Fact ℕ)) (x s e n : ℕ)
+      → deep h (fs ++ fresh_facts x s e (node_count_from w.first fs) (suc n)) ≤ deep h fs + suc n
   deep_make h fs x s e n =
       let gs = fresh_facts x s e (node_count_from w.first fs) (suc n) in
-      let longer = count_longer (node_count_from w.first fs) (suc n) (node_count_from w.first (fs ++ gs)) (λ z. leb (level (fs ++ gs) z) h) (count-fresh w.first fs x s e (suc n)) in
+      let longer =
+      count_longer (node_count_from w.first fs) (suc n) (node_count_from w.first (fs ++ gs))
+      (λ z. leb (level (fs ++ gs) z) h) (count-fresh w.first fs x s e (suc n)) in
       omega (arith, deep_old h fs x s e (suc n))
 
-  deep_make_none : (h : ℕ) (fs : List (Fact ℕ)) (x s e n : ℕ) → x < node_count_from w.first fs → h ≤ level fs x → deep h (fs ++ fresh_facts x s e (node_count_from w.first fs) (suc n)) ≡ deep h fs
+  deep_make_none : (h : ℕ) (fs : List (Fact ℕ)) (x s e n : ℕ) → x < node_count_from w.first fs → h ≤ level fs x
+      → deep h (fs ++ fresh_facts x s e (node_count_from w.first fs) (suc n)) ≡ deep h fs
   deep_make_none h fs x s e n lt high =
       let gs = fresh_facts x s e (node_count_from w.first fs) (suc n) in
       let count = count-fresh w.first fs x s e (suc n) in
-      count_no_more (node_count_from w.first fs) (suc n) (node_count_from w.first (fs ++ gs)) (λ z. leb (level (fs ++ gs) z) h) count (λ y from before.
+      count_no_more (node_count_from w.first fs) (suc n) (node_count_from w.first (fs ++ gs))
+      (λ z. leb (level (fs ++ gs) z) h) count (λ y from before.
       let up = fresh_new w.first fs x s e (suc n) y lt from (omega arith) in
-      false_from_ne_true (leb (level (fs ++ gs) y) h) (λ k. absurd (omega (arith, leb-true (level (fs ++ gs) y) h k, up))))
+      false_from_ne_true (leb (level (fs ++ gs) y) h)
+      (λ k. absurd (omega (arith, leb-true (level (fs ++ gs) y) h k, up))))
       ∙ deep_old h fs x s e (suc n)
 
   -- ---- the count
@@ -162,7 +189,8 @@ module _ (w : SearchContext) (ds : List ℕ) where
   room zero fs = 0
   room (suc h) fs = filled h fs
 
-  room_le : (h : ℕ) (fs gs : List (Fact ℕ)) → ((v : ℕ) → v < node_count_from w.first fs → level (fs ++ gs) v ≡ level fs v) → room h fs ≤ room h (fs ++ gs)
+  room_le : (h : ℕ) (fs gs : List (Fact ℕ))
+      → ((v : ℕ) → v < node_count_from w.first fs → level (fs ++ gs) v ≡ level fs v) → room h fs ≤ room h (fs ++ gs)
   room_le zero fs gs same = omega arith
   room_le (suc h) fs gs same = filled_le h fs gs same
 
@@ -170,7 +198,8 @@ module _ (w : SearchContext) (ds : List ℕ) where
   times_le g a b le = mul-le g a g b (omega arith) le
 
   pub times_more : (g a b : ℕ) → a + 1 ≤ b → g * a + g ≤ g * b
-  times_more g a b le = let k = mul-le g (a + 1) g b (omega arith) le in let e : g * (a + 1) ≡ g * a + g = grind arith in omega arith
+  times_more g a b le =
+      let k = mul-le g (a + 1) g b (omega arith) le in let e : g * (a + 1) ≡ g * a + g = grind arith in omega arith
 
   abbrev pub Fits : ℕ → ℕ → List (Fact ℕ) → Type 0
   Fits g h fs = deep h fs ≤ 1 + g * room h fs
@@ -181,24 +210,34 @@ module _ (w : SearchContext) (ds : List ℕ) where
       let r = times_le g (room h fs) (room h (fs ++ f ∷ [])) (room_le h fs (f ∷ []) (λ v lt. plain_level fs f p v)) in
       omega arith
 
-  pub fits_make : (g h : ℕ) (fs new : List (Fact ℕ)) (k : IsMaking w fs new) → ((s : ℕ) → w.theory.below s s ≡ true) → suc k.more ≤ g → list_any (eqb k.by) ds ≡ true → Fits g h fs → Fits g h (fs ++ new)
+  pub fits_make : (g h : ℕ) (fs new : List (Fact ℕ)) (k : IsMaking w fs new) → ((s : ℕ) → w.theory.below s s ≡ true)
+      → suc k.more ≤ g → list_any (eqb k.by) ds ≡ true → Fits g h fs → Fits g h (fs ++ new)
   fits_make g h fs new k itself few at fits =
       let s = by_role (shape_of w.table k.by) in
       let e = with_concept (shape_of w.table k.by) in
-      let same : (v : ℕ) → v < node_count_from w.first fs → level (fs ++ new) v ≡ level fs v = λ v lt. ap (λ (gs : List (Fact ℕ)). level (fs ++ gs) v) k.is_new ∙ fresh_old w.first fs k.at s e (suc k.more) v lt in
+      let same : (v : ℕ) → v < node_count_from w.first fs → level (fs ++ new) v ≡ level fs v =
+      λ v lt. ap (λ (gs : List (Fact ℕ)). level (fs ++ gs) v) k.is_new
+      ∙ fresh_old w.first fs k.at s e (suc k.more) v lt in
       let after = met_after w fs new k itself in
       elim (cases_lt (level fs k.at) h) [
         | inr high ↦
-            let d = ap (λ (gs : List (Fact ℕ)). deep h (fs ++ gs)) k.is_new ∙ deep_make_none h fs k.at s e k.more k.is_open.is_node (omega arith) in
+            let d =
+            ap (λ (gs : List (Fact ℕ)). deep h (fs ++ gs)) k.is_new
+            ∙ deep_make_none h fs k.at s e k.more k.is_open.is_node (omega arith) in
             let r = times_le g (room h fs) (room h (fs ++ new)) (room_le h fs new same) in
             omega arith
         | inl low ↦ rises h low same after fits
       ]
     where
-      rises : (h : ℕ) → level fs k.at < h → ((v : ℕ) → v < node_count_from w.first fs → level (fs ++ new) v ≡ level fs v) → is_met w (fs ++ new) k.at k.by ≡ true → Fits g h fs → Fits g h (fs ++ new)
+      rises : (h : ℕ) → level fs k.at < h
+          → ((v : ℕ) → v < node_count_from w.first fs → level (fs ++ new) v ≡ level fs v)
+          → is_met w (fs ++ new) k.at k.by ≡ true → Fits g h fs → Fits g h (fs ++ new)
       rises zero lt same after fits' = absurd (omega arith)
       rises (suc h') lt same after fits' =
           let d = ap (λ (gs : List (Fact ℕ)). deep (suc h') (fs ++ gs)) k.is_new in
-          let d' = deep_make (suc h') fs k.at (by_role (shape_of w.table k.by)) (with_concept (shape_of w.table k.by)) k.more in
-          let r = times_more g (filled h' fs) (filled h' (fs ++ new)) (filled_more h' fs new k.at k.by same k.is_open.is_node (omega arith) at k.not_met after) in
+          let d' =
+          deep_make (suc h') fs k.at (by_role (shape_of w.table k.by)) (with_concept (shape_of w.table k.by)) k.more in
+          let r =
+          times_more g (filled h' fs) (filled h' (fs ++ new))
+          (filled_more h' fs new k.at k.by same k.is_open.is_node (omega arith) at k.not_met after) in
           omega arith

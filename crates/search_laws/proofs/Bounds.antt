@@ -1,5 +1,6 @@
 -- The laws on nodes and on all steps.
-use Rattle.std.proofs.Common.{◌≡◌, ℕ, zero, suc, ◌+◌, ◌*◌, ◌^◌, ◌<◌, ◌≤◌, ◌||◌, eqb, true, List, [], ◌∷◌, ◌++◌, map, length, refl, ap, ◌∙◌, sym, subst, arith, inl, inr}
+use Rattle.std.proofs.Common.{◌≡◌, ℕ, zero, suc, ◌+◌, ◌*◌, ◌^◌, ◌<◌, ◌≤◌, ◌||◌, eqb, true, List, [], ◌∷◌, ◌++◌, map}
+use Rattle.std.proofs.Common.{length, refl, ap, ◌∙◌, sym, subst, arith, inl, inr}
 use Rattle.std.specs.List.{list_any, filter, flat_map, range_with_len}
 use Rattle.std.proofs.lemmas.Bool.{cases_Bool, or_cases, eqb-true}
 use Rattle.std.proofs.lemmas.List.{length-map}
@@ -32,7 +33,8 @@ use Rattle.tableau_specs.proofs.TreeShaped.{origin_is_node, origin_of_parent}
 use Rattle.tableau_specs.proofs.Listed.{listed}
 use Rattle.tableau_specs.proofs.Reached.{reached_built}
 use Rattle.search_laws.specs.Closure.{IsClosure, asked_by, choices_of, most_made, most_parts, node_bound, step_bound}
-use Rattle.search_laws.specs.BoundLaws.{HasNoFacts, HasPath, RolesAreBelowThemselves, children, PathsAreShort, FewChildren, FewNodes, FewSteps, LegalRunsAreBounded}
+use Rattle.search_laws.specs.BoundLaws.{HasNoFacts, HasPath, RolesAreBelowThemselves, children, PathsAreShort}
+use Rattle.search_laws.specs.BoundLaws.{FewChildren, FewNodes, FewSteps, LegalRunsAreBounded}
 use Rattle.search_laws.specs.BoundLaws.HasPath.{from_first, below}
 use Rattle.calculus_specs.proofs.Unique.{part_list-parts_of}
 use Rattle.search_laws.proofs.Grown.{IsGrown, facts_of-append}
@@ -52,7 +54,8 @@ use Rattle.search_laws.proofs.Sums.{count_in, in_most}
 use Rattle.search_laws.proofs.Asked.{is_met}
 use Rattle.search_laws.proofs.Children.{born}
 use Rattle.search_laws.proofs.BoundComputed.{closure_is_computed}
-use Rattle.search_laws.specs.ComputedClosure.{given_concept, transitive_roles, given_facts, closure_of, IsComputed, ClosureOfAxiomsIsComputed}
+use Rattle.search_laws.specs.ComputedClosure.{given_concept, transitive_roles, given_facts, closure_of, IsComputed}
+use Rattle.search_laws.specs.ComputedClosure.{ClosureOfAxiomsIsComputed}
 use Rattle.role_box.specs.declared.role_axiom.RoleAxiom.{RoleAxiom}
 use Rattle.role_box.specs.declared.role_axiom.RoleAxiom.TheVariants.{Inclusion, Equivalence, Transitivity}
 use Rattle.role_box.specs.RoleAxioms.{role_axioms}
@@ -65,7 +68,8 @@ use Rattle.role_box.proofs.Limits.{test_is_below}
 
 -- ---- what the closure's concepts ask for
 
-asked_most : (n r : ℕ) (t : Concept) (cs : List Concept) → list_any (is_same (at_least n r t)) cs ≡ true → n ≤ most_made cs
+asked_most : (n r : ℕ) (t : Concept) (cs : List Concept) → list_any (is_same (at_least n r t)) cs ≡ true
+    → n ≤ most_made cs
 asked_most n r t [] h = cc
 asked_most n r t (c ∷ cs) h = elim (or_cases (is_same (at_least n r t) c) (list_any (is_same (at_least n r t)) cs) h) [
   | inl here ↦ let e : n ≡ asked_by c = ap asked_by (same_to_eq (at_least n r t) c here) in omega arith
@@ -78,13 +82,15 @@ made_some (c ∷ cs) = omega (arith, made_some cs)
 
 parts_most : (ts cs : List Concept) → list_any (is_same (union (parts_of ts))) cs ≡ true → length ts ≤ most_parts cs
 parts_most ts [] h = cc
-parts_most ts (c ∷ cs) h = elim (or_cases (is_same (union (parts_of ts)) c) (list_any (is_same (union (parts_of ts))) cs) h) [
-  | inl here ↦
-      let e : choices_of (union (parts_of ts)) ≡ choices_of c = ap choices_of (same_to_eq (union (parts_of ts)) c here) in
-      let l : length (part_list (parts_of ts)) ≡ length ts = ap length (part_list-parts_of ts) in
-      omega arith
-  | inr later ↦ omega (arith, parts_most ts cs later)
-]
+parts_most ts (c ∷ cs) h =
+    elim (or_cases (is_same (union (parts_of ts)) c) (list_any (is_same (union (parts_of ts))) cs) h) [
+      | inl here ↦
+          let e : choices_of (union (parts_of ts)) ≡ choices_of c =
+          ap choices_of (same_to_eq (union (parts_of ts)) c here) in
+          let l : length (part_list (parts_of ts)) ≡ length ts = ap length (part_list-parts_of ts) in
+          omega arith
+      | inr later ↦ omega (arith, parts_most ts cs later)
+    ]
 
 parts_two : (cs : List Concept) → 2 ≤ most_parts cs
 parts_two [] = omega arith
@@ -92,13 +98,17 @@ parts_two (c ∷ cs) = omega (arith, parts_two cs)
 
 -- ---- numbers of the closure
 
-stands : (table : List Shape) (cs : List Concept) (c : ℕ) (ds : List ℕ) → list_any (eqb c) (filter (λ d. list_any (is_same (tree_of table d)) cs) ds) ≡ true → list_any (is_same (tree_of table c)) cs ≡ true
+stands : (table : List Shape) (cs : List Concept) (c : ℕ) (ds : List ℕ)
+    → list_any (eqb c) (filter (λ d. list_any (is_same (tree_of table d)) cs) ds) ≡ true
+    → list_any (is_same (tree_of table c)) cs ≡ true
 stands table cs c [] h = cc
 stands table cs c (d ∷ ds) h = elim (cases_Bool (list_any (is_same (tree_of table d)) cs)) [
-  | inl here ↦ elim (or_cases (eqb c d) (list_any (eqb c) (filter (λ e. list_any (is_same (tree_of table e)) cs) ds)) (rw here at h)) [
-    | inl at ↦ ap (λ (k : ℕ). list_any (is_same (tree_of table k)) cs) (eqb-true c d at) ∙ here
-    | inr later ↦ stands table cs c ds later
-  ]
+  | inl here ↦
+      elim (or_cases (eqb c d) (list_any (eqb c) (filter (λ e. list_any (is_same (tree_of table e)) cs) ds))
+      (rw here at h)) [
+        | inl at ↦ ap (λ (k : ℕ). list_any (is_same (tree_of table k)) cs) (eqb-true c d at) ∙ here
+        | inr later ↦ stands table cs c ds later
+      ]
   | inr out ↦ stands table cs c ds (rw out at h)
 ]
 
@@ -106,7 +116,8 @@ module _ (w : SearchContext) (cs : List Concept) (good : IsTable w.table) where
   abbrev ds : List ℕ
   ds = numbers_of w.table cs
 
-  tree_is : (c : ℕ) (s : Shape) → shape_of w.table c ≡ s → ¬ (s ≡ top_shape) → tree_of w.table c ≡ tree_over (trees_of w.table) s
+  tree_is : (c : ℕ) (s : Shape) → shape_of w.table c ≡ s → ¬ (s ≡ top_shape)
+      → tree_of w.table c ≡ tree_over (trees_of w.table) s
   tree_is c s sh ne =
       let lt = listed w.table c (λ k. ne (sym sh ∙ k)) in
       tree_of_shape w.table c lt (good.parts_below c lt) ∙ ap (tree_over (trees_of w.table)) sh
@@ -114,12 +125,18 @@ module _ (w : SearchContext) (cs : List Concept) (good : IsTable w.table) where
   asked_few : (c n s e : ℕ) → list_any (eqb c) ds ≡ true → shape_of w.table c ≡ least_shape n s e → n ≤ most_made cs
   asked_few c n s e at sh =
       let t = tree_is c (least_shape n s e) sh (λ k. cc) in
-      asked_most n s (tree_of w.table e) cs (sym (ap (λ (u : Concept). list_any (is_same u) cs) t) ∙ stands w.table cs c (range_with_len 0 (length w.table)) at)
+      asked_most n s (tree_of w.table e) cs
+      (sym (ap (λ (u : Concept). list_any (is_same u) cs) t)
+      ∙ stands w.table cs c (range_with_len 0 (length w.table)) at)
 
-  parts_few : (c : ℕ) (ps : List ℕ) → list_any (eqb c) ds ≡ true → shape_of w.table c ≡ union_shape ps → length ps ≤ most_parts cs
+  parts_few : (c : ℕ) (ps : List ℕ) → list_any (eqb c) ds ≡ true → shape_of w.table c ≡ union_shape ps
+      → length ps ≤ most_parts cs
   parts_few c ps at sh =
       let t = tree_is c (union_shape ps) sh (λ k. cc) in
-      let most = parts_most (map (tree_of w.table) ps) cs (sym (ap (λ (u : Concept). list_any (is_same u) cs) t) ∙ stands w.table cs c (range_with_len 0 (length w.table)) at) in
+      let most =
+      parts_most (map (tree_of w.table) ps) cs
+      (sym (ap (λ (u : Concept). list_any (is_same u) cs) t)
+      ∙ stands w.table cs c (range_with_len 0 (length w.table)) at) in
       omega (arith, length-map ps (tree_of w.table))
 
   -- ---- alternatives are few
@@ -131,13 +148,16 @@ module _ (w : SearchContext) (cs : List Concept) (good : IsTable w.table) where
 
   branch_few : (fs : List (Fact ℕ)) (b : Branch) → AreIn ds fs → MayBranch w fs b → HasFew b
   branch_few fs b all (on_union x c parts lt h sh none) = λ ps sh'.
-      let ne : ¬ (c ≡ 0) = λ k. (let e : top_shape ≡ union_shape parts = sym good.begins_with_top ∙ ap (shape_of w.table) (sym k) ∙ sh in cc) in
+      let ne : ¬ (c ≡ 0) =
+      λ k. (let e : top_shape ≡ union_shape parts = sym good.begins_with_top ∙ ap (shape_of w.table) (sym k) ∙ sh in
+      cc) in
       parts_few c ps (had_in ds fs x c all h ne) sh'
   branch_few fs b all (on_filler x c n s e y lt h sh next none out) = tt
   branch_few fs b all (on_pair x c n s e y z lt h sh more cy cz ne apart) = tt
 
   alternative_few : (b : Branch) (k : ℕ) (f : Fact ℕ) → IsAlternative w.table b k f → HasFew b → k ≤ most_parts cs
-  alternative_few b k f (of_union x c k' d parts sh read) h = omega (arith, h parts sh, slice_get_within parts k' d read)
+  alternative_few b k f (of_union x c k' d parts sh read) h =
+      omega (arith, h parts sh, slice_get_within parts k' d read)
   alternative_few b k f (of_filler y e) h = omega (arith, parts_two cs)
   alternative_few b k f (of_complement y e d neg) h = parts_two cs
   alternative_few b k f (of_joining y z) h = omega (arith, parts_two cs)
@@ -147,7 +167,8 @@ module _ (w : SearchContext) (cs : List Concept) (good : IsTable w.table) where
   small_more n [] ms h g = g
   small_more n (m ∷ ns) ms h g = (h.0, small_more n ns ms h.1 g)
 
-  small : (at a b : ℕ) (ns : List ℕ) (trail : List Item) → IsGrown w (start at a b) ns trail → AreIn ds (facts_of trail) → AreAtMost (most_parts cs) ns
+  small : (at a b : ℕ) (ns : List ℕ) (trail : List Item) → IsGrown w (start at a b) ns trail → AreIn ds (facts_of trail)
+      → AreAtMost (most_parts cs) ns
   small at a b ns trail at_first all = tt
   small at a b ns trail (by_add ms old x d g adds out) all =
       let all' = in_front ds (facts_of old) (Has x d ∷ []) (subst (AreIn ds) (facts_after old (Has x d ∷ [])) all) in
@@ -159,8 +180,10 @@ module _ (w : SearchContext) (cs : List Concept) (good : IsTable w.table) where
       let all' = in_front ds (facts_of old) new (subst (AreIn ds) (facts_after old new) all) in
       small_more (most_parts cs) ms (1 ∷ []) (small at a b ms old g all') (omega (arith, parts_two cs), tt)
   small at a b ns trail (by_choice ms old c f g may alt) all =
-      let all' = in_front ds (facts_of old) (f ∷ []) (subst (AreIn ds) (facts_of-append old (Mark c ∷ Says f ∷ [])) all) in
-      small_more (most_parts cs) ms (c.alternative ∷ []) (small at a b ms old g all') (alternative_few c.branch c.alternative f alt (branch_few (facts_of old) c.branch all' may), tt)
+      let all' =
+      in_front ds (facts_of old) (f ∷ []) (subst (AreIn ds) (facts_of-append old (Mark c ∷ Says f ∷ [])) all) in
+      small_more (most_parts cs) ms (c.alternative ∷ []) (small at a b ms old g all')
+      (alternative_few c.branch c.alternative f alt (branch_few (facts_of old) c.branch all' may), tt)
 
 -- ---- the laws
 
@@ -171,7 +194,8 @@ base_le : (b m n : ℕ) → m ≤ n → (b + 1) ^ m ≤ (b + 1) ^ n
 base_le b m n le = pow-le-pow_right (omega arith) le
 
 -- no fact is given in a search for what no axiom gives a fact of
-none_given : (q : Question) (table : List Shape) (rows : List Row) → HasNoFacts q → (f : Fact ℕ) → ¬ IsGiven (context_of q table rows) f
+none_given : (q : Question) (table : List Shape) (rows : List Row) → HasNoFacts q → (f : Fact ℕ)
+    → ¬ IsGiven (context_of q table rows) f
 none_given q table rows none f g = (let h = sym (none g.axiom_number g.place) ∙ g.is_there in cc)
 
 counts_none : (w : SearchContext) → ((f : Fact ℕ) → ¬ IsGiven w f) → IsGiveCount w (λ fs. 0)
@@ -187,7 +211,9 @@ paths_are_short q cs table rows k trail no_facts closed r x n path =
     let built = reached_built w q.at r.sub_number r.not_sup_number k trail r.at_first r.follows in
     let all = numbers_in q cs table rows k trail closed r in
     let l = (levels_built w none trail built).1 in
-    let h = low w none q.at r.sub_number r.not_sup_number ds keep.numbers trail keep.grown built all x (path_node q.first fs x n path) in
+    let h =
+    low w none q.at r.sub_number r.not_sup_number ds keep.numbers trail keep.grown built all x
+    (path_node q.first fs x n path) in
     let p = power_le (length ds) (length cs) (few_numbers table cs r.is_table) in
     omega (arith, path_level q.first fs l x n path)
   where
@@ -195,20 +221,26 @@ paths_are_short q cs table rows k trail no_facts closed r x n path =
     path_node first fs x n (from_first x' is_first) = is_first.is_node
     path_node first fs x n (below x' p m h rest) = origin_is_node first fs x' p (origin_of_parent first fs x' p h).1
 
-module _ (q : Question) (cs : List Concept) (table : List Shape) (rows : List Row) (itself : RolesAreBelowThemselves q.theory) (closed : IsClosure q cs) where
+module _ (q : Question) (cs : List Concept) (table : List Shape) (rows : List Row)
+    (itself : RolesAreBelowThemselves q.theory) (closed : IsClosure q cs) where
   abbrev context : SearchContext
   context = context_of q table rows
 
-  few_below : (k : ℕ) (trail : List Item) → IsReached q table rows k trail → (x : ℕ) → children q.first (facts_of trail) x ≤ length cs * most_made cs
+  few_below : (k : ℕ) (trail : List Item) → IsReached q table rows k trail → (x : ℕ)
+      → children q.first (facts_of trail) x ≤ length cs * most_made cs
   few_below k trail r x =
       let ds = numbers_of table cs in
       let fs = facts_of trail in
       let keep = keeping context q.at r.sub_number r.not_sup_number k trail r.follows in
       let all = numbers_in q cs table rows k trail closed r in
-      let b = born context ds (most_made cs) x q.at r.sub_number r.not_sup_number (made_some cs) itself r.is_table.begins_with_top (asked_few context cs r.is_table) keep.numbers trail keep.grown all in
+      let b =
+      born context ds (most_made cs) x q.at r.sub_number r.not_sup_number (made_some cs) itself
+      r.is_table.begins_with_top (asked_few context cs r.is_table) keep.numbers trail keep.grown all in
       let c = in_most ds (is_met context fs x) in
       let le = few_numbers table cs r.is_table in
-      let up = mul-le (most_made cs) (count_in ds (is_met context fs x)) (most_made cs) (length cs) (omega arith) (omega arith) in
+      let up =
+      mul-le (most_made cs) (count_in ds (is_met context fs x)) (most_made cs) (length cs) (omega arith)
+      (omega arith) in
       let turn : length cs * most_made cs ≡ most_made cs * length cs = grind arith in
       omega arith
 
@@ -234,21 +266,28 @@ module _ (q : Question) (cs : List Concept) (table : List Shape) (rows : List Ro
         let l = (levels_built context none trail built).1 in
         let some = made_some cs in
         let lows = low context none q.at a b ds keep.numbers trail keep.grown built all in
-        let fit = λ (h : ℕ). fits context none q.at a b ds one (most_made cs) some itself r.is_table.begins_with_top (asked_few context cs r.is_table) h keep.numbers trail keep.grown all in
+        let fit =
+        λ (h : ℕ). fits context none q.at a b ds one (most_made cs) some itself r.is_table.begins_with_top
+        (asked_few context cs r.is_table) h keep.numbers trail keep.grown all in
         let le = few_numbers table cs r.is_table in
-        let nodes = nodes_few context none q.at a b ds one (most_made cs) some itself r.is_table.begins_with_top (asked_few context cs r.is_table) fs (length cs) le l fit lows in
+        let nodes =
+        nodes_few context none q.at a b ds one (most_made cs) some itself r.is_table.begins_with_top
+        (asked_few context cs r.is_table) fs (length cs) le l fit lows in
         let p = power_le (length ds) (length cs) le in
         let q = base_le (length cs * most_made cs) (2 ^ length ds) (2 ^ length cs + 2) (omega arith) in
         omega arith
 
     -- a reached trail keeps few steps
-    short : (k : ℕ) (trail : List Item) (r : IsReached q table rows k trail) (ns : List ℕ) → IsGrown context (start q.at r.sub_number r.not_sup_number) ns trail → length ns ≤ most
+    short : (k : ℕ) (trail : List Item) (r : IsReached q table rows k trail) (ns : List ℕ)
+        → IsGrown context (start q.at r.sub_number r.not_sup_number) ns trail → length ns ≤ most
     short k trail r ns grown =
         let ds = numbers_of table cs in
         let fs = facts_of trail in
         let v = node_count_from q.first fs in
         let counts = counts_none context (none_given q table rows no_facts) in
-        let t = tally context q.at r.sub_number r.not_sup_number r.at_first ds (λ gs. 0) counts v ns trail grown (omega arith) (numbers_in q cs table rows k trail closed r) in
+        let t =
+        tally context q.at r.sub_number r.not_sup_number r.at_first ds (λ gs. 0) counts v ns trail grown (omega arith)
+        (numbers_in q cs table rows k trail closed r) in
         let some = t.steps in
         let g = given_most ds v fs in
         let j = joined_most ds v fs in
@@ -267,8 +306,11 @@ module _ (q : Question) (cs : List Concept) (table : List Shape) (rows : List Ro
       grown : IsGrown context (start at a b) numbers trail
       climbed : k ≤ value (most_parts cs) most numbers
 
-    climb : (k : ℕ) (trail : List Item) (r : IsReached q table rows k trail) → IsClimb q.at r.sub_number r.not_sup_number k trail
-    climb zero trail r = let keep = keeping context q.at r.sub_number r.not_sup_number 0 trail r.follows in record { numbers = keep.numbers; grown = keep.grown; climbed = omega arith }
+    climb : (k : ℕ) (trail : List Item) (r : IsReached q table rows k trail)
+        → IsClimb q.at r.sub_number r.not_sup_number k trail
+    climb zero trail r =
+        let keep = keeping context q.at r.sub_number r.not_sup_number 0 trail r.follows in
+        record { numbers = keep.numbers; grown = keep.grown; climbed = omega arith }
     climb (suc k) trail r =
         let old = r.follows.0 in
         let before : IsReached q table rows k old = record {
@@ -286,28 +328,37 @@ module _ (q : Question) (cs : List Concept) (table : List Shape) (rows : List Ro
         } in
         let c = climb k old before in
         let next = one_step context q.at r.sub_number r.not_sup_number c.numbers old trail c.grown r.follows.2 in
-        let digits = small context cs r.is_table q.at r.sub_number r.not_sup_number c.numbers old c.grown (numbers_in q cs table rows k old closed before) in
-        let up = value_rises (most_parts cs) most c.numbers next.numbers next.is_next digits (short (suc k) trail r next.numbers next.grown) in
+        let digits =
+        small context cs r.is_table q.at r.sub_number r.not_sup_number c.numbers old c.grown
+        (numbers_in q cs table rows k old closed before) in
+        let up =
+        value_rises (most_parts cs) most c.numbers next.numbers next.is_next digits
+        (short (suc k) trail r next.numbers next.grown) in
         record { numbers = next.numbers; grown = next.grown; climbed = omega (arith, c.climbed) }
 
     all_steps : (k : ℕ) (trail : List Item) → IsReached q table rows k trail → k ≤ step_bound cs
     all_steps k trail r =
         let c = climb k trail r in
-        let digits = small context cs r.is_table q.at r.sub_number r.not_sup_number c.numbers trail c.grown (numbers_in q cs table rows k trail closed r) in
+        let digits =
+        small context cs r.is_table q.at r.sub_number r.not_sup_number c.numbers trail c.grown
+        (numbers_in q cs table rows k trail closed r) in
         omega (arith, c.climbed, value_below (most_parts cs) most c.numbers digits)
 
 pub few_nodes : FewNodes
-few_nodes q cs table rows k trail one no_facts itself closed r = few q cs table rows itself closed one no_facts k trail r
+few_nodes q cs table rows k trail one no_facts itself closed r =
+    few q cs table rows itself closed one no_facts k trail r
 
 pub few_steps : FewSteps
-few_steps q cs table rows k trail one no_facts itself closed r = all_steps q cs table rows itself closed one no_facts k trail r
+few_steps q cs table rows k trail one no_facts itself closed r =
+    all_steps q cs table rows itself closed one no_facts k trail r
 
 pub few_children : FewChildren
 few_children q cs table rows k trail itself closed r x = few_below q cs table rows itself closed k trail r x
 
 -- ---- over axioms
 
-transitive_among : (axioms : List RoleAxiom) (t : ℕ) → is_transitive axioms t ≡ list_any (eqb t) (transitive_roles axioms)
+transitive_among : (axioms : List RoleAxiom) (t : ℕ)
+    → is_transitive axioms t ≡ list_any (eqb t) (transitive_roles axioms)
 transitive_among [] t = refl
 transitive_among (Transitivity r ∷ axioms) t = λ i. eqb-comm r t i || transitive_among axioms t i
 transitive_among (Inclusion r s ∷ axioms) t = transitive_among axioms t
@@ -320,7 +371,8 @@ module _ (n : ℕ) (axioms : List Numbered) (ks : List ℕ) (q : Query) where
   closed_of_axioms : IsClosure (question_of n axioms ks q) (closure_of n axioms ks q)
   closed_of_axioms =
       let same = transitive_among (role_axioms axioms ks) in
-      closure_is_computed (question_of n axioms ks q) (transitive_roles (role_axioms axioms ks)) (flat_map given_concept (given_facts n axioms ks))
+      closure_is_computed (question_of n axioms ks q) (transitive_roles (role_axioms axioms ks))
+      (flat_map given_concept (given_facts n axioms ks))
       (λ t. (λ h. sym (same t) ∙ h, λ h. same t ∙ h))
       (λ c. (λ m. member_among n axioms ks q c m, λ h. among_member n axioms ks q c h))
 
@@ -341,7 +393,9 @@ legal_runs_are_bounded n axioms ks q table rows k trail r =
     let facts = given_facts n axioms ks in
     let c = is_computed n axioms ks q in
     record {
-      all_steps = λ none. few_steps asked cs table rows k trail (omega (arith, none)) (no_facts n axioms ks q none) (below_itself axioms ks) c.concepts r;
+      all_steps =
+          λ none. few_steps asked cs table rows k trail (omega (arith, none)) (no_facts n axioms ks q none)
+          (below_itself axioms ks) c.concepts r;
       steps_at_first = few_steps_at_first asked cs facts table rows k trail c.concepts c.facts r;
       marks = few_marks asked cs table rows k trail c.concepts r;
     }

@@ -4,7 +4,8 @@ use Rattle.std.specs.List.{list_any, find, Contains}
 use Rattle.std.specs.Option.{option_map}
 use Rattle.std.proofs.lemmas.Bool.{cases_Bool}
 use Rattle.shq_terms.specs.Concept.{Concept, parts_of}
-use Rattle.calculus_specs.specs.Rows.{Part, NumberedPart, Trigger, part_at, is_numbered, row_of, row_concept, are_name_positions, is_some_of}
+use Rattle.calculus_specs.specs.Rows.{Part, NumberedPart, Trigger, part_at, is_numbered, row_of, row_concept}
+use Rattle.calculus_specs.specs.Rows.{are_name_positions, is_some_of}
 use Rattle.calculus_specs.specs.Rows.Part.{inclusion, range}
 use Rattle.calculus_specs.specs.Rows.Trigger.{always, names, edge, end_of}
 use Rattle.calculus_specs.specs.Rules.{Question}
@@ -12,7 +13,9 @@ use Rattle.calculus_specs.proofs.Unique.{part_list-parts_of}
 use Rattle.tableau_specs.specs.KeptKinds.{IsKept}
 use Rattle.tableau_specs.proofs.KeptKinds.{concepts_right}
 use Rattle.search_laws.specs.Closure.{IsInClosure}
-use Rattle.search_laws.specs.Closure.IsInClosure.{has_top, has_sub, has_not_sup, has_row, has_range, has_member, has_conjunct, has_disjunct, has_some, has_all, has_least, has_most, has_other, has_carried}
+use Rattle.search_laws.specs.Closure.IsInClosure.{has_top, has_sub, has_not_sup, has_row, has_range, has_member}
+use Rattle.search_laws.specs.Closure.IsInClosure.{has_conjunct, has_disjunct, has_some, has_all, has_least, has_most}
+use Rattle.search_laws.specs.Closure.IsInClosure.{has_other, has_carried}
 use Rattle.search_laws.specs.BoundLaws.{ConceptsAreInClosure}
 
 -- ---- the part that a row names is one of the parts
@@ -22,20 +25,28 @@ record Found (parts : List NumberedPart) (q : Part) : Type 0 where
   is_there : Contains parts numbered
   is_it : numbered.part ≡ q
 
-found : (a p : ℕ) (parts : List NumberedPart) (q : Part) → option_map (λ n. n.part) (find (is_numbered a p) parts) ≡ Some q → Found parts q
+found : (a p : ℕ) (parts : List NumberedPart) (q : Part)
+    → option_map (λ n. n.part) (find (is_numbered a p) parts) ≡ Some q → Found parts q
 found a p [] q h = cc
 found a p (n ∷ ns) q h = elim (cases_Bool (is_numbered a p n)) [
-  | inl here ↦ let e : Some n.part ≡ Some q = rw here at h in record { numbered = n; is_there = (0, omega arith, refl); is_it = cc }
+  | inl here ↦
+      let e : Some n.part ≡ Some q = rw here at h in
+      record { numbered = n; is_there = (0, omega arith, refl); is_it = cc }
   | inr other ↦
       let later = found a p ns q (rw other at h) in
-      record { numbered = later.numbered; is_there = (suc later.is_there.0, omega (arith, later.is_there.1), later.is_there.2); is_it = later.is_it }
+      record {
+        numbered = later.numbered;
+        is_there = (suc later.is_there.0, omega (arith, later.is_there.1), later.is_there.2);
+        is_it = later.is_it;
+      }
 ]
 
 module _ (q : Question) where
   abbrev In : Concept → Type 0
   In c = IsInClosure q c
 
-  row_in : (a p : ℕ) (part : Part) (t : Trigger) (c : Concept) → part_at q.theory a p ≡ Some part → row_of part t ≡ Some c → In c
+  row_in : (a p : ℕ) (part : Part) (t : Trigger) (c : Concept) → part_at q.theory a p ≡ Some part
+      → row_of part t ≡ Some c → In c
   row_in a p (inclusion cs d) always c h r =
       let f = found a p q.theory.parts (inclusion cs d) h in
       let e : row_concept cs d [] ≡ c = cc in
@@ -72,8 +83,12 @@ module _ (q : Question) where
   closure_kept : IsKept q.theory q.fact_of In (λ r. Unit {0})
   closure_kept = record {
     top_is = has_top;
-    conjunct = λ cs c h m. has_conjunct (parts_of cs) c h (subst (λ (ds : List Concept). Contains ds c) (sym (part_list-parts_of cs)) m);
-    disjunct = λ cs c h m. has_disjunct (parts_of cs) c h (subst (λ (ds : List Concept). Contains ds c) (sym (part_list-parts_of cs)) m);
+    conjunct =
+        λ cs c h m. has_conjunct (parts_of cs) c h
+        (subst (λ (ds : List Concept). Contains ds c) (sym (part_list-parts_of cs)) m);
+    disjunct =
+        λ cs c h m. has_disjunct (parts_of cs) c h
+        (subst (λ (ds : List Concept). Contains ds c) (sym (part_list-parts_of cs)) m);
     filler_of_some = has_some;
     filler_of_all = has_all;
     filler_of_least = has_least;
@@ -90,4 +105,5 @@ module _ (q : Question) where
 pub concepts_in_closure : ConceptsAreInClosure
 concepts_in_closure q table rows k trail r =
     concepts_right (IsInClosure q) (λ n. Unit {0}) q table rows r.is_table r.is_choice (closure_kept q)
-    q.at r.sub_number r.not_sup_number k trail (subst (IsInClosure q) (sym r.sub_reads) has_sub) (subst (IsInClosure q) (sym r.not_sup_reads) has_not_sup) r.follows
+    q.at r.sub_number r.not_sup_number k trail (subst (IsInClosure q) (sym r.sub_reads) has_sub)
+    (subst (IsInClosure q) (sym r.not_sup_reads) has_not_sup) r.follows

@@ -29,7 +29,11 @@ use Rattle.search_laws.specs.Theories.{MeetsRoles, MeetsParts, MeetsFacts}
 use Rattle.search_laws.proofs.Start.{start_stays}
 use Rattle.search_laws.proofs.TrailLaws.{axioms_met}
 use Rattle.search_laws.specs.Elements.{is_element, is_above, node_at, IsNumberOf, number_at, original}
-use Rattle.search_laws.specs.CounterModelLaws.{IsSaturatedSearch, ElementsAreFew, FirstNodesAreElements, ElementsDiffer, SuccessorsAreElements, LabelsArePart, LabelsAreTrue, PartsAreMet, RolesAreMet, AssertionsAreMet, ComputedIsBuilt, ChainsStayWithin, LabelsCountSimple, NodeInQuestionRefutes, IsCounterModel, SaturatedIsCounterModel, SaturatedDoesNotEntail}
+use Rattle.search_laws.specs.CounterModelLaws.{IsSaturatedSearch, ElementsAreFew, FirstNodesAreElements, ElementsDiffer}
+use Rattle.search_laws.specs.CounterModelLaws.{SuccessorsAreElements, LabelsArePart, LabelsAreTrue, PartsAreMet}
+use Rattle.search_laws.specs.CounterModelLaws.{RolesAreMet, AssertionsAreMet, ComputedIsBuilt, ChainsStayWithin}
+use Rattle.search_laws.specs.CounterModelLaws.{LabelsCountSimple, NodeInQuestionRefutes, IsCounterModel}
+use Rattle.search_laws.specs.CounterModelLaws.{SaturatedIsCounterModel, SaturatedDoesNotEntail}
 use Rattle.search_laws.proofs.Counting.{count_le}
 use Rattle.search_laws.proofs.Counting.{length-passing, passing_ascends}
 use Rattle.tableau_specs.specs.Blocked.{block_of}
@@ -49,11 +53,20 @@ use Rattle.search_laws.proofs.CounterModelComputed.{computed_is_built}
 pub elements_are_few : ElementsAreFew
 elements_are_few first fs some = record {
   is_some = let n = first_number first fs 0 some in omega (arith, n.is_within);
-  not_more = omega (arith, length-passing (is_element first fs) (node_count_from first fs), count_le (node_count_from first fs) (is_element first fs) (λ x. eqb (rep fs x) x) (λ y lt h. (and_parts (eqb (rep fs y) y) (is_above (block_of first fs y)) h).0));
+  not_more = omega (
+    arith,
+    length-passing (is_element first fs) (node_count_from first fs),
+    count_le (node_count_from first fs) (is_element first fs) (λ x. eqb (rep fs x) x)
+        (λ y lt h. (and_parts (eqb (rep fs y) y) (is_above (block_of first fs y)) h).0),
+  );
 }
 
 pub first_nodes_are_elements : FirstNodesAreElements
-first_nodes_are_elements first fs x lt = record { number = number_at first fs x; is_its = first_number first fs x lt; is_like_itself = first_original first fs x lt }
+first_nodes_are_elements first fs x lt = record {
+  number = number_at first fs x;
+  is_its = first_number first fs x lt;
+  is_like_itself = first_original first fs x lt;
+}
 
 pub elements_differ : ElementsDiffer
 elements_differ first fs v u less lt = passing_ascends (is_element first fs) (node_count_from first fs) v u 0 less lt
@@ -62,7 +75,8 @@ elements_differ first fs v u less lt = passing_ascends (is_element first fs) (no
 
 pub computed_interpretations_are_built : ComputedIsBuilt
 computed_interpretations_are_built w at sub not_sup k trail lt r limit within =
-    computed_is_built w (facts_of trail) (parents_less w at sub not_sup k trail lt r) (clear_has_none_under w at sub not_sup k trail lt r) limit within
+    computed_is_built w (facts_of trail) (parents_less w at sub not_sup k trail lt r)
+    (clear_has_none_under w at sub not_sup k trail lt r) limit within
 
 pub chains_stay_within : ChainsStayWithin
 chains_stay_within = chain_within
@@ -72,7 +86,8 @@ the_labels_count_simple = labels_count_simple
 
 -- ---- saturated trails
 
-module _ (o : Listed) (ks : List ℕ) (q : Query) (table : List Shape) (rows : List Row) (k : ℕ) (trail : List Item) (i : Interpretation) (s : IsSaturatedSearch o ks q table rows k trail i) where
+module _ (o : Listed) (ks : List ℕ) (q : Query) (table : List Shape) (rows : List Row) (k : ℕ) (trail : List Item)
+    (i : Interpretation) (s : IsSaturatedSearch o ks q table rows k trail i) where
   abbrev question : Question
   question = question_in o ks q
 
@@ -92,23 +107,34 @@ module _ (o : Listed) (ks : List ℕ) (q : Query) (table : List Shape) (rows : L
   setting = record {
     table = s.reached.is_table;
     less = parents_less context question.at sub_number not_sup_number k trail s.reached.at_first s.reached.follows;
-    none_under = clear_has_none_under context question.at sub_number not_sup_number k trail s.reached.at_first s.reached.follows;
+    none_under =
+        clear_has_none_under context question.at sub_number not_sup_number k trail s.reached.at_first s.reached.follows;
     saturated = s.is_saturated;
-    none_apart = not_apart_itself context question.at sub_number not_sup_number k trail s.reached.at_first s.reached.follows (inl s.is_saturated.no_clash);
+    none_apart =
+        not_apart_itself context question.at sub_number not_sup_number k trail s.reached.at_first s.reached.follows
+        (inl s.is_saturated.no_clash);
     order = theory_is_order o.axioms ks;
     simple = labels_count_simple o ks q table rows k trail s.in_limit s.reached;
     built = s.is_built;
   }
 
-  successor_is_element : (r v y : ℕ) → v < i.size → LeadsTo context fs r (node_at question.first fs v) y → (u : ℕ) × (u < i.size) × (node_at question.first fs u ≡ y)
+  successor_is_element : (r v y : ℕ) → v < i.size → LeadsTo context fs r (node_at question.first fs v) y
+      → (u : ℕ) × (u < i.size) × (node_at question.first fs u ≡ y)
   successor_is_element r v y lt lead =
-      let n = number_of context trail i setting y (next_stands context trail i setting r (node_at question.first fs v) y (stands_at context trail i setting v lt) lead) in
+      let n =
+      number_of context trail i setting y
+      (next_stands context trail i setting r (node_at question.first fs v) y (stands_at context trail i setting v lt)
+      lead) in
       (n.number, n.is_within, n.is_at)
 
-  label_is_part : (v c : ℕ) → v < i.size → has fs (node_at question.first fs v) c ≡ true → has fs (original question.first fs (node_at question.first fs v)) c ≡ true
-  label_is_part v c lt h = (like_of context trail i setting (node_at question.first fs v) (stands_at context trail i setting v lt)).has_all c h
+  label_is_part : (v c : ℕ) → v < i.size → has fs (node_at question.first fs v) c ≡ true
+      → has fs (original question.first fs (node_at question.first fs v)) c ≡ true
+  label_is_part v c lt h =
+      (like_of context trail i setting (node_at question.first fs v) (stands_at context trail i setting v lt)).has_all c
+      h
 
-  label_is_true : (v c : ℕ) → v < i.size → c < length table → has fs (original question.first fs (node_at question.first fs v)) c ≡ true → holds i (tree_of table c) v ≡ true
+  label_is_true : (v c : ℕ) → v < i.size → c < length table
+      → has fs (original question.first fs (node_at question.first fs v)) c ≡ true → holds i (tree_of table c) v ≡ true
   label_is_true v c lt is_listed h = labels_true context trail i setting v c lt is_listed h
 
   part_is_met : MeetsParts (theory_of o.axioms ks) i
@@ -118,20 +144,27 @@ module _ (o : Listed) (ks : List ℕ) (q : Query) (table : List Shape) (rows : L
   meets_roles = record { upward = upward context trail i setting; onward = passed_on context trail i setting }
 
   meets_facts : MeetsFacts question.fact_of i
-  meets_facts a p f e = fact_true context trail i setting (length o.individuals) refl o.axioms ks a p f e e (s.reached.facts_have_numbers a p f e)
+  meets_facts a p f e =
+      fact_true context trail i setting (length o.individuals) refl o.axioms ks a p f e e
+      (s.reached.facts_have_numbers a p f e)
 
   -- the element of the node in question has what that has from the start
   node_refutes : (v : ℕ) → IsNumberOf question.first fs question.at v → refutes_at i q v ≡ true
   node_refutes v at =
       let stays = start_stays context question.at sub_number not_sup_number k trail s.reached.follows in
       let there = first_holds context trail i setting question.at v in
-      and_from (is_asked_at i q.on v) (holds i q.sub v && not (holds i q.sup v)) (asked_there context trail i setting (length o.individuals) refl q.on v s.reached.at_first at)
+      and_from (is_asked_at i q.on v) (holds i q.sub v && not (holds i q.sup v))
+      (asked_there context trail i setting (length o.individuals) refl q.on v s.reached.at_first at)
       (and_from (holds i q.sub v) (not (holds i q.sup v))
-      (sym (normal_truth i q.sub v) ∙ ap (λ (t : Concept). holds i t v) (sym s.reached.sub_reads) ∙ there sub_number s.reached.at_first at s.reached.sub_listed stays.0)
-      (sym (negated_truth i q.sup v) ∙ ap (λ (t : Concept). holds i t v) (sym s.reached.not_sup_reads) ∙ there not_sup_number s.reached.at_first at s.reached.not_sup_listed stays.1))
+      (sym (normal_truth i q.sub v) ∙ ap (λ (t : Concept). holds i t v) (sym s.reached.sub_reads)
+      ∙ there sub_number s.reached.at_first at s.reached.sub_listed stays.0)
+      (sym (negated_truth i q.sup v) ∙ ap (λ (t : Concept). holds i t v) (sym s.reached.not_sup_reads)
+      ∙ there not_sup_number s.reached.at_first at s.reached.not_sup_listed stays.1))
 
   has_some : 0 < i.size
-  has_some = let n = first_number question.first fs question.at s.reached.at_first in omega (arith, n.is_within, s.is_built.size_is)
+  has_some =
+      let n = first_number question.first fs question.at s.reached.at_first in
+      omega (arith, n.is_within, s.is_built.size_is)
 
   places : PlacesIndividuals i
   places a = elim (cases_lt (a + 1) question.first) [
@@ -146,7 +179,9 @@ module _ (o : Listed) (ks : List ℕ) (q : Query) (table : List Shape) (rows : L
         names_are_listed = names_are_listed o ks q table rows k trail s.in_limit s.reached i s.is_built;
         has_element = omega (arith, has_some);
         places = places;
-        meets_axioms = axioms_met i (length o.classes) (length o.roles) (length o.individuals) o.axioms ks s.in_limit.ontology.listed meets_roles part_is_met meets_facts;
+        meets_axioms =
+            axioms_met i (length o.classes) (length o.roles) (length o.individuals) o.axioms ks
+            s.in_limit.ontology.listed meets_roles part_is_met meets_facts;
         counter_example = number_at question.first fs question.at;
         is_element = omega (arith, n.is_within, s.is_built.size_is);
         refutes = node_refutes (number_at question.first fs question.at) n;
@@ -183,8 +218,10 @@ saturated_does_not_entail o ks q table rows k trail limit reached saturated enta
     let roles = role_axioms o.axioms ks in
     let i : Interpretation = built context (facts_of trail) (role_limit roles) in
     let is_built : IsBuilt context (facts_of trail) i =
-    computed_interpretations_are_built context (question_in o ks q).at reached.sub_number reached.not_sup_number k trail reached.at_first reached.follows (role_limit roles) (transitive_within roles) in
-    let c = counter_model o ks q table rows k trail i (record { in_limit = limit; reached = reached; is_saturated = saturated; is_built = is_built }) in
+    computed_interpretations_are_built context (question_in o ks q).at reached.sub_number reached.not_sup_number k trail
+    reached.at_first reached.follows (role_limit roles) (transitive_within roles) in
+    let c = counter_model o ks q table rows k trail i
+    (record { in_limit = limit; reached = reached; is_saturated = saturated; is_built = is_built }) in
     let no_counter = entails i c.has_element c.places c.meets_axioms c.counter_example c.is_element in
     let some_counter = c.refutes in
     cc

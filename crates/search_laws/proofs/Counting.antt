@@ -1,5 +1,6 @@
 -- Counts of the numbers below a bound that pass a test, and of the same numbers by their places in the list of them.
-use Rattle.std.proofs.Common.{◌≡◌, ℕ, zero, suc, ◌+◌, ◌<◌, ◌≤◌, ◌&&◌, ◌⊎◌, Bool, true, false, cond, eqb, List, [], ◌∷◌, length, get_or, refl, ap, ◌∙◌, sym, subst, arith, inl, inr}
+use Rattle.std.proofs.Common.{◌≡◌, ℕ, zero, suc, ◌+◌, ◌<◌, ◌≤◌, ◌&&◌, ◌⊎◌, Bool, true, false, cond, eqb, List, [], ◌∷◌}
+use Rattle.std.proofs.Common.{length, get_or, refl, ap, ◌∙◌, sym, subst, arith, inl, inr}
 use Rattle.std.specs.List.{range_with_len, filter, All, AllPairs}
 use Rattle.std.proofs.lemmas.Bool.{cases_Bool, cases_eq, cases_lt, eqb-true}
 use Rattle.std.proofs.lemmas.List.{get_or_default}
@@ -24,7 +25,8 @@ pub cond_more : (a b : Bool) → a ≡ false → b ≡ true → cond a 1 0 + 1 �
 cond_more a b out here = rw (out, here) (omega arith)
 
 -- what passes is counted by a weaker test
-pub count_le : (m : ℕ) (p q : ℕ → Bool) → ((y : ℕ) → y < m → p y ≡ true → q y ≡ true) → count_below m p ≤ count_below m q
+pub count_le : (m : ℕ) (p q : ℕ → Bool) → ((y : ℕ) → y < m → p y ≡ true → q y ≡ true)
+    → count_below m p ≤ count_below m q
 count_le zero p q imp = omega arith
 count_le (suc m) p q imp =
     let rest = count_le m p q (λ y lt. imp y (omega arith)) in
@@ -32,7 +34,8 @@ count_le (suc m) p q imp =
     omega arith
 
 -- and one more, where one passes the weaker test alone
-pub count_more : (n : ℕ) (p q : ℕ → Bool) (y : ℕ) → y < n → ((z : ℕ) → z < n → p z ≡ true → q z ≡ true) → p y ≡ false → q y ≡ true → count_below n p + 1 ≤ count_below n q
+pub count_more : (n : ℕ) (p q : ℕ → Bool) (y : ℕ) → y < n → ((z : ℕ) → z < n → p z ≡ true → q z ≡ true) → p y ≡ false
+    → q y ≡ true → count_below n p + 1 ≤ count_below n q
 count_more zero p q y lt imp out here = absurd (omega arith)
 count_more (suc n) p q y lt imp out here = elim (cases_eq y n) [
   | inl e ↦
@@ -64,7 +67,8 @@ count_longer n (suc k) m p e =
     omega (arith, ap (λ (a : ℕ). count_below a p) m')
 
 -- where what is past the first n fails, it counts for nothing
-pub count_no_more : (n k m : ℕ) (p : ℕ → Bool) → m ≡ n + k → ((y : ℕ) → n ≤ y → y < m → p y ≡ false) → count_below m p ≡ count_below n p
+pub count_no_more : (n k m : ℕ) (p : ℕ → Bool) → m ≡ n + k → ((y : ℕ) → n ≤ y → y < m → p y ≡ false)
+    → count_below m p ≡ count_below n p
 count_no_more n zero m p e out = let e' : m ≡ n = omega (arith, e) in ap (λ (a : ℕ). count_below a p) e'
 count_no_more n (suc k) m p e out =
     let m' : m ≡ suc (n + k) = omega (arith, e) in
@@ -74,10 +78,13 @@ count_no_more n (suc k) m p e out =
 
 pub count_all : (n : ℕ) (p : ℕ → Bool) → ((y : ℕ) → y < n → p y ≡ true) → count_below n p ≡ n
 count_all zero p imp = refl
-count_all (suc n) p imp = let rest = count_all n p (λ y lt. imp y (omega arith)) in let here = one_passes (count_below n p) (p n) (imp n (omega arith)) in omega arith
+count_all (suc n) p imp =
+    let rest = count_all n p (λ y lt. imp y (omega arith)) in
+    let here = one_passes (count_below n p) (p n) (imp n (omega arith)) in omega arith
 
 -- so many that follow one another and pass
-pub count_run : (m : ℕ) (p : ℕ → Bool) (a n : ℕ) → a + n ≤ m → ((y : ℕ) → a ≤ y → y < a + n → p y ≡ true) → n ≤ count_below m p
+pub count_run : (m : ℕ) (p : ℕ → Bool) (a n : ℕ) → a + n ≤ m → ((y : ℕ) → a ≤ y → y < a + n → p y ≡ true)
+    → n ≤ count_below m p
 count_run m p a zero le each = omega arith
 count_run zero p a (suc n) le each = absurd (omega arith)
 count_run (suc m) p a (suc n) le each = elim (cases_lt (a + n) m) [
@@ -89,7 +96,8 @@ count_run (suc m) p a (suc n) le each = elim (cases_lt (a + n) m) [
 ]
 
 pub count_one : (m : ℕ) (p : ℕ → Bool) (y : ℕ) → y < m → p y ≡ true → 1 ≤ count_below m p
-count_one m p y lt h = count_run m p y 1 (omega arith) (λ z from before. let e : y ≡ z = omega arith in subst (λ (k : ℕ). p k ≡ true) e h)
+count_one m p y lt h =
+    count_run m p y 1 (omega arith) (λ z from before. let e : y ≡ z = omega arith in subst (λ (k : ℕ). p k ≡ true) e h)
 
 -- ---- counts by places
 
@@ -101,8 +109,12 @@ count_places : (p : ℕ → Bool) (xs : List ℕ) → count_below (length xs) (�
 count_places p [] = refl
 count_places p (x ∷ xs) =
     let before = count_places p xs in
-    let first : count_below (length (x ∷ xs)) (λ k. p (get_or (x ∷ xs) k 0)) ≡ cond (p x) 1 0 + count_below (length xs) (λ k. p (get_or xs k 0)) = count_first (length xs) (λ k. p (get_or (x ∷ xs) k 0)) in
-    first ∙ elim (p x) as (λ b. cond b 1 0 + count_below (length xs) (λ k. p (get_or xs k 0)) ≡ length (cond b (x ∷ filter p xs) (filter p xs))) [
+    let first : count_below (length (x ∷ xs)) (λ k. p (get_or (x ∷ xs) k 0))
+    ≡ cond (p x) 1 0 + count_below (length xs) (λ k. p (get_or xs k 0)) =
+    count_first (length xs) (λ k. p (get_or (x ∷ xs) k 0)) in
+    first ∙ elim (p x) as
+    (λ b. cond b 1 0 + count_below (length xs) (λ k. p (get_or xs k 0))
+    ≡ length (cond b (x ∷ filter p xs) (filter p xs))) [
       | true ↦ omega (arith, before)
       | false ↦ omega (arith, before)
     ]
@@ -113,23 +125,32 @@ count_range p n =
     let at : ℕ → Bool = λ k. p (get_or (range_with_len 0 n) k 0) in
     sym (count_places p (range_with_len 0 n))
     ∙ ap (λ (m : ℕ). count_below m at) (length-range_with_len 0 n)
-    ∙ count_agree n at p (λ k lt. let e : get_or (range_with_len 0 n) k 0 ≡ k = omega (arith, get_or-range_with_len 0 n k 0 lt) in ap p e)
+    ∙ count_agree n at p
+    (λ k lt. let e : get_or (range_with_len 0 n) k 0 ≡ k = omega (arith, get_or-range_with_len 0 n k 0 lt) in ap p e)
 
 filter_twice : (p q : ℕ → Bool) (xs : List ℕ) → filter p (filter q xs) ≡ filter (λ y. q y && p y) xs
 filter_twice p q [] = refl
-filter_twice p q (x ∷ xs) = elim (q x) as (λ b. filter p (cond b (x ∷ filter q xs) (filter q xs)) ≡ cond (b && p x) (x ∷ filter (λ y. q y && p y) xs) (filter (λ y. q y && p y) xs)) [
-  | true ↦ ap (λ (ys : List ℕ). cond (p x) (x ∷ ys) ys) (filter_twice p q xs)
-  | false ↦ filter_twice p q xs
-]
+filter_twice p q (x ∷ xs) = elim (q x) as
+    (λ b. filter p (cond b (x ∷ filter q xs) (filter q xs))
+    ≡ cond (b && p x) (x ∷ filter (λ y. q y && p y) xs) (filter (λ y. q y && p y) xs)) [
+      | true ↦ ap (λ (ys : List ℕ). cond (p x) (x ∷ ys) ys) (filter_twice p q xs)
+      | false ↦ filter_twice p q xs
+    ]
 
 -- ---- the numbers below a bound that pass a test
 
 range_within : (n : ℕ) → All (λ y. y < n) (range_with_len 0 n)
-range_within n k d lt = omega (arith, lt, length-range_with_len 0 n, get_or-range_with_len 0 n k d (omega (arith, lt, length-range_with_len 0 n)))
+range_within n k d lt = omega
+    (arith, lt, length-range_with_len 0 n, get_or-range_with_len 0 n k d (omega (arith, lt, length-range_with_len 0 n)))
 
 range_ascends : (n : ℕ) → AllPairs (λ y z. y < z) (range_with_len 0 n)
 range_ascends n i j d lt mt =
-    omega (arith, lt, get_or-range_with_len 0 n i d (omega (arith, lt, mt, length-range_with_len 0 n)), get_or-range_with_len 0 n j d (omega (arith, mt, length-range_with_len 0 n)))
+    omega (
+      arith,
+      lt,
+      get_or-range_with_len 0 n i d (omega (arith, lt, mt, length-range_with_len 0 n)),
+      get_or-range_with_len 0 n j d (omega (arith, mt, length-range_with_len 0 n)),
+    )
 
 module _ (q : ℕ → Bool) (n : ℕ) where
   abbrev passing : List ℕ
@@ -146,25 +167,35 @@ module _ (q : ℕ → Bool) (n : ℕ) where
 
   pub place : (y : ℕ) → y < n → q y ≡ true → Place y
   place y lt h =
-      let c = Contains-from_any {K = ℕ} {eq = eqb} (λ a b e. eqb-true a b e) y passing (in_filter q y (range_with_len 0 n) h (in_range y 0 n (omega arith) (omega (arith, lt)))) in
+      let c =
+      Contains-from_any {K = ℕ} {eq = eqb} (λ a b e. eqb-true a b e) y passing
+      (in_filter q y (range_with_len 0 n) h (in_range y 0 n (omega arith) (omega (arith, lt)))) in
       record { at = c.0; is_within = c.1; is_there = get_or_default passing c.0 0 y c.1 ∙ c.2 }
 
   -- a number at a place passes
-  pub passing_at : (k : ℕ) → k < length (filter q (range_with_len 0 n)) → (get_or (filter q (range_with_len 0 n)) k 0 < n) × (q (get_or (filter q (range_with_len 0 n)) k 0) ≡ true)
-  passing_at k lt = (All-filter q (λ y. y < n) (range_with_len 0 n) (range_within n) k 0 lt, filter_passes q (range_with_len 0 n) k 0 lt)
+  pub passing_at : (k : ℕ) → k < length (filter q (range_with_len 0 n))
+      → (get_or (filter q (range_with_len 0 n)) k 0 < n) × (q (get_or (filter q (range_with_len 0 n)) k 0) ≡ true)
+  passing_at k lt = (
+    All-filter q (λ y. y < n) (range_with_len 0 n) (range_within n) k 0 lt,
+    filter_passes q (range_with_len 0 n) k 0 lt,
+  )
 
   pub length-passing : length (filter q (range_with_len 0 n)) ≡ count_below n q
   length-passing = count_range q n
 
-  pub length-passing_twice : (p : ℕ → Bool) → length (filter p (filter q (range_with_len 0 n))) ≡ count_below n (λ y. q y && p y)
+  pub length-passing_twice : (p : ℕ → Bool)
+      → length (filter p (filter q (range_with_len 0 n))) ≡ count_below n (λ y. q y && p y)
   length-passing_twice p = ap length (filter_twice p q (range_with_len 0 n)) ∙ count_range (λ y. q y && p y) n
 
   -- what is counted by places is counted by numbers
-  pub count_passing : (p : ℕ → Bool) → count_below (length (filter q (range_with_len 0 n))) (λ k. p (get_or (filter q (range_with_len 0 n)) k 0)) ≡ count_below n (λ y. q y && p y)
+  pub count_passing : (p : ℕ → Bool)
+      → count_below (length (filter q (range_with_len 0 n))) (λ k. p (get_or (filter q (range_with_len 0 n)) k 0))
+      ≡ count_below n (λ y. q y && p y)
   count_passing p = count_places p passing ∙ length-passing_twice p
 
 -- where 0 passes, it is the first
-pub first_passing : (q : ℕ → Bool) (n : ℕ) → 0 < n → q 0 ≡ true → (0 < length (filter q (range_with_len 0 n))) × (get_or (filter q (range_with_len 0 n)) 0 0 ≡ 0)
+pub first_passing : (q : ℕ → Bool) (n : ℕ) → 0 < n → q 0 ≡ true
+    → (0 < length (filter q (range_with_len 0 n))) × (get_or (filter q (range_with_len 0 n)) 0 0 ≡ 0)
 first_passing q zero lt h = absurd (omega arith)
 first_passing q (suc n) lt h =
     let others = filter q (range_with_len 1 n) in
@@ -179,12 +210,16 @@ searched (suc n) p = elim (searched n p) [
   | inl found ↦ inl found
   | inr none ↦ elim (cases_Bool (p n)) [
     | inl here ↦ inl (n, here)
-    | inr fails ↦ inr (λ y lt. elim (cases_eq y n) [ inl e ↦ subst (λ (k : ℕ). p k ≡ false) (sym e) fails | inr ne ↦ none y (omega arith) ])
+    | inr fails ↦ inr (λ y lt. elim (cases_eq y n)
+        [ inl e ↦ subst (λ (k : ℕ). p k ≡ false) (sym e) fails | inr ne ↦ none y (omega arith) ])
   ]
 ]
 
-fails_past : (n : ℕ) (p : ℕ → Bool) → ((y : ℕ) → p y ≡ true → y < n) → ((y : ℕ) → y < n → p y ≡ false) → (y : ℕ) → p y ≡ false
+fails_past : (n : ℕ) (p : ℕ → Bool) → ((y : ℕ) → p y ≡ true → y < n) → ((y : ℕ) → y < n → p y ≡ false) → (y : ℕ)
+    → p y ≡ false
 fails_past n p bound none y = elim (cases_Bool (p y)) [ inl h ↦ none y (bound y h) | inr f ↦ f ]
 
-pub passes_somewhere : (n : ℕ) (p : ℕ → Bool) → ((y : ℕ) → p y ≡ true → y < n) → ¬ ((y : ℕ) → p y ≡ false) → (y : ℕ) × (p y ≡ true)
-passes_somewhere n p bound not_none = elim (searched n p) [ inl found ↦ found | inr none ↦ absurd (not_none (fails_past n p bound none)) ]
+pub passes_somewhere : (n : ℕ) (p : ℕ → Bool) → ((y : ℕ) → p y ≡ true → y < n) → ¬ ((y : ℕ) → p y ≡ false)
+    → (y : ℕ) × (p y ≡ true)
+passes_somewhere n p bound not_none =
+    elim (searched n p) [ inl found ↦ found | inr none ↦ absurd (not_none (fails_past n p bound none)) ]

@@ -13,7 +13,8 @@ count_front first fs gs = omega (arith, count-append first fs gs)
 pub not_none : (w : SearchContext) (fs : List (Fact ℕ)) (x s e : ℕ) → ¬ ((y : ℕ) → is_run w fs x s e 0 y ≡ false)
 not_none w fs x s e h = let k : true ≡ false = h 0 in cc
 
-pub generates_more : (w : SearchContext) (fs new : List (Fact ℕ)) → Generates w fs new → node_count_from w.first fs + 1 ≤ node_count_from w.first (fs ++ new)
+pub generates_more : (w : SearchContext) (fs new : List (Fact ℕ)) → Generates w fs new
+    → node_count_from w.first fs + 1 ≤ node_count_from w.first (fs ++ new)
 generates_more w fs new (by_some x c s e at h sh none) = omega (arith, count-fresh w.first fs x s e 1)
 generates_more w fs new (by_least x c zero s e at h sh none) = absurd (not_none w fs x s e none)
 generates_more w fs new (by_least x c (suc n) s e at h sh none) = omega (arith, count-fresh w.first fs x s e (suc n))

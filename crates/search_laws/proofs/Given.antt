@@ -1,5 +1,6 @@
 -- How many of the facts that axioms give are so: what is so stays so, and what a step puts is so.
-use Rattle.std.proofs.Common.{◌≡◌, ℕ, zero, suc, ◌+◌, ◌<◌, ◌≤◌, cond, eqb, Bool, true, false, List, [], ◌∷◌, ◌++◌, map, length, length-append, refl, ap, ◌∙◌, sym, subst, arith, inl, inr, eq-eqb}
+use Rattle.std.proofs.Common.{◌≡◌, ℕ, zero, suc, ◌+◌, ◌<◌, ◌≤◌, cond, eqb, Bool, true, false, List, [], ◌∷◌, ◌++◌, map}
+use Rattle.std.proofs.Common.{length, length-append, refl, ap, ◌∙◌, sym, subst, arith, inl, inr, eq-eqb}
 use Rattle.std.specs.List.{range_with_len}
 use Rattle.std.proofs.lemmas.Bool.{cases_Bool, cases_eq, or_left, ltb-true}
 use Rattle.std.proofs.lemmas.Bool.Decides.{nat_tests}
@@ -43,14 +44,16 @@ so_last fs (Has x c) = had (fs ++ Has x c ∷ []) x c (has_last fs x c)
 so_last fs (Edge r x y) =
     let now = fs ++ Edge r x y ∷ [] in
     let p : Fact ℕ → Bool = gives_edge (λ s. eqb s r) (rep now) (rep now x) (rep now y) in
-    any_right p fs (Edge r x y ∷ []) (or_left (p (Edge r x y)) false (edge_at (λ s. eqb s r) (rep now) r x y (eq-eqb r r refl)))
+    any_right p fs (Edge r x y ∷ [])
+    (or_left (p (Edge r x y)) false (edge_at (λ s. eqb s r) (rep now) r x y (eq-eqb r r refl)))
 so_last fs (Apart x y) =
     let now = fs ++ Apart x y ∷ [] in
     let p : Fact ℕ → Bool = gives_apart (rep now) (rep now x) (rep now y) in
     any_right p fs (Apart x y ∷ []) (or_left (p (Apart x y)) false (apart_at (rep now) x y))
 so_last fs (Same x y) =
     let now = fs ++ Same x y ∷ [] in
-    eq-eqb (rep now x) (rep now y) (rep-snoc fs (Same x y) x ∙ merged_both (rep fs x) (rep fs y) ∙ sym (rep-snoc fs (Same x y) y))
+    eq-eqb (rep now x) (rep now y)
+    (rep-snoc fs (Same x y) x ∙ merged_both (rep fs x) (rep fs y) ∙ sym (rep-snoc fs (Same x y) y))
 
 -- ---- how many of some facts are so
 
@@ -60,14 +63,19 @@ so_count (t ∷ ts) fs = so_count ts fs + cond (is_so fs t) 1 0
 
 so_le : (ts fs gs : List (Fact ℕ)) → so_count ts fs ≤ so_count ts (fs ++ gs)
 so_le [] fs gs = omega arith
-so_le (t ∷ ts) fs gs = let rest = so_le ts fs gs in let here = counted_le (is_so fs t) (is_so (fs ++ gs) t) (so_stays fs gs t) in omega arith
+so_le (t ∷ ts) fs gs =
+    let rest = so_le ts fs gs in
+    let here = counted_le (is_so fs t) (is_so (fs ++ gs) t) (so_stays fs gs t) in omega arith
 
-so_more : (ts fs : List (Fact ℕ)) (f : Fact ℕ) → Among f ts → is_so fs f ≡ false → so_count ts fs + 1 ≤ so_count ts (fs ++ f ∷ [])
+so_more : (ts fs : List (Fact ℕ)) (f : Fact ℕ) → Among f ts → is_so fs f ≡ false
+    → so_count ts fs + 1 ≤ so_count ts (fs ++ f ∷ [])
 so_more [] fs f m out = absurd m
 so_more (t ∷ ts) fs f m out = elim m [
   | inl e ↦
       let rest = so_le ts fs (f ∷ []) in
-      let first = cond_more (is_so fs t) (is_so (fs ++ f ∷ []) t) (subst (λ (g : Fact ℕ). is_so fs g ≡ false) e out) (subst (λ (g : Fact ℕ). is_so (fs ++ f ∷ []) g ≡ true) e (so_last fs f)) in
+      let first =
+      cond_more (is_so fs t) (is_so (fs ++ f ∷ []) t) (subst (λ (g : Fact ℕ). is_so fs g ≡ false) e out)
+      (subst (λ (g : Fact ℕ). is_so (fs ++ f ∷ []) g ≡ true) e (so_last fs f)) in
       omega arith
   | inr later ↦
       let rest = so_more ts fs f later out in
@@ -84,12 +92,16 @@ pub record IsGiveCount (w : SearchContext) (count : List (Fact ℕ) → ℕ) : T
   pub not_less : (fs gs : List (Fact ℕ)) → count fs ≤ count (fs ++ gs)
   pub more : (fs : List (Fact ℕ)) (f : Fact ℕ) → IsGiven w f → is_so fs f ≡ false → count fs + 1 ≤ count (fs ++ f ∷ [])
 
-pub counts_so : (w : SearchContext) (ts : List (Fact ℕ)) → ((f : Fact ℕ) → IsGiven w f → Among f ts) → IsGiveCount w (so_count ts)
+pub counts_so : (w : SearchContext) (ts : List (Fact ℕ)) → ((f : Fact ℕ) → IsGiven w f → Among f ts)
+    → IsGiveCount w (so_count ts)
 counts_so w ts all = record { not_less = so_le ts; more = λ fs f given out. so_more ts fs f (all f given) out }
 
 -- all facts
 pub counts_all : (w : SearchContext) → IsGiveCount w (λ fs. length fs)
-counts_all w = record { not_less = λ fs gs. omega (arith, length-append fs gs); more = λ fs f given out. omega (arith, length-append fs (f ∷ [])) }
+counts_all w = record {
+  not_less = λ fs gs. omega (arith, length-append fs gs);
+  more = λ fs f given out. omega (arith, length-append fs (f ∷ []));
+}
 
 -- ---- the numbers of given facts
 
@@ -104,29 +116,36 @@ numbered table (Apart x y) = Apart x y
 numbered table (Same x y) = Same x y
 
 -- the one that passes is found
-first_is : (p : ℕ → Bool) (n a k : ℕ) → a ≤ n → n < a + k → p n ≡ true → ((y : ℕ) → y < a + k → p y ≡ true → y ≡ n) → first_passing p (range_with_len a k) ≡ n
+first_is : (p : ℕ → Bool) (n a k : ℕ) → a ≤ n → n < a + k → p n ≡ true → ((y : ℕ) → y < a + k → p y ≡ true → y ≡ n)
+    → first_passing p (range_with_len a k) ≡ n
 first_is p n a zero le lt at only = absurd (omega arith)
 first_is p n a (suc k) le lt at only = elim (cases_Bool (p a)) [
   | inl hit ↦ rw hit (only a (omega arith) hit)
   | inr miss ↦ rw miss (elim (cases_eq a n) [
     | inl here ↦ (let l = ap p here in cc)
-    | inr ne ↦ first_is p n (a + 1) k (omega (arith, le, ne)) (omega (arith, lt)) at (λ y mt h. only y (omega (arith, mt)) h)
+    | inr ne ↦
+        first_is p n (a + 1) k (omega (arith, le, ne)) (omega (arith, lt)) at (λ y mt h. only y (omega (arith, mt)) h)
   ])
 ]
 
 module _ (table : List Shape) (good : IsTable table) where
   number_back : (n : ℕ) → n < length table → number_in table (tree_of table n) ≡ n
-  number_back n lt = first_is (λ m. is_same (tree_of table m) (tree_of table n)) n 0 (length table) (omega arith) (omega (arith, lt)) (same_itself (tree_of table n))
-      (λ y mt h. numbers_unique table good y n (omega (arith, mt)) lt (same_to_eq (tree_of table y) (tree_of table n) h))
+  number_back n lt =
+      first_is (λ m. is_same (tree_of table m) (tree_of table n)) n 0 (length table) (omega arith) (omega (arith, lt))
+      (same_itself (tree_of table n))
+      (λ y mt h. numbers_unique table good y n (omega (arith, mt)) lt
+      (same_to_eq (tree_of table y) (tree_of table n) h))
 
-  pub numbered_back : (f : Fact ℕ) → is_fact_listed (length table) f ≡ true → numbered table (read_fact (tree_of table) f) ≡ f
+  pub numbered_back : (f : Fact ℕ) → is_fact_listed (length table) f ≡ true
+      → numbered table (read_fact (tree_of table) f) ≡ f
   numbered_back (Has x c) h = ap (Has x) (number_back c (ltb-true c (length table) h))
   numbered_back (Edge r x y) h = refl
   numbered_back (Apart x y) h = refl
   numbered_back (Same x y) h = refl
 
   -- each given fact is one of those that axioms give, by numbers
-  pub given_among : (q : Question) (rows : List Row) (facts : List (Fact Concept)) → HasFacts q facts → (f : Fact ℕ) → IsGiven (context_of q table rows) f → Among f (map (numbered table) facts)
+  pub given_among : (q : Question) (rows : List Row) (facts : List (Fact Concept)) → HasFacts q facts → (f : Fact ℕ)
+      → IsGiven (context_of q table rows) f → Among f (map (numbered table) facts)
   given_among q rows facts all f g =
       let t = read_fact (tree_of table) f in
       subst (λ (h : Fact ℕ). Among h (map (numbered table) facts)) (numbered_back f g.listed)

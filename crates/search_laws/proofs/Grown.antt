@@ -1,6 +1,7 @@
 -- The steps that a trail keeps: those that were not taken back. Each stands for a number, that of the alternative that
 -- its mark has, or 1 where it has no mark.
-use Rattle.std.proofs.Common.{◌≡◌, ℕ, zero, suc, ◌<◌, ◌⊎◌, false, List, [], ◌∷◌, ◌++◌, take, Some, refl, ap, ◌∙◌, sym, subst, arith, inl, inr, append_assoc}
+use Rattle.std.proofs.Common.{◌≡◌, ℕ, zero, suc, ◌<◌, ◌⊎◌, false, List, [], ◌∷◌, ◌++◌, take, Some, refl, ap, ◌∙◌, sym}
+use Rattle.std.proofs.Common.{subst, arith, inl, inr, append_assoc}
 use Rattle.std.specs.List.{slice_get}
 use Rattle.std.proofs.lemmas.List.{append-nil}
 use Rattle.calculus_specs.specs.Shape.{Shape}
@@ -18,10 +19,14 @@ use Rattle.tableau_specs.specs.Reached.{start}
 
 pub data IsGrown (w : SearchContext) (first : List Item) : List ℕ → List Item → Type 0 where
   at_first : IsGrown w first [] first
-  by_add : (ds : List ℕ) (old : List Item) (x d : ℕ) → IsGrown w first ds old → Adds w (facts_of old) x d → has (facts_of old) x d ≡ false → IsGrown w first (ds ++ 1 ∷ []) (old ++ Says (Has x d) ∷ [])
-  by_give : (ds : List ℕ) (old : List Item) (f : Fact ℕ) → IsGrown w first ds old → IsGiven w f → is_so (facts_of old) f ≡ false → IsGrown w first (ds ++ 1 ∷ []) (old ++ Says f ∷ [])
-  by_make : (ds : List ℕ) (old : List Item) (new : List (Fact ℕ)) → IsGrown w first ds old → Generates w (facts_of old) new → IsGrown w first (ds ++ 1 ∷ []) (old ++ says new)
-  by_choice : (ds : List ℕ) (old : List Item) (c : Choice) (f : Fact ℕ) → IsGrown w first ds old → MayBranch w (facts_of old) c.branch → IsAlternative w.table c.branch c.alternative f
+  by_add : (ds : List ℕ) (old : List Item) (x d : ℕ) → IsGrown w first ds old → Adds w (facts_of old) x d
+      → has (facts_of old) x d ≡ false → IsGrown w first (ds ++ 1 ∷ []) (old ++ Says (Has x d) ∷ [])
+  by_give : (ds : List ℕ) (old : List Item) (f : Fact ℕ) → IsGrown w first ds old → IsGiven w f
+      → is_so (facts_of old) f ≡ false → IsGrown w first (ds ++ 1 ∷ []) (old ++ Says f ∷ [])
+  by_make : (ds : List ℕ) (old : List Item) (new : List (Fact ℕ)) → IsGrown w first ds old
+      → Generates w (facts_of old) new → IsGrown w first (ds ++ 1 ∷ []) (old ++ says new)
+  by_choice : (ds : List ℕ) (old : List Item) (c : Choice) (f : Fact ℕ) → IsGrown w first ds old
+      → MayBranch w (facts_of old) c.branch → IsAlternative w.table c.branch c.alternative f
       → IsGrown w first (ds ++ c.alternative ∷ []) (old ++ Mark c ∷ Says f ∷ [])
 
 -- ---- lists
@@ -38,7 +43,8 @@ facts_of-says (f ∷ fs) = ap (λ (gs : List (Fact ℕ)). f ∷ gs) (facts_of-sa
 -- where an item of a longer list stands: among the first or among the others
 abbrev Stands : List Item → List Item → ℕ → Item → Type 0
 Stands old new place i =
-    ((slice_get old place ≡ Some i) × (take place (old ++ new) ≡ take place old)) ⊎ ((q : ℕ) × (slice_get new q ≡ Some i) × (take place (old ++ new) ≡ old ++ take q new))
+    ((slice_get old place ≡ Some i) × (take place (old ++ new) ≡ take place old))
+    ⊎ ((q : ℕ) × (slice_get new q ≡ Some i) × (take place (old ++ new) ≡ old ++ take q new))
 
 stands : (old new : List Item) (place : ℕ) (i : Item) → slice_get (old ++ new) place ≡ Some i → Stands old new place i
 stands [] new place i h = inr (place, h, refl)
@@ -55,7 +61,8 @@ no_mark_in (f ∷ fs) (suc q) c h = no_mark_in fs q c h
 
 -- ---- the steps before a mark
 
-pub record IsCut (w : SearchContext) (first : List Item) (ds : List ℕ) (trail : List Item) (place : ℕ) (c : Choice) : Type 0 where
+pub record IsCut (w : SearchContext) (first : List Item) (ds : List ℕ) (trail : List Item) (place : ℕ) (c : Choice) :
+    Type 0 where
   pub before : List ℕ
   pub after : List ℕ
   pub numbers : ds ≡ before ++ c.alternative ∷ after
@@ -67,7 +74,8 @@ module _ (w : SearchContext) (at a b : ℕ) where
   Cut ds trail place c = IsCut w (start at a b) ds trail place c
 
   -- a step more leaves what stands before an earlier mark
-  longer : (ds : List ℕ) (n : ℕ) (old new : List Item) (place : ℕ) (c : Choice) → take place (old ++ new) ≡ take place old → Cut ds old place c → Cut (ds ++ n ∷ []) (old ++ new) place c
+  longer : (ds : List ℕ) (n : ℕ) (old new : List Item) (place : ℕ) (c : Choice)
+      → take place (old ++ new) ≡ take place old → Cut ds old place c → Cut (ds ++ n ∷ []) (old ++ new) place c
   longer ds n old new place c same k = record {
     before = k.before;
     after = k.after ++ n ∷ [];
@@ -76,7 +84,8 @@ module _ (w : SearchContext) (at a b : ℕ) where
     may = subst (λ (is : List Item). MayBranch w (facts_of is) c.branch) (sym same) k.may;
   }
 
-  pub cut : (ds : List ℕ) (trail : List Item) → IsGrown w (start at a b) ds trail → (place : ℕ) (c : Choice) → slice_get trail place ≡ Some (Mark c) → Cut ds trail place c
+  pub cut : (ds : List ℕ) (trail : List Item) → IsGrown w (start at a b) ds trail → (place : ℕ) (c : Choice)
+      → slice_get trail place ≡ Some (Mark c) → Cut ds trail place c
   cut ds trail at_first place c h = absurd (no_mark_in (Has at a ∷ Has at b ∷ []) place c h)
   cut ds trail (by_add es old x d g adds out) place c h = elim (stands old (Says (Has x d) ∷ []) place (Mark c) h) [
     | inl low ↦ longer es 1 old (Says (Has x d) ∷ []) place c low.1 (cut es old g place c low.0)
@@ -95,7 +104,9 @@ module _ (w : SearchContext) (at a b : ℕ) where
     | inr high ↦ here high.0 high.1 high.2
   ]
     where
-      here : (q : ℕ) → slice_get (Mark e ∷ Says f ∷ []) q ≡ Some (Mark c) → take place (old ++ Mark e ∷ Says f ∷ []) ≡ old ++ take q (Mark e ∷ Says f ∷ []) → Cut (es ++ e.alternative ∷ []) (old ++ Mark e ∷ Says f ∷ []) place c
+      here : (q : ℕ) → slice_get (Mark e ∷ Says f ∷ []) q ≡ Some (Mark c)
+          → take place (old ++ Mark e ∷ Says f ∷ []) ≡ old ++ take q (Mark e ∷ Says f ∷ [])
+          → Cut (es ++ e.alternative ∷ []) (old ++ Mark e ∷ Says f ∷ []) place c
       here zero read same =
           let k : e ≡ c = cc in
           let all : take place (old ++ Mark e ∷ Says f ∷ []) ≡ old = same ∙ append-nil old in
@@ -104,7 +115,9 @@ module _ (w : SearchContext) (at a b : ℕ) where
             after = [];
             numbers = ap (λ (o : Choice). es ++ o.alternative ∷ []) k;
             grown = subst (IsGrown w (start at a b) es) (sym all) g;
-            may = subst (λ (o : Choice). MayBranch w (facts_of (take place (old ++ Mark e ∷ Says f ∷ []))) o.branch) k (subst (λ (is : List Item). MayBranch w (facts_of is) e.branch) (sym all) may);
+            may =
+                subst (λ (o : Choice). MayBranch w (facts_of (take place (old ++ Mark e ∷ Says f ∷ []))) o.branch) k
+                (subst (λ (is : List Item). MayBranch w (facts_of is) e.branch) (sym all) may);
           }
       here (suc zero) read same = absurd (cc)
       here (suc (suc q)) read same = absurd (cc)

@@ -57,25 +57,34 @@ theory_is_order axioms ks =
     let roles = role_axioms axioms ks in
     record {
       itself = λ r. (test_is_below roles r r).1 (itself r);
-      through = λ r s t h k. (test_is_below roles r t).1 (below-append (Leads roles) r s t ((test_is_below roles r s).0 h) ((test_is_below roles s t).0 k));
+      through =
+          λ r s t h k. (test_is_below roles r t).1
+          (below-append (Leads roles) r s t ((test_is_below roles r s).0 h) ((test_is_below roles s t).0 k));
     }
 
 -- an edge below the role begins where a pair does
-pair_begins : (w : SearchContext) (fs : List (Fact ℕ)) → IsOrder w.theory → (s x y : ℕ) → IsPair w fs s x y → (z : ℕ) × LeadsTo w fs s x z
+pair_begins : (w : SearchContext) (fs : List (Fact ℕ)) → IsOrder w.theory → (s x y : ℕ) → IsPair w fs s x y
+    → (z : ℕ) × LeadsTo w fs s x z
 pair_begins w fs o s x' y' (by_edge x y lead) = (y, lead)
 pair_begins w fs o s x' y' (by_chain t x y tr b chain) =
-    let e = first_edge w fs t x y chain in
-    (e.0, successor_more fs (λ r. below_of w r t) (λ r. below_of w r s) (λ r h. o.through r t s h b) (original w.first fs x) e.0 e.1)
+    let e = first_edge w fs t x y chain in (
+      e.0,
+      successor_more fs (λ r. below_of w r t) (λ r. below_of w r s) (λ r h. o.through r t s h b) (original w.first fs x)
+          e.0 e.1,
+    )
 
 -- below a role that is simple by all axioms there is no role that is transitive by some of them
-none_below : (axioms : List Numbered) (ks : List ℕ) (s t : ℕ) → is_simple (all_role_axioms axioms) s ≡ true → (theory_of axioms ks).is_transitive t ≡ true → (theory_of axioms ks).below t s ≡ false
+none_below : (axioms : List Numbered) (ks : List ℕ) (s t : ℕ) → is_simple (all_role_axioms axioms) s ≡ true
+    → (theory_of axioms ks).is_transitive t ≡ true → (theory_of axioms ks).below t s ≡ false
 none_below axioms ks s t h transitive =
     let roles = role_axioms axioms ks in
-    false_from_ne_true ((theory_of axioms ks).below t s) (λ below. (simple_test roles s).0 (stays_simple axioms ks s h) t transitive ((test_is_below roles t s).0 below))
+    false_from_ne_true ((theory_of axioms ks).below t s)
+    (λ below. (simple_test roles s).0 (stays_simple axioms ks s h) t transitive ((test_is_below roles t s).0 below))
 
 -- ---- labels and edges
 
-module _ (o : Listed) (ks : List ℕ) (q : Query) (table : List Shape) (rows : List Row) (k : ℕ) (trail : List Item) (limit : IsInLimit o q) (reached : IsReached (question_in o ks q) table rows k trail) where
+module _ (o : Listed) (ks : List ℕ) (q : Query) (table : List Shape) (rows : List Row) (k : ℕ) (trail : List Item)
+    (limit : IsInLimit o q) (reached : IsReached (question_in o ks q) table rows k trail) where
   abbrev context : SearchContext
   context = context_of (question_in o ks q) table rows
 
@@ -98,7 +107,8 @@ module _ (o : Listed) (ks : List ℕ) (q : Query) (table : List Shape) (rows : L
   Named r = ltb r role_count ≡ true
 
   kept : IsKept (theory_of o.axioms ks) (question_in o ks q).fact_of Allowed Named
-  kept = allowed_kept class_count role_count (length o.individuals) may_count (length o.individuals) o.axioms ks (limit.ontology.listed, limit.ontology.simple)
+  kept = allowed_kept class_count role_count (length o.individuals) may_count (length o.individuals) o.axioms ks
+      (limit.ontology.listed, limit.ontology.simple)
 
   in_two : (list_all may_count (counted_roles q.sub) ≡ true) × (list_all may_count (counted_roles q.sup) ≡ true)
   in_two =
@@ -107,22 +117,34 @@ module _ (o : Listed) (ks : List ℕ) (q : Query) (table : List Shape) (rows : L
 
   sub_allowed : Allowed (tree_of table reached.sub_number)
   sub_allowed =
-      let named = (and_parts (uses_listed class_count role_count q.sub) (uses_listed class_count role_count q.sup) limit.listed).0 in
+      let named =
+      (and_parts (uses_listed class_count role_count q.sub) (uses_listed class_count role_count q.sup)
+      limit.listed).0 in
       subst Allowed (sym reached.sub_reads) (allowed_normal class_count role_count may_count q.sub (named, in_two.0))
 
   not_sup_allowed : Allowed (tree_of table reached.not_sup_number)
   not_sup_allowed =
-      let named = (and_parts (uses_listed class_count role_count q.sub) (uses_listed class_count role_count q.sup) limit.listed).1 in
-      subst Allowed (sym reached.not_sup_reads) (allowed_negated class_count role_count may_count q.sup (named, in_two.1))
+      let named =
+      (and_parts (uses_listed class_count role_count q.sub) (uses_listed class_count role_count q.sup)
+      limit.listed).1 in
+      subst Allowed (sym reached.not_sup_reads)
+      (allowed_negated class_count role_count may_count q.sup (named, in_two.1))
 
   label_allowed : (x c : ℕ) → has fs x c ≡ true → Allowed (tree_of table c)
-  label_allowed = concepts_right Allowed Named (question_in o ks q) table rows reached.is_table reached.is_choice kept (question_in o ks q).at reached.sub_number reached.not_sup_number k trail sub_allowed not_sup_allowed reached.follows
+  label_allowed =
+      concepts_right Allowed Named (question_in o ks q) table rows reached.is_table reached.is_choice kept
+      (question_in o ks q).at reached.sub_number reached.not_sup_number k trail sub_allowed not_sup_allowed
+      reached.follows
 
   edge_named : (kind : ℕ → Bool) (x y : ℕ) → has_edge fs kind x y ≡ true → (r : ℕ) × (kind r ≡ true) × Named r
-  edge_named = edges_right Allowed Named (question_in o ks q) table rows reached.is_table reached.is_choice kept (question_in o ks q).at reached.sub_number reached.not_sup_number k trail sub_allowed not_sup_allowed reached.follows
+  edge_named =
+      edges_right Allowed Named (question_in o ks q) table rows reached.is_table reached.is_choice kept
+      (question_in o ks q).at reached.sub_number reached.not_sup_number k trail sub_allowed not_sup_allowed
+      reached.follows
 
   -- the tree of a number that is not top
-  tree_is : (c : ℕ) (s : Shape) → shape_of table c ≡ s → ¬ (s ≡ top_shape) → tree_of table c ≡ tree_over (trees_of table) s
+  tree_is : (c : ℕ) (s : Shape) → shape_of table c ≡ s → ¬ (s ≡ top_shape)
+      → tree_of table c ≡ tree_over (trees_of table) s
   tree_is c s sh ne =
       let lt = listed table c (λ top. ne (sym sh ∙ top)) in
       tree_of_shape table c lt (reached.is_table.parts_below c lt) ∙ ap (tree_over (trees_of table)) sh
@@ -132,19 +154,25 @@ module _ (o : Listed) (ks : List ℕ) (q : Query) (table : List Shape) (rows : L
       let allowed = subst Allowed (tree_is c (most_shape n s e) sh (λ top. cc)) (label_allowed x c h) in
       none_below o.axioms ks s t (counted_parts class_count role_count may_count s (tree_of table e) allowed).0.1 tr
 
-  pub names_are_listed : (i : Interpretation) → IsBuilt (context_of (question_in o ks q) table rows) (facts_of trail) i → UsesListed o i
+  pub names_are_listed : (i : Interpretation) → IsBuilt (context_of (question_in o ks q) table rows) (facts_of trail) i
+      → UsesListed o i
   names_are_listed i built = record {
     class_is = λ a v lt h.
         let x = original context.first fs (node_at context.first fs v) in
         let m = member (λ d. is_named a (shape_of table d)) (label fs x) (sym (built.classes_are a v lt) ∙ h) in
         let sh : shape_of table m.it ≡ name_shape a = named_is a (shape_of table m.it) m.passes in
-        let allowed = subst Allowed (tree_is m.it (name_shape a) sh (λ top. cc)) (label_allowed x m.it (sym (any-label fs x m.it) ∙ m.is_in)) in
+        let allowed =
+        subst Allowed (tree_is m.it (name_shape a) sh (λ top. cc))
+        (label_allowed x m.it (sym (any-label fs x m.it) ∙ m.is_in)) in
         ltb-true a class_count allowed.0;
     role_is = λ s v u lt mt h.
         let kind : ℕ → Bool = λ r. below_of context r s in
         let x = original context.first fs (node_at context.first fs v) in
-        let e = pair_begins context fs (theory_is_order o.axioms ks) s (node_at context.first fs v) (node_at context.first fs u) ((built.roles_are s v u lt mt).0 h) in
+        let e =
+        pair_begins context fs (theory_is_order o.axioms ks) s (node_at context.first fs v) (node_at context.first fs u)
+        ((built.roles_are s v u lt mt).0 h) in
         let r = edge_named kind x e.0 (successor_has_edge fs kind x e.0 e.1) in
-        upper_listed class_count role_count (length o.individuals) may_count o.axioms limit.ontology.listed ks r.0 s (ltb-true r.0 role_count r.2) r.1;
+        upper_listed class_count role_count (length o.individuals) may_count o.axioms limit.ontology.listed ks r.0 s
+        (ltb-true r.0 role_count r.2) r.1;
     individual_is = λ a past. built.others_are a (omega (arith, past));
   }

@@ -1,5 +1,6 @@
 -- What axioms give, over a table and a longer one.
-use Rattle.std.proofs.Common.{◌≡◌, ℕ, not, eqb, true, List, ◌++◌, length, Some, refl, ap, ◌∙◌, sym, subst, arith, lt-ltb, length-append}
+use Rattle.std.proofs.Common.{◌≡◌, ℕ, not, eqb, true, List, ◌++◌, length, Some, refl, ap, ◌∙◌, sym, subst, arith}
+use Rattle.std.proofs.Common.{lt-ltb, length-append}
 use Rattle.std.proofs.lemmas.Bool.{and_parts, ltb-true, eq-eqb}
 use Rattle.calculus_specs.specs.Concept.{Concept}
 use Rattle.calculus_specs.specs.Shape.{Shape, IsTable}
@@ -22,26 +23,35 @@ use Rattle.search_laws.proofs.Root.{Avoids}
 passes_other : (x at : ℕ) → not (eqb x at) ≡ true → ¬ (x ≡ at)
 passes_other x at h e = (let k = ap not (eq-eqb x at e) in cc)
 
-read_avoids : (t : ℕ → Concept) (at : ℕ) (f : Fact ℕ) → nodes_pass (λ x. not (eqb x at)) (read_fact t f) ≡ true → Avoids at f
+read_avoids : (t : ℕ → Concept) (at : ℕ) (f : Fact ℕ) → nodes_pass (λ x. not (eqb x at)) (read_fact t f) ≡ true
+    → Avoids at f
 read_avoids t at (Has x c) h = passes_other x at h
-read_avoids t at (Edge r x y) h = let b = and_parts (not (eqb x at)) (not (eqb y at)) h in (passes_other x at b.0, passes_other y at b.1)
-read_avoids t at (Apart x y) h = let b = and_parts (not (eqb x at)) (not (eqb y at)) h in (passes_other x at b.0, passes_other y at b.1)
-read_avoids t at (Same x y) h = let b = and_parts (not (eqb x at)) (not (eqb y at)) h in (passes_other x at b.0, passes_other y at b.1)
+read_avoids t at (Edge r x y) h =
+    let b = and_parts (not (eqb x at)) (not (eqb y at)) h in (passes_other x at b.0, passes_other y at b.1)
+read_avoids t at (Apart x y) h =
+    let b = and_parts (not (eqb x at)) (not (eqb y at)) h in (passes_other x at b.0, passes_other y at b.1)
+read_avoids t at (Same x y) h =
+    let b = and_parts (not (eqb x at)) (not (eqb y at)) h in (passes_other x at b.0, passes_other y at b.1)
 
-pub given_avoids : (q : Question) (table : List Shape) (rows : List Row) → IsUnnamed q → (f : Fact ℕ) → IsGiven (context_of q table rows) f → Avoids q.at f
-given_avoids q table rows unnamed f g = read_avoids (tree_of table) q.at f (unnamed g.axiom_number g.place (read_fact (tree_of table) f) g.is_there)
+pub given_avoids : (q : Question) (table : List Shape) (rows : List Row) → IsUnnamed q → (f : Fact ℕ)
+    → IsGiven (context_of q table rows) f → Avoids q.at f
+given_avoids q table rows unnamed f g =
+    read_avoids (tree_of table) q.at f (unnamed g.axiom_number g.place (read_fact (tree_of table) f) g.is_there)
 
 -- ---- a longer table
 
 module _ (q : Question) (table more : List Shape) (rows : List Row) where
-  read_up : (f : Fact ℕ) → is_fact_listed (length table) f ≡ true → read_fact (tree_of table) f ≡ read_fact (tree_of (table ++ more)) f
+  read_up : (f : Fact ℕ) → is_fact_listed (length table) f ≡ true
+      → read_fact (tree_of table) f ≡ read_fact (tree_of (table ++ more)) f
   read_up (Has x c) h = ap (Has x) (sym (tree_of-append table more c (ltb-true c (length table) h)))
   read_up (Edge r x y) h = refl
   read_up (Apart x y) h = refl
   read_up (Same x y) h = refl
 
-  still_listed : (f : Fact ℕ) → is_fact_listed (length table) f ≡ true → is_fact_listed (length (table ++ more)) f ≡ true
-  still_listed (Has x c) h = lt-ltb c (length (table ++ more)) (omega (arith, ltb-true c (length table) h, length-append table more))
+  still_listed : (f : Fact ℕ) → is_fact_listed (length table) f ≡ true
+      → is_fact_listed (length (table ++ more)) f ≡ true
+  still_listed (Has x c) h =
+      lt-ltb c (length (table ++ more)) (omega (arith, ltb-true c (length table) h, length-append table more))
   still_listed (Edge r x y) h = refl
   still_listed (Apart x y) h = refl
   still_listed (Same x y) h = refl
@@ -58,10 +68,16 @@ module _ (q : Question) (table more : List Shape) (rows : List Row) where
   pub facts_up : FactsHaveNumbers q table → FactsHaveNumbers q (table ++ more)
   facts_up h a p f there =
       let n = h a p f there in
-      record { fact = n.fact; reads = sym (read_up n.fact n.listed) ∙ n.reads; listed = still_listed n.fact n.listed; on_first = n.on_first }
+      record {
+        fact = n.fact;
+        reads = sym (read_up n.fact n.listed) ∙ n.reads;
+        listed = still_listed n.fact n.listed;
+        on_first = n.on_first;
+      }
 
   -- where each given fact has numbers in the shorter table, the longer one gives no more
-  pub given_down : IsTable (table ++ more) → FactsHaveNumbers q table → (f : Fact ℕ) → IsGiven (context_of q (table ++ more) rows) f → IsGiven (context_of q table rows) f
+  pub given_down : IsTable (table ++ more) → FactsHaveNumbers q table → (f : Fact ℕ)
+      → IsGiven (context_of q (table ++ more) rows) f → IsGiven (context_of q table rows) f
   given_down longer have f g =
       let n = have g.axiom_number g.place (read_fact (tree_of (table ++ more)) f) g.is_there in
       let same : n.fact ≡ f =

@@ -1,5 +1,6 @@
 -- The numbers of the table that stand for concepts of a list.
-use Rattle.std.proofs.Common.{◌≡◌, ℕ, zero, suc, ◌+◌, ◌<◌, ◌≤◌, eqb, Bool, true, false, List, map, length, ap, ◌∙◌, sym, arith, inl, inr}
+use Rattle.std.proofs.Common.{◌≡◌, ℕ, zero, suc, ◌+◌, ◌<◌, ◌≤◌, eqb, Bool, true, false, List, map, length, ap, ◌∙◌, sym}
+use Rattle.std.proofs.Common.{arith, inl, inr}
 use Rattle.std.specs.List.{list_any, range_with_len, filter, IsDistinct, AllByRecursion}
 use Rattle.std.specs.Cmp.{IsEquivalence}
 use Rattle.std.proofs.lemmas.Bool.{cases_Bool, or_cases, false_from_ne_true}
@@ -37,22 +38,29 @@ module _ (table : List Shape) (cs : List Concept) where
   abbrev pub numbers_of : List ℕ
   numbers_of = filter stands_for (range_with_len 0 (length table))
 
-  pub is_number : (d : ℕ) → d < length table → list_any (is_same (tree_of table d)) cs ≡ true → list_any (eqb d) numbers_of ≡ true
-  is_number d lt h = in_filter stands_for d (range_with_len 0 (length table)) h (in_range d 0 (length table) (omega arith) (omega (arith, lt)))
+  pub is_number : (d : ℕ) → d < length table → list_any (is_same (tree_of table d)) cs ≡ true
+      → list_any (eqb d) numbers_of ≡ true
+  is_number d lt h =
+      in_filter stands_for d (range_with_len 0 (length table)) h
+      (in_range d 0 (length table) (omega arith) (omega (arith, lt)))
 
   module _ (good : IsTable table) where
     other_tree : (c d : ℕ) → c < d → d < length table → is_same (tree_of table c) (tree_of table d) ≡ false
     other_tree c d lt mt = false_from_ne_true (is_same (tree_of table c) (tree_of table d)) (λ h.
-        absurd (omega (arith, lt, numbers_unique table good c d (omega arith) mt (same_to_eq (tree_of table c) (tree_of table d) h))))
+        absurd (omega
+        (arith, lt, numbers_unique table good c d (omega arith) mt (same_to_eq (tree_of table c) (tree_of table d) h))))
 
-    others : (c a n : ℕ) → c < a → a + n ≤ length table → AllByRecursion (λ t. is_same (tree_of table c) t ≡ false) (map (tree_of table) (filter stands_for (range_with_len a n)))
+    others : (c a n : ℕ) → c < a → a + n ≤ length table
+        → AllByRecursion (λ t. is_same (tree_of table c) t ≡ false)
+        (map (tree_of table) (filter stands_for (range_with_len a n)))
     others c a zero lt le = tt
     others c a (suc n) lt le = elim (cases_Bool (stands_for a)) [
       | inl here ↦ rw here (other_tree c a lt (omega arith), others c (a + 1) n (omega arith) (omega arith))
       | inr out ↦ rw out (others c (a + 1) n (omega arith) (omega arith))
     ]
 
-    distinct : (a n : ℕ) → a + n ≤ length table → IsDistinct is_same (map (tree_of table) (filter stands_for (range_with_len a n)))
+    distinct : (a n : ℕ) → a + n ≤ length table
+        → IsDistinct is_same (map (tree_of table) (filter stands_for (range_with_len a n)))
     unfolding IsDistinct
     distinct a zero le = tt
     distinct a (suc n) le = elim (cases_Bool (stands_for a)) [
@@ -60,17 +68,26 @@ module _ (table : List Shape) (cs : List Concept) where
       | inr out ↦ rw out (distinct (a + 1) n (omega arith))
     ]
 
-    among : (q : Concept) (a n : ℕ) → list_any (is_same q) (map (tree_of table) (filter stands_for (range_with_len a n))) ≡ true → list_any (is_same q) cs ≡ true
+    among : (q : Concept) (a n : ℕ)
+        → list_any (is_same q) (map (tree_of table) (filter stands_for (range_with_len a n))) ≡ true
+        → list_any (is_same q) cs ≡ true
     among q a zero h = cc
     among q a (suc n) h = elim (cases_Bool (stands_for a)) [
-      | inl here ↦ elim (or_cases (is_same q (tree_of table a)) (list_any (is_same q) (map (tree_of table) (filter stands_for (range_with_len (a + 1) n)))) (rw here at h)) [
-        | inl at ↦ ap (λ (c : Concept). list_any (is_same c) cs) (same_to_eq q (tree_of table a) at) ∙ here
-        | inr later ↦ among q (a + 1) n later
-      ]
+      | inl here ↦
+          elim (or_cases (is_same q (tree_of table a))
+          (list_any (is_same q) (map (tree_of table) (filter stands_for (range_with_len (a + 1) n)))) (rw here at h)) [
+            | inl at ↦ ap (λ (c : Concept). list_any (is_same c) cs) (same_to_eq q (tree_of table a) at) ∙ here
+            | inr later ↦ among q (a + 1) n later
+          ]
       | inr out ↦ among q (a + 1) n (rw out at h)
     ]
 
     -- there are no more numbers than concepts
     pub few_numbers : length numbers_of ≤ length cs
     few_numbers =
-        omega (arith, length-map numbers_of (tree_of table), length-le_from_is_member same_equiv (map (tree_of table) numbers_of) cs (distinct 0 (length table) (omega arith)) (λ q h. among q 0 (length table) h))
+        omega (
+          arith,
+          length-map numbers_of (tree_of table),
+          length-le_from_is_member same_equiv (map (tree_of table) numbers_of) cs
+              (distinct 0 (length table) (omega arith)) (λ q h. among q 0 (length table) h),
+        )

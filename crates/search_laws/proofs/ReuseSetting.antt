@@ -1,13 +1,15 @@
 -- The same steps are legal, and the same ends saturated, where the node in question has the complement of a class from
 -- the start. The table may have grown by then.
-use Rattle.std.proofs.Common.{◌≡◌, ℕ, ◌<◌, ◌&&◌, Bool, true, false, List, ◌++◌, length, Option, Some, None, refl, ap, ◌∙◌, sym, subst, arith, inl, inr, length-append}
+use Rattle.std.proofs.Common.{◌≡◌, ℕ, ◌<◌, ◌&&◌, Bool, true, false, List, ◌++◌, length, Option, Some, None, refl, ap}
+use Rattle.std.proofs.Common.{◌∙◌, sym, subst, arith, inl, inr, length-append}
 use Rattle.std.specs.List.{list_all, range_with_len, All, Contains}
 use Rattle.std.proofs.lemmas.List.{get_or_append_left, get_or_default}
 use Rattle.std.proofs.lemmas.Bool.{cases_Bool}
 use Rattle.calculus_specs.specs.Concept.{Concept, name}
 use Rattle.calculus_specs.specs.Normal.{negated_form}
 use Rattle.calculus_specs.specs.Shape.{Shape, shape_of, IsTable}
-use Rattle.calculus_specs.specs.Shape.Shape.{top, bottom, name as name_shape, not_name, union, some_of, all_of, at_least, at_most}
+use Rattle.calculus_specs.specs.Shape.Shape.{top, bottom, name as name_shape, not_name, union, some_of, all_of}
+use Rattle.calculus_specs.specs.Shape.Shape.{at_least, at_most}
 use Rattle.calculus_specs.specs.Tree.{IsComplement}
 use Rattle.calculus_specs.specs.Rules.{Question}
 use Rattle.calculus_specs.specs.Rows.{Part, Row, Trigger, part_at, conjunct_at}
@@ -23,7 +25,8 @@ use Rattle.tableau_specs.specs.declared.Branch.{Branch}
 use Rattle.tableau_specs.specs.Clash.{filled_successors, IsClash, IsPlainClash}
 use Rattle.tableau_specs.specs.Clash.IsClash.{of_bottom, of_names, of_most, of_differ}
 use Rattle.tableau_specs.specs.Clash.IsPlainClash.{plain_bottom, plain_names, plain_most, plain_differ}
-use Rattle.tableau_specs.specs.Steps.{SearchContext, is_named, has_name, has_names, is_triggered, is_used_at, is_run, Adds, IsCarried, IsOpen, Generates, MayBranch, IsAlternative}
+use Rattle.tableau_specs.specs.Steps.{SearchContext, is_named, has_name, has_names, is_triggered, is_used_at, is_run}
+use Rattle.tableau_specs.specs.Steps.{Adds, IsCarried, IsOpen, Generates, MayBranch, IsAlternative}
 use Rattle.tableau_specs.specs.Steps.Adds.{by_and, by_all, by_carry, by_row}
 use Rattle.tableau_specs.specs.Steps.Generates.{by_some, by_least}
 use Rattle.tableau_specs.specs.Steps.MayBranch.{on_union, on_filler, on_pair}
@@ -32,7 +35,8 @@ use Rattle.tableau_specs.specs.Reached.{context_of}
 use Rattle.tableau_specs.proofs.Listed.{listed, most_listed, BranchListed}
 use Rattle.tableau_specs.proofs.PlainClash.{successor_has_edge}
 use Rattle.search_laws.proofs.Root.{Avoids}
-use Rattle.search_laws.proofs.Turned.{old_facts, new_facts, has_listed, has_up, has_cases, has_other, label_alike, filled_same, run_same, block_same}
+use Rattle.search_laws.proofs.Turned.{old_facts, new_facts, has_listed, has_up, has_cases, has_other, label_alike}
+use Rattle.search_laws.proofs.Turned.{filled_same, run_same, block_same}
 
 module _ (q : Question) (table more : List Shape) (rows : List Row) where
   abbrev pub short : SearchContext
@@ -44,15 +48,18 @@ module _ (q : Question) (table more : List Shape) (rows : List Row) where
 -- what is so of the facts of each trail of the run
 pub record IsSetting (q : Question) (table : List Shape) (sub n a : ℕ) (gs : List (Fact ℕ)) : Type 0 where
   pub known : are_listed (length table) (old_facts q.at sub n gs) ≡ true
-  pub ends : (roles : ℕ → Bool) (x y : ℕ) → has_edge (old_facts q.at sub n gs) roles x y ≡ true → ¬ (rep (old_facts q.at sub n gs) y ≡ q.at)
+  pub ends : (roles : ℕ → Bool) (x y : ℕ) → has_edge (old_facts q.at sub n gs) roles x y ≡ true
+      → ¬ (rep (old_facts q.at sub n gs) y ≡ q.at)
   pub alone : (x : ℕ) → rep (old_facts q.at sub n gs) x ≡ q.at → x ≡ q.at
   pub stays : rep (old_facts q.at sub n gs) q.at ≡ q.at
   pub is_first : q.at < q.first
   pub lacks_class : (c : ℕ) → has (old_facts q.at sub n gs) q.at c ≡ true → ¬ (shape_of table c ≡ name_shape a)
-  pub no_part : (c : ℕ) (parts : List ℕ) → has (old_facts q.at sub n gs) q.at c ≡ true → shape_of table c ≡ union parts → ¬ Contains parts n
+  pub no_part : (c : ℕ) (parts : List ℕ) → has (old_facts q.at sub n gs) q.at c ≡ true → shape_of table c ≡ union parts
+      → ¬ Contains parts n
   pub none : (x : ℕ) → has (old_facts q.at sub n gs) x n ≡ false
 
-module _ (q : Question) (table more : List Shape) (rows : List Row) (good : IsTable table) (n a : ℕ) (shape_n : shape_of (table ++ more) n ≡ not_name a) where
+module _ (q : Question) (table more : List Shape) (rows : List Row) (good : IsTable table) (n a : ℕ)
+    (shape_n : shape_of (table ++ more) n ≡ not_name a) where
   same_shape : (c : ℕ) → c < length table → shape_of (table ++ more) c ≡ shape_of table c
   same_shape c lt = get_or_append_left table more top c lt
 
@@ -65,14 +72,20 @@ module _ (q : Question) (table more : List Shape) (rows : List Row) (good : IsTa
   complement_up : (e d : ℕ) → e < length table → IsComplement table e d → IsComplement (table ++ more) e d
   complement_up e d lt neg = record {
     listed = omega (arith, neg.listed, length-append table more);
-    negates = tree_of-append table more d neg.listed ∙ neg.negates ∙ ap negated_form (sym (tree_of-append table more e lt));
+    negates =
+        tree_of-append table more d neg.listed ∙ neg.negates ∙ ap negated_form (sym (tree_of-append table more e lt));
   }
 
-  complement_down : (e d : ℕ) → e < length table → d < length table → IsComplement (table ++ more) e d → IsComplement table e d
+  complement_down : (e d : ℕ) → e < length table → d < length table → IsComplement (table ++ more) e d
+      → IsComplement table e d
   complement_down e d lt mt neg =
-      record { listed = mt; negates = sym (tree_of-append table more d mt) ∙ neg.negates ∙ ap negated_form (tree_of-append table more e lt) }
+      record {
+        listed = mt;
+        negates = sym (tree_of-append table more d mt) ∙ neg.negates ∙ ap negated_form (tree_of-append table more e lt);
+      }
 
-  pub alternative_up : (b : Branch) (k : ℕ) (f : Fact ℕ) → BranchListed (length table) b → IsAlternative table b k f → IsAlternative (table ++ more) b k f
+  pub alternative_up : (b : Branch) (k : ℕ) (f : Fact ℕ) → BranchListed (length table) b → IsAlternative table b k f
+      → IsAlternative (table ++ more) b k f
   alternative_up b k f lt (of_union x c k' d parts sh read) = of_union x c k' d parts (shape_up c _ (λ e. cc) sh) read
   alternative_up b k f lt (of_filler y e) = of_filler y e
   alternative_up b k f lt (of_complement y e d neg) = of_complement y e d (complement_up e d lt neg)
@@ -90,13 +103,15 @@ module _ (q : Question) (table more : List Shape) (rows : List Row) (good : IsTa
     held_listed x c h = has_listed (length table) old good.has_top set.known x c h
 
     -- a concept that is no complement of a name is had as before
-    held_down : (x c : ℕ) (s : Shape) → ¬ (not_name a ≡ s) → shape_of (table ++ more) c ≡ s → has new x c ≡ true → has old x c ≡ true
+    held_down : (x c : ℕ) (s : Shape) → ¬ (not_name a ≡ s) → shape_of (table ++ more) c ≡ s → has new x c ≡ true
+        → has old x c ≡ true
     held_down x c s ne sh h = elim (has_cases q.first q.at sub n gs set.stays x c h) [
       | inl before ↦ before
       | inr root ↦ absurd (ne (sym shape_n ∙ ap (shape_of (table ++ more)) root.1 ∙ sh))
     ]
 
-    pub down : (x c : ℕ) (s : Shape) → ¬ (not_name a ≡ s) → shape_of (table ++ more) c ≡ s → has new x c ≡ true → (has old x c ≡ true) × (shape_of table c ≡ s)
+    pub down : (x c : ℕ) (s : Shape) → ¬ (not_name a ≡ s) → shape_of (table ++ more) c ≡ s → has new x c ≡ true
+        → (has old x c ≡ true) × (shape_of table c ≡ s)
     down x c s ne sh h = let before = held_down x c s ne sh h in (before, shape_down c s (held_listed x c before) sh)
 
     pub up : (x c : ℕ) → has old x c ≡ true → has new x c ≡ true
@@ -109,34 +124,42 @@ module _ (q : Question) (table more : List Shape) (rows : List Row) (good : IsTa
     out_down : (x c : ℕ) → has new x c ≡ false → has old x c ≡ false
     out_down x c out = elim (cases_Bool (has old x c)) [ inr f ↦ f | inl held ↦ (let k = up x c held in cc) ]
 
-    filled : (x s e : ℕ) → filled_successors q.first q.theory.below new x s e ≡ filled_successors q.first q.theory.below old x s e
+    filled : (x s e : ℕ)
+        → filled_successors q.first q.theory.below new x s e ≡ filled_successors q.first q.theory.below old x s e
     filled x s e = filled_same q.first q.at sub n gs set.stays set.ends q.theory.below x s e
 
     -- ---- rows
 
-    same_name : (x : ℕ) (t : Concept) → has_name (long q table more rows) new x t ≡ has_name (short q table more rows) old x t
+    same_name : (x : ℕ) (t : Concept)
+        → has_name (long q table more rows) new x t ≡ has_name (short q table more rows) old x t
     same_name x (name b) =
-        label_alike q.first q.at sub n gs set.stays (λ c. is_named b (shape_of (table ++ more) c)) (λ c. is_named b (shape_of table c)) (length table) x
-        (ap (is_named b) shape_n) (ap (is_named b) good.begins_with_top) good.has_top (λ c lt. ap (is_named b) (same_shape c lt)) set.known
+        label_alike q.first q.at sub n gs set.stays (λ c. is_named b (shape_of (table ++ more) c))
+        (λ c. is_named b (shape_of table c)) (length table) x
+        (ap (is_named b) shape_n) (ap (is_named b) good.begins_with_top) good.has_top
+        (λ c lt. ap (is_named b) (same_shape c lt)) set.known
     same_name x _ = refl
 
-    same_names : (x : ℕ) (positions : List ℕ) (p : Option Part) → has_names (long q table more rows) new x positions p ≡ has_names (short q table more rows) old x positions p
+    same_names : (x : ℕ) (positions : List ℕ) (p : Option Part)
+        → has_names (long q table more rows) new x positions p ≡ has_names (short q table more rows) old x positions p
     same_names x positions (Some (inclusion cs d)) = λ i. list_all (λ k. same_name x (conjunct_at cs k) i) positions
     same_names x positions (Some (range r d)) = refl
     same_names x positions None = refl
 
-    same_trigger : (x : ℕ) (p : Option Part) (t : Trigger) → is_triggered (long q table more rows) new x p t ≡ is_triggered (short q table more rows) old x p t
+    same_trigger : (x : ℕ) (p : Option Part) (t : Trigger)
+        → is_triggered (long q table more rows) new x p t ≡ is_triggered (short q table more rows) old x p t
     same_trigger x p always = refl
     same_trigger x p (names positions) = same_names x positions p
     same_trigger x p (edge s) = refl
     same_trigger x p (end_of s) = refl
 
-    pub same_use : (x : ℕ) (row : Row) → is_used_at (long q table more rows) new row x ≡ is_used_at (short q table more rows) old row x
+    pub same_use : (x : ℕ) (row : Row)
+        → is_used_at (long q table more rows) new row x ≡ is_used_at (short q table more rows) old row x
     same_use x row = same_trigger x (part_at q.theory row.axiom_number row.part_number) row.trigger
 
     -- ---- clashes
 
-    pub plain_down : IsPlainClash q.first q.theory.below (table ++ more) new → IsPlainClash q.first q.theory.below table old
+    pub plain_down : IsPlainClash q.first q.theory.below (table ++ more) new
+        → IsPlainClash q.first q.theory.below table old
     plain_down (plain_bottom x c lt h sh) = let t = down x c bottom (λ k. cc) sh h in plain_bottom x c lt t.0 t.1
     plain_down (plain_names x c d b lt h sh g th) =
         let t = down x c (name_shape b) (λ k. cc) sh h in
@@ -145,23 +168,28 @@ module _ (q : Question) (table more : List Shape) (rows : List Row) (good : IsTa
           | inr root ↦
               let e : not_name a ≡ not_name b = sym shape_n ∙ ap (shape_of (table ++ more)) root.1 ∙ th in
               let same : a ≡ b = cc in
-              absurd (set.lacks_class c (subst (λ (y : ℕ). has old y c ≡ true) (set.alone x root.0) t.0) (t.1 ∙ ap name_shape (sym same)))
+              absurd (set.lacks_class c (subst (λ (y : ℕ). has old y c ≡ true) (set.alone x root.0) t.0)
+              (t.1 ∙ ap name_shape (sym same)))
         ]
     plain_down (plain_most x c m s e lt h sh many apart) =
         let t = down x c (at_most m s e) (λ k. cc) sh h in
-        plain_most x c m s e lt t.0 t.1 (subst (λ (ys : List ℕ). m < length ys) (filled x s e) many) (subst (λ (ys : List ℕ). all_apart old ys ≡ true) (filled x s e) apart)
+        plain_most x c m s e lt t.0 t.1 (subst (λ (ys : List ℕ). m < length ys) (filled x s e) many)
+        (subst (λ (ys : List ℕ). all_apart old ys ≡ true) (filled x s e) apart)
     plain_down (plain_differ y z lt mt apart same) = plain_differ y z lt mt apart same
 
     pub clash_up : IsClash q.first q.theory.below table old → IsClash q.first q.theory.below (table ++ more) new
     clash_up (of_bottom x c lt h sh) = of_bottom x c lt (up x c h) (shape_up c _ (λ k. cc) sh)
-    clash_up (of_names x c d b lt h sh g th) = of_names x c d b lt (up x c h) (shape_up c _ (λ k. cc) sh) (up x d g) (shape_up d _ (λ k. cc) th)
+    clash_up (of_names x c d b lt h sh g th) =
+        of_names x c d b lt (up x c h) (shape_up c _ (λ k. cc) sh) (up x d g) (shape_up d _ (λ k. cc) th)
     clash_up (of_most x c m s e ys lt h sh len all apart) =
-        of_most x c m s e ys lt (up x c h) (shape_up c _ (λ k. cc) sh) len (run_same q.first q.at sub n gs set.stays set.ends q.theory.below x s e ys ∙ all) apart
+        of_most x c m s e ys lt (up x c h) (shape_up c _ (λ k. cc) sh) len
+        (run_same q.first q.at sub n gs set.stays set.ends q.theory.below x s e ys ∙ all) apart
     clash_up (of_differ y z lt mt apart same) = of_differ y z lt mt apart same
 
     -- ---- Add
 
-    carried_up : (x y c s t e : ℕ) → IsCarried (short q table more rows) old x y c s t e → IsCarried (long q table more rows) new x y c s t e
+    carried_up : (x y c s t e : ℕ) → IsCarried (short q table more rows) old x y c s t e
+        → IsCarried (long q table more rows) new x y c s t e
     carried_up x y c s t e h = record {
       begin_is_node = h.begin_is_node;
       end_is_node = h.end_is_node;
@@ -172,7 +200,8 @@ module _ (q : Question) (table more : List Shape) (rows : List Row) (good : IsTa
       edge = h.edge;
     }
 
-    pub carried_down : (x y c s t e : ℕ) → IsCarried (long q table more rows) new x y c s t e → IsCarried (short q table more rows) old x y c s t e
+    pub carried_down : (x y c s t e : ℕ) → IsCarried (long q table more rows) new x y c s t e
+        → IsCarried (short q table more rows) old x y c s t e
     carried_down x y c s t e h =
         let b = down x c (all_of s e) (λ k. cc) h.shape h.holds in
         record {
@@ -187,27 +216,46 @@ module _ (q : Question) (table more : List Shape) (rows : List Row) (good : IsTa
 
     pub adds_up : (x d : ℕ) → Adds (short q table more rows) old x d → Adds (long q table more rows) new x d
     adds_up x d (by_and x' c d' parts lt h sh m) = by_and x c d parts lt (up x c h) (shape_up c _ (λ k. cc) sh) m
-    adds_up x d (by_all x' y c s e lt mt h sh leads) = by_all x' x c s d lt mt (up x' c h) (shape_up c _ (λ k. cc) sh) leads
-    adds_up x d (by_carry x' y c s t e d' carried sh) = by_carry x' x c s t e d (carried_up x' x c s t e carried) (shape_up d _ (λ k. cc) sh)
+    adds_up x d (by_all x' y c s e lt mt h sh leads) =
+        by_all x' x c s d lt mt (up x' c h) (shape_up c _ (λ k. cc) sh) leads
+    adds_up x d (by_carry x' y c s t e d' carried sh) =
+        by_carry x' x c s t e d (carried_up x' x c s t e carried) (shape_up d _ (λ k. cc) sh)
     adds_up x d (by_row x' row lt m used) = by_row x row lt m (same_use x row ∙ used)
 
     -- ---- Generate
 
     open_up : (x : ℕ) → IsOpen (short q table more rows) old x → IsOpen (long q table more rows) new x
-    open_up x h = record { is_node = h.is_node; is_rep = h.is_rep; is_clear = block_same q.first q.at sub n gs set.stays set.is_first set.alone set.none x ∙ h.is_clear }
+    open_up x h = record {
+      is_node = h.is_node;
+      is_rep = h.is_rep;
+      is_clear = block_same q.first q.at sub n gs set.stays set.is_first set.alone set.none x ∙ h.is_clear;
+    }
 
     open_down : (x : ℕ) → IsOpen (long q table more rows) new x → IsOpen (short q table more rows) old x
-    open_down x h = record { is_node = h.is_node; is_rep = h.is_rep; is_clear = sym (block_same q.first q.at sub n gs set.stays set.is_first set.alone set.none x) ∙ h.is_clear }
+    open_down x h = record {
+      is_node = h.is_node;
+      is_rep = h.is_rep;
+      is_clear = sym (block_same q.first q.at sub n gs set.stays set.is_first set.alone set.none x) ∙ h.is_clear;
+    }
 
-    same_run : (x s e m y : ℕ) → is_run (long q table more rows) new x s e m y ≡ is_run (short q table more rows) old x s e m y
-    same_run x s e m y = ap (λ (b : Bool). b && all_apart old (range_with_len y m)) (run_same q.first q.at sub n gs set.stays set.ends q.theory.below x s e (range_with_len y m))
+    same_run : (x s e m y : ℕ)
+        → is_run (long q table more rows) new x s e m y ≡ is_run (short q table more rows) old x s e m y
+    same_run x s e m y =
+        ap (λ (b : Bool). b && all_apart old (range_with_len y m))
+        (run_same q.first q.at sub n gs set.stays set.ends q.theory.below x s e (range_with_len y m))
 
-    pub generates_up : (fs : List (Fact ℕ)) → Generates (short q table more rows) old fs → Generates (long q table more rows) new fs
-    generates_up fs (by_some x c s e at h sh none) = by_some x c s e (open_up x at) (up x c h) (shape_up c _ (λ k. cc) sh) (filled x s e ∙ none)
-    generates_up fs (by_least x c m s e at h sh none) = by_least x c m s e (open_up x at) (up x c h) (shape_up c _ (λ k. cc) sh) (λ y. same_run x s e m y ∙ none y)
+    pub generates_up : (fs : List (Fact ℕ)) → Generates (short q table more rows) old fs
+        → Generates (long q table more rows) new fs
+    generates_up fs (by_some x c s e at h sh none) =
+        by_some x c s e (open_up x at) (up x c h) (shape_up c _ (λ k. cc) sh) (filled x s e ∙ none)
+    generates_up fs (by_least x c m s e at h sh none) =
+        by_least x c m s e (open_up x at) (up x c h) (shape_up c _ (λ k. cc) sh) (λ y. same_run x s e m y ∙ none y)
 
-    pub generates_down : (fs : List (Fact ℕ)) → Generates (long q table more rows) new fs → Generates (short q table more rows) old fs
-    generates_down fs (by_some x c s e at h sh none) = let t = down x c (some_of s e) (λ k. cc) sh h in by_some x c s e (open_down x at) t.0 t.1 (sym (filled x s e) ∙ none)
+    pub generates_down : (fs : List (Fact ℕ)) → Generates (long q table more rows) new fs
+        → Generates (short q table more rows) old fs
+    generates_down fs (by_some x c s e at h sh none) =
+        let t = down x c (some_of s e) (λ k. cc) sh h in
+        by_some x c s e (open_down x at) t.0 t.1 (sym (filled x s e) ∙ none)
     generates_down fs (by_least x c m s e at h sh none) =
         let t = down x c (at_least m s e) (λ k. cc) sh h in
         by_least x c m s e (open_down x at) t.0 t.1 (λ y. sym (same_run x s e m y) ∙ none y)
@@ -215,25 +263,36 @@ module _ (q : Question) (table more : List Shape) (rows : List Row) (good : IsTa
     -- ---- Choose
 
     -- no part of a union at the node in question is the complement
-    part_out : (x c : ℕ) (parts : List ℕ) → has old x c ≡ true → shape_of table c ≡ union parts → All (λ d. has old x d ≡ false) parts → All (λ d. has new x d ≡ false) parts
+    part_out : (x c : ℕ) (parts : List ℕ) → has old x c ≡ true → shape_of table c ≡ union parts
+        → All (λ d. has old x d ≡ false) parts → All (λ d. has new x d ≡ false) parts
     part_out x c parts h sh none k d lt =
-        out_up x _ (λ root. set.no_part c parts (subst (λ (y : ℕ). has old y c ≡ true) (set.alone x root.0) h) sh (k, lt, get_or_default parts k n d lt ∙ sym root.1)) (none k d lt)
+        out_up x _
+        (λ root. set.no_part c parts (subst (λ (y : ℕ). has old y c ≡ true) (set.alone x root.0) h) sh
+        (k, lt, get_or_default parts k n d lt ∙ sym root.1))
+        (none k d lt)
 
     pub may_up : (b : Branch) → MayBranch (short q table more rows) old b → MayBranch (long q table more rows) new b
-    may_up b (on_union x c parts lt h sh none) = on_union x c parts lt (up x c h) (shape_up c _ (λ k. cc) sh) (part_out x c parts h sh none)
+    may_up b (on_union x c parts lt h sh none) =
+        on_union x c parts lt (up x c h) (shape_up c _ (λ k. cc) sh) (part_out x c parts h sh none)
     may_up b (on_filler x c m s e y lt h sh next none out) =
-        let other : (d : ℕ) → ¬ ((rep old y ≡ q.at) × (n ≡ d)) = λ d root. set.ends (λ r. q.theory.below r s) x y (successor_has_edge old (λ r. q.theory.below r s) x y next) root.0 in
+        let other : (d : ℕ) → ¬ ((rep old y ≡ q.at) × (n ≡ d)) =
+        λ d root. set.ends (λ r. q.theory.below r s) x y (successor_has_edge old (λ r. q.theory.below r s) x y next)
+        root.0 in
         on_filler x c m s e y lt (up x c h) (shape_up c _ (λ k. cc) sh) next (out_up y e (other e) none)
         (λ d neg. elim (cases_Bool (has new y d)) [
           | inr f ↦ f
           | inl held ↦
               let before = sym (has_other q.first q.at sub n gs set.stays y d (other d)) ∙ held in
-              let k = out d (complement_down e d (most_listed (short q table more rows) good c m s e sh) (held_listed y d before) neg) in
+              let k =
+              out d (complement_down e d (most_listed (short q table more rows) good c m s e sh)
+              (held_listed y d before) neg) in
               cc
         ])
     may_up b (on_pair x c m s e y z lt h sh many cy cz ne apart) =
-        on_pair x c m s e y z lt (up x c h) (shape_up c _ (λ k. cc) sh) (subst (λ (ys : List ℕ). m < length ys) (sym (filled x s e)) many)
-        (subst (λ (ys : List ℕ). Contains ys y) (sym (filled x s e)) cy) (subst (λ (ys : List ℕ). Contains ys z) (sym (filled x s e)) cz) ne apart
+        on_pair x c m s e y z lt (up x c h) (shape_up c _ (λ k. cc) sh)
+        (subst (λ (ys : List ℕ). m < length ys) (sym (filled x s e)) many)
+        (subst (λ (ys : List ℕ). Contains ys y) (sym (filled x s e)) cy)
+        (subst (λ (ys : List ℕ). Contains ys z) (sym (filled x s e)) cz) ne apart
 
     pub may_down : (b : Branch) → MayBranch (long q table more rows) new b → MayBranch (short q table more rows) old b
     may_down b (on_union x c parts lt h sh none) =
@@ -246,7 +305,8 @@ module _ (q : Question) (table more : List Shape) (rows : List Row) (good : IsTa
     may_down b (on_pair x c m s e y z lt h sh many cy cz ne apart) =
         let t = down x c (at_most m s e) (λ k. cc) sh h in
         on_pair x c m s e y z lt t.0 t.1 (subst (λ (ys : List ℕ). m < length ys) (filled x s e) many)
-        (subst (λ (ys : List ℕ). Contains ys y) (filled x s e) cy) (subst (λ (ys : List ℕ). Contains ys z) (filled x s e) cz) ne apart
+        (subst (λ (ys : List ℕ). Contains ys y) (filled x s e) cy)
+        (subst (λ (ys : List ℕ). Contains ys z) (filled x s e) cz) ne apart
 
     -- ---- given facts
 

@@ -1,5 +1,6 @@
 -- The node in question is no successor, and joined to no other node, where no given fact speaks of it.
-use Rattle.std.proofs.Common.{◌≡◌, ℕ, ◌<◌, ◌⊎◌, ◌||◌, min, eqb, cond, Bool, true, List, [], ◌∷◌, ◌++◌, refl, ap, ◌∙◌, sym, arith, inl, inr}
+use Rattle.std.proofs.Common.{◌≡◌, ℕ, ◌<◌, ◌⊎◌, ◌||◌, min, eqb, cond, Bool, true, List, [], ◌∷◌, ◌++◌, refl, ap, ◌∙◌}
+use Rattle.std.proofs.Common.{sym, arith, inl, inr}
 use Rattle.std.proofs.lemmas.Bool.{cases_Bool, ne_eqb}
 use Rattle.calculus_specs.specs.declared.facts.Fact.{Fact}
 use Rattle.calculus_specs.specs.declared.facts.Fact.TheVariants.{Has, Edge, Apart, Same}
@@ -38,37 +39,48 @@ merged_stays b c at nb nc =
     ap (λ (t : Bool). cond (t || eqb at c) (min b c) at) (ne_eqb at b (λ e. nb (sym e)))
     ∙ ap (λ (t : Bool). cond t (min b c) at) (ne_eqb at c (λ e. nc (sym e)))
 
-module _ (w : SearchContext) (at : ℕ) (is_first : at < w.first) (unnamed : (f : Fact ℕ) → IsGiven w f → Avoids at f) where
+module _ (w : SearchContext) (at : ℕ) (is_first : at < w.first)
+    (unnamed : (f : Fact ℕ) → IsGiven w f → Avoids at f) where
   pub record IsRooted (fs : List (Fact ℕ)) : Type 0 where
     pub tree : IsTreeShaped w.first (IsGiven w) (given_on_first w) fs
     pub stays : rep fs at ≡ at
     pub alone : (x : ℕ) → rep fs x ≡ at → x ≡ at
 
   rooted_none : IsRooted []
-  rooted_none = record { tree = tree_shaped_none w.first (IsGiven w) (given_on_first w); stays = refl; alone = λ x e. e }
+  rooted_none =
+      record { tree = tree_shaped_none w.first (IsGiven w) (given_on_first w); stays = refl; alone = λ x e. e }
 
   -- no edge ends at the node
-  pub end_is_other : (fs : List (Fact ℕ)) → IsRooted fs → (roles : ℕ → Bool) (x y : ℕ) → has_edge fs roles x y ≡ true → ¬ (rep fs y ≡ at)
+  pub end_is_other : (fs : List (Fact ℕ)) → IsRooted fs → (roles : ℕ → Bool) (x y : ℕ) → has_edge fs roles x y ≡ true
+      → ¬ (rep fs y ≡ at)
   end_is_other fs g roles x y h e = elim (g.tree.leads (rep fs x) (rep fs y) (any_edge fs roles x y h)) [
-    | inl linked ↦ (unnamed (Edge linked.role linked.begin linked.end) linked.is_given).1 (g.alone linked.end (linked.at_end ∙ e))
+    | inl linked ↦
+        (unnamed (Edge linked.role linked.begin linked.end) linked.is_given).1 (g.alone linked.end (linked.at_end ∙ e))
     | inr up ↦ absurd (omega (arith, up.not_first, e, is_first))
   ]
 
   -- nodes that are joined are others
-  joined_are_others : (fs : List (Fact ℕ)) (y z : ℕ) → AreSiblings fs y z ⊎ IsGiven w (Same y z) → IsRooted fs → ¬ (rep fs y ≡ at) × ¬ (rep fs z ≡ at)
-  joined_are_others fs y z (inl s) g =
-      (end_is_other fs g any_role s.above y (successor_has_edge fs any_role s.above y s.first), end_is_other fs g any_role s.above z (successor_has_edge fs any_role s.above z s.second))
-  joined_are_others fs y z (inr given) g = let a = unnamed (Same y z) given in (λ e. a.0 (g.alone y e), λ e. a.1 (g.alone z e))
+  joined_are_others : (fs : List (Fact ℕ)) (y z : ℕ) → AreSiblings fs y z ⊎ IsGiven w (Same y z) → IsRooted fs
+      → ¬ (rep fs y ≡ at) × ¬ (rep fs z ≡ at)
+  joined_are_others fs y z (inl s) g = (
+    end_is_other fs g any_role s.above y (successor_has_edge fs any_role s.above y s.first),
+    end_is_other fs g any_role s.above z (successor_has_edge fs any_role s.above z s.second),
+  )
+  joined_are_others fs y z (inr given) g =
+      let a = unnamed (Same y z) given in (λ e. a.0 (g.alone y e), λ e. a.1 (g.alone z e))
 
-  stays_after : (fs : List (Fact ℕ)) (f : Fact ℕ) → Supports w.first (IsGiven w) fs (Says f) → IsRooted fs → rep (fs ++ f ∷ []) at ≡ at
+  stays_after : (fs : List (Fact ℕ)) (f : Fact ℕ) → Supports w.first (IsGiven w) fs (Says f) → IsRooted fs
+      → rep (fs ++ f ∷ []) at ≡ at
   stays_after fs (Has v c) s g = rep-snoc fs (Has v c) at ∙ g.stays
   stays_after fs (Edge r v u) s g = rep-snoc fs (Edge r v u) at ∙ g.stays
   stays_after fs (Apart v u) s g = rep-snoc fs (Apart v u) at ∙ g.stays
   stays_after fs (Same v u) s g =
       let o = joined_are_others fs v u s g in
-      rep-snoc fs (Same v u) at ∙ ap (merged (rep fs v) (rep fs u)) g.stays ∙ merged_stays (rep fs v) (rep fs u) at o.0 o.1
+      rep-snoc fs (Same v u) at ∙ ap (merged (rep fs v) (rep fs u)) g.stays
+      ∙ merged_stays (rep fs v) (rep fs u) at o.0 o.1
 
-  alone_after : (fs : List (Fact ℕ)) (f : Fact ℕ) → Supports w.first (IsGiven w) fs (Says f) → IsRooted fs → (x : ℕ) → rep (fs ++ f ∷ []) x ≡ at → x ≡ at
+  alone_after : (fs : List (Fact ℕ)) (f : Fact ℕ) → Supports w.first (IsGiven w) fs (Says f) → IsRooted fs → (x : ℕ)
+      → rep (fs ++ f ∷ []) x ≡ at → x ≡ at
   alone_after fs (Has v c) s g x e = g.alone x (sym (rep-snoc fs (Has v c) x) ∙ e)
   alone_after fs (Edge r v u) s g x e = g.alone x (sym (rep-snoc fs (Edge r v u) x) ∙ e)
   alone_after fs (Apart v u) s g x e = g.alone x (sym (rep-snoc fs (Apart v u) x) ∙ e)
@@ -76,7 +88,8 @@ module _ (w : SearchContext) (at : ℕ) (is_first : at < w.first) (unnamed : (f 
       let o = joined_are_others fs v u s g in
       g.alone x (merged_root (rep fs v) (rep fs u) (rep fs x) at o.0 o.1 (sym (rep-snoc fs (Same v u) x) ∙ e))
 
-  rooted_after : (fs : List (Fact ℕ)) (f : Fact ℕ) → Supports w.first (IsGiven w) fs (Says f) → IsRooted fs → IsRooted (fs ++ f ∷ [])
+  rooted_after : (fs : List (Fact ℕ)) (f : Fact ℕ) → Supports w.first (IsGiven w) fs (Says f) → IsRooted fs
+      → IsRooted (fs ++ f ∷ [])
   rooted_after fs f s g = record {
     tree = tree_shaped_after w.first (IsGiven w) (given_on_first w) fs f s g.tree;
     stays = stays_after fs f s g;

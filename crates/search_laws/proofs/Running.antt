@@ -1,5 +1,6 @@
 -- A whole run.
-use Rattle.std.proofs.Common.{◌≡◌, ℕ, suc, ◌<◌, ◌&&◌, eqb, ltb, Bool, true, false, List, [], ◌∷◌, ◌++◌, length, refl, ap, ◌∙◌, sym, subst, arith, inl, inr, eq-eqb}
+use Rattle.std.proofs.Common.{◌≡◌, ℕ, suc, ◌<◌, ◌&&◌, eqb, ltb, Bool, true, false, List, [], ◌∷◌, ◌++◌, length, refl}
+use Rattle.std.proofs.Common.{ap, ◌∙◌, sym, subst, arith, inl, inr, eq-eqb}
 use Rattle.std.specs.List.{list_any, All}
 use Rattle.std.proofs.lemmas.List.{get_or_append_left}
 use Rattle.std.proofs.lemmas.Bool.{cases_Bool, or_cases, or_left, or_right, and_parts, and_from, eqb-true, ltb-true}
@@ -28,42 +29,58 @@ use Rattle.search_laws.proofs.Stepping.{turned}
 
 -- ---- what was ever in a run
 
-pub run_follows : (q : Question) (table more : List Shape) (rows : List Row) (first trail : List Item) (earlier : List (List Item)) → IsRun (short q table more rows) first (trail ∷ earlier)
+pub run_follows : (q : Question) (table more : List Shape) (rows : List Row) (first trail : List Item)
+    (earlier : List (List Item))
+    → IsRun (short q table more rows) first (trail ∷ earlier)
     → Follows (short q table more rows) first (length earlier) trail
 run_follows q table more rows first trail [] r = r
-run_follows q table more rows first trail (before ∷ earlier) r = (before, run_follows q table more rows first before earlier r.1, r.0)
+run_follows q table more rows first trail (before ∷ earlier) r =
+    (before, run_follows q table more rows first before earlier r.1, r.0)
 
-ever_now : (p : Fact ℕ → Bool) (trail : List Item) (earlier : List (List Item)) → list_any p (facts_of trail) ≡ true → was_ever p (trail ∷ earlier) ≡ true
+ever_now : (p : Fact ℕ → Bool) (trail : List Item) (earlier : List (List Item)) → list_any p (facts_of trail) ≡ true
+    → was_ever p (trail ∷ earlier) ≡ true
 ever_now p trail earlier h = or_left (list_any p (facts_of trail)) (was_ever p earlier) h
 
-pub leaves_out_before : (at : ℕ) (table : List Shape) (a : ℕ) (trail : List Item) (earlier : List (List Item)) → LeavesOut at table (trail ∷ earlier) a → LeavesOut at table earlier a
+pub leaves_out_before : (at : ℕ) (table : List Shape) (a : ℕ) (trail : List Item) (earlier : List (List Item))
+    → LeavesOut at table (trail ∷ earlier) a → LeavesOut at table earlier a
 leaves_out_before at table a trail earlier h = record {
-  class_is_not_there = λ c e. h.class_is_not_there c (or_right (list_any (puts_at at c) (facts_of trail)) (was_ever (puts_at at c) earlier) e);
-  unions_there_lack_complement = λ c d parts e. h.unions_there_lack_complement c d parts (or_right (list_any (puts_at at c) (facts_of trail)) (was_ever (puts_at at c) earlier) e);
-  complement_is_never_put = λ c e. h.complement_is_never_put c (or_right (list_any (puts c) (facts_of trail)) (was_ever (puts c) earlier) e);
+  class_is_not_there =
+      λ c e. h.class_is_not_there c
+      (or_right (list_any (puts_at at c) (facts_of trail)) (was_ever (puts_at at c) earlier) e);
+  unions_there_lack_complement =
+      λ c d parts e. h.unions_there_lack_complement c d parts
+      (or_right (list_any (puts_at at c) (facts_of trail)) (was_ever (puts_at at c) earlier) e);
+  complement_is_never_put =
+      λ c e. h.complement_is_never_put c (or_right (list_any (puts c) (facts_of trail)) (was_ever (puts c) earlier) e);
 }
 
 -- ---- what a node has was put
 
-given_puts : (c : ℕ) (m : ℕ → ℕ) (at : ℕ) (fs : List (Fact ℕ)) → list_any (gives_concept (λ d. eqb d c) m at) fs ≡ true → list_any (puts c) fs ≡ true
+given_puts : (c : ℕ) (m : ℕ → ℕ) (at : ℕ) (fs : List (Fact ℕ)) → list_any (gives_concept (λ d. eqb d c) m at) fs ≡ true
+    → list_any (puts c) fs ≡ true
 given_puts c m at [] h = cc
-given_puts c m at (Has y d ∷ fs) h = elim (or_cases (eqb (m y) at && eqb d c) (list_any (gives_concept (λ e. eqb e c) m at) fs) h) [
-  | inl here ↦ or_left (eqb d c) (list_any (puts c) fs) (and_parts (eqb (m y) at) (eqb d c) here).1
-  | inr later ↦ or_right (eqb d c) (list_any (puts c) fs) (given_puts c m at fs later)
-]
+given_puts c m at (Has y d ∷ fs) h =
+    elim (or_cases (eqb (m y) at && eqb d c) (list_any (gives_concept (λ e. eqb e c) m at) fs) h) [
+      | inl here ↦ or_left (eqb d c) (list_any (puts c) fs) (and_parts (eqb (m y) at) (eqb d c) here).1
+      | inr later ↦ or_right (eqb d c) (list_any (puts c) fs) (given_puts c m at fs later)
+    ]
 given_puts c m at (Edge r y z ∷ fs) h = given_puts c m at fs h
 given_puts c m at (Apart y z ∷ fs) h = given_puts c m at fs h
 given_puts c m at (Same y z ∷ fs) h = given_puts c m at fs h
 
-given_there : (node c : ℕ) (m : ℕ → ℕ) (at : ℕ) → at ≡ node → ((y : ℕ) → m y ≡ node → y ≡ node) → (fs : List (Fact ℕ)) → list_any (gives_concept (λ d. eqb d c) m at) fs ≡ true
+given_there : (node c : ℕ) (m : ℕ → ℕ) (at : ℕ) → at ≡ node → ((y : ℕ) → m y ≡ node → y ≡ node) → (fs : List (Fact ℕ))
+    → list_any (gives_concept (λ d. eqb d c) m at) fs ≡ true
     → list_any (puts_at node c) fs ≡ true
 given_there node c m at there alone [] h = cc
-given_there node c m at there alone (Has y d ∷ fs) h = elim (or_cases (eqb (m y) at && eqb d c) (list_any (gives_concept (λ e. eqb e c) m at) fs) h) [
-  | inl here ↦
-      let t = and_parts (eqb (m y) at) (eqb d c) here in
-      or_left (eqb y node && eqb d c) (list_any (puts_at node c) fs) (and_from (eqb y node) (eqb d c) (eq-eqb y node (alone y (eqb-true (m y) at t.0 ∙ there))) t.1)
-  | inr later ↦ or_right (eqb y node && eqb d c) (list_any (puts_at node c) fs) (given_there node c m at there alone fs later)
-]
+given_there node c m at there alone (Has y d ∷ fs) h =
+    elim (or_cases (eqb (m y) at && eqb d c) (list_any (gives_concept (λ e. eqb e c) m at) fs) h) [
+      | inl here ↦
+          let t = and_parts (eqb (m y) at) (eqb d c) here in
+          or_left (eqb y node && eqb d c) (list_any (puts_at node c) fs)
+          (and_from (eqb y node) (eqb d c) (eq-eqb y node (alone y (eqb-true (m y) at t.0 ∙ there))) t.1)
+      | inr later ↦
+          or_right (eqb y node && eqb d c) (list_any (puts_at node c) fs) (given_there node c m at there alone fs later)
+    ]
 given_there node c m at there alone (Edge r y z ∷ fs) h = given_there node c m at there alone fs h
 given_there node c m at there alone (Apart y z ∷ fs) h = given_there node c m at there alone fs h
 given_there node c m at there alone (Same y z ∷ fs) h = given_there node c m at there alone fs h
@@ -82,16 +99,21 @@ puts_listed bound c (Same y z ∷ fs) h g = puts_listed bound c fs h g
 
 -- ---- the run
 
-module _ (q : Question) (table more : List Shape) (rows : List Row) (good : IsTable table) (fits : IsChoice q.theory table rows) (n a : ℕ) (shape_n : shape_of (table ++ more) n ≡ not_name a)
+module _ (q : Question) (table more : List Shape) (rows : List Row) (good : IsTable table)
+    (fits : IsChoice q.theory table rows) (n a : ℕ) (shape_n : shape_of (table ++ more) n ≡ not_name a)
     (is_first : q.at < q.first) (unnamed : IsUnnamed q) (sub : ℕ) (sub_listed : sub < length table) where
   is_complement : n < length table → shape_of table n ≡ not_name a
   is_complement lt = sym (get_or_append_left table more top n lt) ∙ shape_n
 
-  items_listed : (trail : List Item) (earlier : List (List Item)) → IsRun (short q table more rows) (start q.at sub 0) (trail ∷ earlier) → All (ItemListed (length table)) trail
+  items_listed : (trail : List Item) (earlier : List (List Item))
+      → IsRun (short q table more rows) (start q.at sub 0) (trail ∷ earlier) → All (ItemListed (length table)) trail
   items_listed trail earlier r =
-      follows_listed q table rows good fits (start q.at sub 0) (length earlier) trail (start_listed (length table) q.at sub 0 sub_listed good.has_top) (run_follows q table more rows (start q.at sub 0) trail earlier r)
+      follows_listed q table rows good fits (start q.at sub 0) (length earlier) trail
+      (start_listed (length table) q.at sub 0 sub_listed good.has_top)
+      (run_follows q table more rows (start q.at sub 0) trail earlier r)
 
-  never_put : (trail : List Item) (earlier : List (List Item)) → All (ItemListed (length table)) trail → LeavesOut q.at table (trail ∷ earlier) a → list_any (puts n) (facts_of trail) ≡ false
+  never_put : (trail : List Item) (earlier : List (List Item)) → All (ItemListed (length table)) trail
+      → LeavesOut q.at table (trail ∷ earlier) a → list_any (puts n) (facts_of trail) ≡ false
   never_put trail earlier items h = elim (cases_Bool (list_any (puts n) (facts_of trail))) [
     | inr none ↦ none
     | inl there ↦
@@ -99,7 +121,9 @@ module _ (q : Question) (table more : List Shape) (rows : List Row) (good : IsTa
         absurd (h.complement_is_never_put n (ever_now (puts n) trail earlier there) (is_complement lt))
   ]
 
-  module _ (rest : List Item) (earlier : List (List Item)) (run : IsRun (short q table more rows) (start q.at sub 0) ((start q.at sub 0 ++ rest) ∷ earlier)) (h : LeavesOut q.at table ((start q.at sub 0 ++ rest) ∷ earlier) a) where
+  module _ (rest : List Item) (earlier : List (List Item))
+      (run : IsRun (short q table more rows) (start q.at sub 0) ((start q.at sub 0 ++ rest) ∷ earlier))
+      (h : LeavesOut q.at table ((start q.at sub 0 ++ rest) ∷ earlier) a) where
     abbrev now : List (Fact ℕ)
     now = old_facts q.at sub n (facts_of rest)
 
@@ -114,16 +138,21 @@ module _ (q : Question) (table more : List Shape) (rows : List Row) (good : IsTa
 
     rooted : IsRooted (short q table more rows) q.at is_first avoided now
     rooted = built_rooted (short q table more rows) q.at is_first avoided (start q.at sub 0 ++ rest)
-        (reached_built (short q table more rows) q.at sub 0 (length earlier) (start q.at sub 0 ++ rest) is_first (run_follows q table more rows (start q.at sub 0) (start q.at sub 0 ++ rest) earlier run))
+        (reached_built (short q table more rows) q.at sub 0 (length earlier) (start q.at sub 0 ++ rest) is_first
+        (run_follows q table more rows (start q.at sub 0) (start q.at sub 0 ++ rest) earlier run))
 
     not_top : (c : ℕ) (s : Shape) → ¬ (top ≡ s) → shape_of table c ≡ s → ¬ (c ≡ 0)
     not_top c s ne sh e = ne (sym good.begins_with_top ∙ ap (shape_of table) (sym e) ∙ sh)
 
-    put_there : (c : ℕ) → ¬ (c ≡ 0) → has now q.at c ≡ true → was_ever (puts_at q.at c) ((start q.at sub 0 ++ rest) ∷ earlier) ≡ true
-    put_there c other held = elim (or_cases (eqb c 0) (list_any (gives_concept (λ d. eqb d c) (rep now) (rep now q.at)) now) held) [
-      | inl z ↦ absurd (other (eqb-true c 0 z))
-      | inr given ↦ ever_now (puts_at q.at c) (start q.at sub 0 ++ rest) earlier (given_there q.at c (rep now) (rep now q.at) rooted.stays rooted.alone now given)
-    ]
+    put_there : (c : ℕ) → ¬ (c ≡ 0) → has now q.at c ≡ true
+        → was_ever (puts_at q.at c) ((start q.at sub 0 ++ rest) ∷ earlier) ≡ true
+    put_there c other held =
+        elim (or_cases (eqb c 0) (list_any (gives_concept (λ d. eqb d c) (rep now) (rep now q.at)) now) held) [
+          | inl z ↦ absurd (other (eqb-true c 0 z))
+          | inr given ↦
+              ever_now (puts_at q.at c) (start q.at sub 0 ++ rest) earlier
+              (given_there q.at c (rep now) (rep now q.at) rooted.stays rooted.alone now given)
+        ]
 
     none_has : (x : ℕ) → has now x n ≡ false
     none_has x = elim (cases_Bool (has now x n)) [
@@ -132,7 +161,9 @@ module _ (q : Question) (table more : List Shape) (rows : List Row) (good : IsTa
           let lt = has_listed (length table) now good.has_top known x n held in
           elim (or_cases (eqb n 0) (list_any (gives_concept (λ d. eqb d n) (rep now) (rep now x)) now) held) [
             | inl z ↦ absurd (not_top n (not_name a) (λ k. cc) (is_complement lt) (eqb-true n 0 z))
-            | inr given ↦ (let put = given_puts n (rep now) (rep now x) now given in let none = never_put (start q.at sub 0 ++ rest) earlier items h in cc)
+            | inr given ↦
+                (let put = given_puts n (rep now) (rep now x) now given in
+                let none = never_put (start q.at sub 0 ++ rest) earlier items h in cc)
           ]
     ]
 
@@ -156,19 +187,27 @@ module _ (q : Question) (table more : List Shape) (rows : List Row) (good : IsTa
     pub splits : trail ≡ start q.at sub 0 ++ rest
     pub follows : Follows (long q table more rows) (start q.at sub n) k (start q.at sub n ++ rest)
 
-  one_more : (k : ℕ) (before trail : List Item) (earlier : List (List Item)) → IsFollowed k before → IsRun (short q table more rows) (start q.at sub 0) (trail ∷ before ∷ earlier)
+  one_more : (k : ℕ) (before trail : List Item) (earlier : List (List Item)) → IsFollowed k before
+      → IsRun (short q table more rows) (start q.at sub 0) (trail ∷ before ∷ earlier)
       → LeavesOut q.at table (trail ∷ before ∷ earlier) a → IsFollowed (suc k) trail
   one_more k before trail earlier f run h =
-      let again : IsRun (short q table more rows) (start q.at sub 0) ((start q.at sub 0 ++ f.rest) ∷ earlier) = subst (λ (is : List Item). IsRun (short q table more rows) (start q.at sub 0) (is ∷ earlier)) f.splits run.1 in
-      let out = subst (λ (is : List Item). LeavesOut q.at table (is ∷ earlier) a) f.splits (leaves_out_before q.at table a trail (before ∷ earlier) h) in
+      let again : IsRun (short q table more rows) (start q.at sub 0) ((start q.at sub 0 ++ f.rest) ∷ earlier) =
+      subst (λ (is : List Item). IsRun (short q table more rows) (start q.at sub 0) (is ∷ earlier)) f.splits run.1 in
+      let out =
+      subst (λ (is : List Item). LeavesOut q.at table (is ∷ earlier) a) f.splits
+      (leaves_out_before q.at table a trail (before ∷ earlier) h) in
       let set = setting f.rest earlier again out in
       let legal = subst (λ (is : List Item). IsLegal (short q table more rows) is trail) f.splits run.0 in
-      let t = turned q table more rows good n a shape_n unnamed sub f.rest set trail (items_listed (start q.at sub 0 ++ f.rest) earlier again) fits
+      let t =
+      turned q table more rows good n a shape_n unnamed sub f.rest set trail
+      (items_listed (start q.at sub 0 ++ f.rest) earlier again) fits
       (never_put trail (before ∷ earlier) (items_listed trail (before ∷ earlier) run) h) legal in
       record { rest = t.further; splits = t.splits; follows = (start q.at sub n ++ f.rest, f.follows, t.is_legal) }
 
-  pub followed : (trail : List Item) (earlier : List (List Item)) → IsRun (short q table more rows) (start q.at sub 0) (trail ∷ earlier) → LeavesOut q.at table (trail ∷ earlier) a
+  pub followed : (trail : List Item) (earlier : List (List Item))
+      → IsRun (short q table more rows) (start q.at sub 0) (trail ∷ earlier) → LeavesOut q.at table (trail ∷ earlier) a
       → IsFollowed (length earlier) trail
   followed trail [] run h = record { rest = []; splits = run; follows = refl }
   followed trail (before ∷ earlier) run h =
-      one_more (length earlier) before trail earlier (followed before earlier run.1 (leaves_out_before q.at table a trail (before ∷ earlier) h)) run h
+      one_more (length earlier) before trail earlier
+      (followed before earlier run.1 (leaves_out_before q.at table a trail (before ∷ earlier) h)) run h

@@ -22,9 +22,13 @@ pub few_successors_fit : FewSuccessorsFit
 few_successors_fit = few_fit
 
 -- an interpretation that meets a theory of named axioms, and the facts that they give, meets these
-pub axioms_met : (i : Interpretation) (classes roles n : ℕ) (axioms : List Numbered) (ks : List ℕ) → all_use_listed classes roles n axioms ≡ true
-    → MeetsRoles (theory_of axioms ks) i → MeetsParts (theory_of axioms ks) i → MeetsFacts (fact_of_axiom n axioms ks) i → meets_all i (named_axioms axioms ks) ≡ true
-axioms_met i classes roles n axioms ks listed roles_met parts facts = meets_named i classes roles n axioms ks listed (record { upward = roles_met.upward; onward = roles_met.onward; met = parts }) facts
+pub axioms_met : (i : Interpretation) (classes roles n : ℕ) (axioms : List Numbered) (ks : List ℕ)
+    → all_use_listed classes roles n axioms ≡ true
+    → MeetsRoles (theory_of axioms ks) i → MeetsParts (theory_of axioms ks) i → MeetsFacts (fact_of_axiom n axioms ks) i
+    → meets_all i (named_axioms axioms ks) ≡ true
+axioms_met i classes roles n axioms ks listed roles_met parts facts =
+    meets_named i classes roles n axioms ks listed
+    (record { upward = roles_met.upward; onward = roles_met.onward; met = parts }) facts
 
 -- a query that each element is a counter-example to
 abbrev whether_none : Query
@@ -33,7 +37,8 @@ whether_none = record { sub = top; sup = bottom; on = Any }
 pub theories_are_their_axioms : TheoriesAreTheirAxioms
 theories_are_their_axioms i classes roles n axioms ks listed = (
   λ all.
-      let asked : MeetsQuestion i n (question_of n axioms ks whether_none) 0 = question_met i n axioms ks whether_none all 0 refl in
+      let asked : MeetsQuestion i n (question_of n axioms ks whether_none) 0 =
+      question_met i n axioms ks whether_none all 0 refl in
       let m : MeetsTheory i (theory_of axioms ks) = asked.theory_met in
       let roles_met : MeetsRoles (theory_of axioms ks) i = record { upward = m.upward; onward = m.onward } in
       let parts : MeetsParts (theory_of axioms ks) i = m.met in

@@ -1,5 +1,6 @@
 -- What facts say where their second one gives the node in question another concept than top.
-use Rattle.std.proofs.Common.{◌≡◌, ℕ, zero, suc, ◌+◌, ◌<◌, ◌&&◌, ◌||◌, ◌⊎◌, eqb, ltb, cond, Bool, true, false, List, [], ◌∷◌, ◌++◌, refl, ap, ◌∙◌, sym, subst, arith, inl, inr, eq-eqb, lt-ltb}
+use Rattle.std.proofs.Common.{◌≡◌, ℕ, zero, suc, ◌+◌, ◌<◌, ◌&&◌, ◌||◌, ◌⊎◌, eqb, ltb, cond, Bool, true, false, List, []}
+use Rattle.std.proofs.Common.{◌∷◌, ◌++◌, refl, ap, ◌∙◌, sym, subst, arith, inl, inr, eq-eqb, lt-ltb}
 use Rattle.std.specs.Prelude.{slice_index_or}
 use Rattle.std.specs.List.{list_any, list_all}
 use Rattle.std.proofs.lemmas.Bool.{eqb-true, ltb-true, or_cases, cases_Bool, and_parts, or_left, ne_eqb}
@@ -12,14 +13,16 @@ use Rattle.calculus_specs.specs.Reading.{are_listed}
 use Rattle.calculus_specs.proofs.State.{eqb-comm, any-label}
 use Rattle.tableau_specs.specs.declared.Block.{Block}
 use Rattle.tableau_specs.specs.declared.Block.TheVariants.{Clear, By, Under}
-use Rattle.tableau_specs.specs.Blocked.{is_clear, is_parent_clear, may_block, blocked_from, block_at, blocks_to, block_of}
+use Rattle.tableau_specs.specs.Blocked.{is_clear, is_parent_clear, may_block, blocked_from, block_at, blocks_to}
+use Rattle.tableau_specs.specs.Blocked.{block_of}
 use Rattle.tableau_specs.specs.Clash.{is_filled_successor, filled_successors}
 use Rattle.tableau_specs.proofs.After.{IsAlike, filled_alike}
 use Rattle.tableau_specs.proofs.PlainClash.{successor_has_edge}
 
 -- ---- tests
 
-moved : (z t a s m r : Bool) → (z ≡ false → t ≡ false) → (z || ((a && s) || ((a && m) || r))) ≡ ((z || ((a && s) || ((a && t) || r))) || (a && m))
+moved : (z t a s m r : Bool) → (z ≡ false → t ≡ false)
+    → (z || ((a && s) || ((a && m) || r))) ≡ ((z || ((a && s) || ((a && t) || r))) || (a && m))
 moved true t a s m r h = refl
 moved false t true true m r h = refl
 moved false t false s m r h = sym (or-false r)
@@ -31,7 +34,8 @@ and_last true false c d h = refl
 and_last false b c d h = refl
 
 -- two tests agree on a list where they agree on its members
-all_alike : (p q : ℕ → Bool) (cs : List ℕ) → ((c : ℕ) → list_any (λ d. eqb d c) cs ≡ true → p c ≡ q c) → list_all p cs ≡ list_all q cs
+all_alike : (p q : ℕ → Bool) (cs : List ℕ) → ((c : ℕ) → list_any (λ d. eqb d c) cs ≡ true → p c ≡ q c)
+    → list_all p cs ≡ list_all q cs
 all_alike p q [] same = refl
 all_alike p q (c ∷ cs) same =
     ap (λ (b : Bool). b && list_all p cs) (same c (or_left (eqb c c) (list_any (λ d. eqb d c) cs) (eq-eqb c c refl)))
@@ -41,20 +45,24 @@ all_alike p q (c ∷ cs) same =
     later c d cs h = elim (eqb c d) as (λ b. (b || list_any (λ e. eqb e d) cs) ≡ true) [ true ↦ refl | false ↦ h ]
 
 -- concepts below a bound, on which two tests agree
-concepts_alike : (p q : ℕ → Bool) (bound : ℕ) → ((c : ℕ) → c < bound → p c ≡ q c) → (m : ℕ → ℕ) (at : ℕ) (fs : List (Fact ℕ)) → are_listed bound fs ≡ true
+concepts_alike : (p q : ℕ → Bool) (bound : ℕ) → ((c : ℕ) → c < bound → p c ≡ q c)
+    → (m : ℕ → ℕ) (at : ℕ) (fs : List (Fact ℕ)) → are_listed bound fs ≡ true
     → list_any p (concepts_at m at fs) ≡ list_any q (concepts_at m at fs)
 concepts_alike p q bound same m at [] h = refl
 concepts_alike p q bound same m at (Has y d ∷ fs) h =
     let t = and_parts (ltb d bound) (are_listed bound fs) h in
     let here = same d (ltb-true d bound t.0) in
     let rest = concepts_alike p q bound same m at fs t.1 in
-    elim (eqb (m y) at) as (λ b. list_any p (cond b (d ∷ concepts_at m at fs) (concepts_at m at fs)) ≡ list_any q (cond b (d ∷ concepts_at m at fs) (concepts_at m at fs)))
+    elim (eqb (m y) at) as
+    (λ b. list_any p (cond b (d ∷ concepts_at m at fs) (concepts_at m at fs))
+    ≡ list_any q (cond b (d ∷ concepts_at m at fs) (concepts_at m at fs)))
     [ true ↦ (λ i. here i || rest i) | false ↦ rest ]
 concepts_alike p q bound same m at (Edge r y z ∷ fs) h = concepts_alike p q bound same m at fs h
 concepts_alike p q bound same m at (Apart y z ∷ fs) h = concepts_alike p q bound same m at fs h
 concepts_alike p q bound same m at (Same y z ∷ fs) h = concepts_alike p q bound same m at fs h
 
-given_listed : (bound c : ℕ) (m : ℕ → ℕ) (at : ℕ) (fs : List (Fact ℕ)) → are_listed bound fs ≡ true → list_any (gives_concept (λ d. eqb d c) m at) fs ≡ true → c < bound
+given_listed : (bound c : ℕ) (m : ℕ → ℕ) (at : ℕ) (fs : List (Fact ℕ)) → are_listed bound fs ≡ true
+    → list_any (gives_concept (λ d. eqb d c) m at) fs ≡ true → c < bound
 given_listed bound c m at [] h g = cc
 given_listed bound c m at (Has y d ∷ fs) h g =
     let t = and_parts (ltb d bound) (are_listed bound fs) h in
@@ -67,11 +75,13 @@ given_listed bound c m at (Apart y z ∷ fs) h g = given_listed bound c m at fs 
 given_listed bound c m at (Same y z ∷ fs) h g = given_listed bound c m at fs h g
 
 -- a concept that listed facts give is in the table
-pub has_listed : (bound : ℕ) (fs : List (Fact ℕ)) → 0 < bound → are_listed bound fs ≡ true → (x c : ℕ) → has fs x c ≡ true → c < bound
-has_listed bound fs some h x c held = elim (or_cases (eqb c 0) (list_any (gives_concept (λ d. eqb d c) (rep fs) (rep fs x)) fs) held) [
-  | inl z ↦ omega (arith, eqb-true c 0 z, some)
-  | inr g ↦ given_listed bound c (rep fs) (rep fs x) fs h g
-]
+pub has_listed : (bound : ℕ) (fs : List (Fact ℕ)) → 0 < bound → are_listed bound fs ≡ true → (x c : ℕ)
+    → has fs x c ≡ true → c < bound
+has_listed bound fs some h x c held =
+    elim (or_cases (eqb c 0) (list_any (gives_concept (λ d. eqb d c) (rep fs) (rep fs x)) fs) held) [
+      | inl z ↦ omega (arith, eqb-true c 0 z, some)
+      | inr g ↦ given_listed bound c (rep fs) (rep fs x) fs h g
+    ]
 
 -- ---- the two lists of facts
 
@@ -91,7 +101,8 @@ module _ (first at sub n : ℕ) (gs : List (Fact ℕ)) (stays : rep (old_facts a
 
   has_new : (x c : ℕ) → has news x c ≡ (has olds x c || (eqb (rep olds at) (rep olds x) && eqb n c))
   has_new x c =
-      moved (eqb c 0) (eqb 0 c) (eqb (rep olds at) (rep olds x)) (eqb sub c) (eqb n c) (list_any (gives_concept (λ d. eqb d c) (rep olds) (rep olds x)) gs)
+      moved (eqb c 0) (eqb 0 c) (eqb (rep olds at) (rep olds x)) (eqb sub c) (eqb n c)
+      (list_any (gives_concept (λ d. eqb d c) (rep olds) (rep olds x)) gs)
       (λ h. eqb-comm 0 c ∙ h)
 
   pub has_up : (x c : ℕ) → has olds x c ≡ true → has news x c ≡ true
@@ -120,7 +131,8 @@ module _ (first at sub n : ℕ) (gs : List (Fact ℕ)) (stays : rep (old_facts a
 
   -- ---- names in labels
 
-  pub label_alike : (p q : ℕ → Bool) (bound x : ℕ) → p n ≡ false → q 0 ≡ false → 0 < bound → ((c : ℕ) → c < bound → p c ≡ q c) → are_listed bound olds ≡ true
+  pub label_alike : (p q : ℕ → Bool) (bound x : ℕ) → p n ≡ false → q 0 ≡ false → 0 < bound
+      → ((c : ℕ) → c < bound → p c ≡ q c) → are_listed bound olds ≡ true
       → list_any p (label news x) ≡ list_any q (label olds x)
   label_alike p q bound x none zero_out some same h =
       let t = and_parts (ltb sub bound) (are_listed bound (Has at 0 ∷ gs)) h in
@@ -129,7 +141,9 @@ module _ (first at sub n : ℕ) (gs : List (Fact ℕ)) (stays : rep (old_facts a
       let first = same sub (ltb-true sub bound t.0) in
       let rest = concepts_alike p q bound same (rep olds) (rep olds x) gs u.1 in
       let R : List ℕ = concepts_at (rep olds) (rep olds x) gs in
-      elim (eqb (rep olds at) (rep olds x)) as (λ b. (p 0 || list_any p (cond b (sub ∷ cond b (n ∷ R) R) (cond b (n ∷ R) R))) ≡ (q 0 || list_any q (cond b (sub ∷ cond b (0 ∷ R) R) (cond b (0 ∷ R) R)))) [
+      elim (eqb (rep olds at) (rep olds x)) as
+      (λ b. (p 0 || list_any p (cond b (sub ∷ cond b (n ∷ R) R) (cond b (n ∷ R) R)))
+      ≡ (q 0 || list_any q (cond b (sub ∷ cond b (0 ∷ R) R) (cond b (0 ∷ R) R)))) [
         | true ↦ (λ i. top i || (first i || ((none ∙ sym zero_out) i || rest i)))
         | false ↦ (λ i. top i || rest i)
       ]
@@ -138,34 +152,48 @@ module _ (first at sub n : ℕ) (gs : List (Fact ℕ)) (stays : rep (old_facts a
 
   module _ (ends : (roles : ℕ → Bool) (x y : ℕ) → has_edge olds roles x y ≡ true → ¬ (rep olds y ≡ at)) where
     -- successors are not the node in question
-    pub filled_same : (below : ℕ → ℕ → Bool) (x s e : ℕ) → filled_successors first below news x s e ≡ filled_successors first below olds x s e
+    pub filled_same : (below : ℕ → ℕ → Bool) (x s e : ℕ)
+        → filled_successors first below news x s e ≡ filled_successors first below olds x s e
     filled_same below x s e =
-        filled_alike first olds news alike below x s e (λ y next. has_other y e (λ r. ends (λ t. below t s) x y (successor_has_edge olds (λ t. below t s) x y next) r.0))
+        filled_alike first olds news alike below x s e
+        (λ y next. has_other y e
+        (λ r. ends (λ t. below t s) x y (successor_has_edge olds (λ t. below t s) x y next) r.0))
 
-    filled_each : (below : ℕ → ℕ → Bool) (x s e y : ℕ) → is_filled_successor first below news x s e y ≡ is_filled_successor first below olds x s e y
+    filled_each : (below : ℕ → ℕ → Bool) (x s e y : ℕ)
+        → is_filled_successor first below news x s e y ≡ is_filled_successor first below olds x s e y
     filled_each below x s e y =
-        and_last _ (has_edge olds (λ t. below t s) x y) (has news y e) (has olds y e) (λ edge. has_other y e (λ r. ends (λ t. below t s) x y edge r.0))
+        and_last _ (has_edge olds (λ t. below t s) x y) (has news y e) (has olds y e)
+        (λ edge. has_other y e (λ r. ends (λ t. below t s) x y edge r.0))
 
-    pub run_same : (below : ℕ → ℕ → Bool) (x s e : ℕ) (ys : List ℕ) → list_all (is_filled_successor first below news x s e) ys ≡ list_all (is_filled_successor first below olds x s e) ys
+    pub run_same : (below : ℕ → ℕ → Bool) (x s e : ℕ) (ys : List ℕ)
+        → list_all (is_filled_successor first below news x s e) ys
+        ≡ list_all (is_filled_successor first below olds x s e) ys
     run_same below x s e ys = λ i. list_all (λ y. filled_each below x s e y i) ys
 
-  module _ (is_first : at < first) (alone : (x : ℕ) → rep olds x ≡ at → x ≡ at) (none : (x : ℕ) → has olds x n ≡ false) where
+  module _ (is_first : at < first) (alone : (x : ℕ) → rep olds x ≡ at → x ≡ at)
+      (none : (x : ℕ) → has olds x n ≡ false) where
     label_same : (x : ℕ) → ¬ (x ≡ at) → label news x ≡ label olds x
     label_same x ne =
         let R : List ℕ = concepts_at (rep olds) (rep olds x) gs in
-        let other : eqb (rep olds at) (rep olds x) ≡ false = ne_eqb (rep olds at) (rep olds x) (λ e. ne (alone x (sym e ∙ stays))) in
-        ap (λ (b : Bool). 0 ∷ cond b (sub ∷ cond b (n ∷ R) R) (cond b (n ∷ R) R)) other ∙ sym (ap (λ (b : Bool). 0 ∷ cond b (sub ∷ cond b (0 ∷ R) R) (cond b (0 ∷ R) R)) other)
+        let other : eqb (rep olds at) (rep olds x) ≡ false =
+        ne_eqb (rep olds at) (rep olds x) (λ e. ne (alone x (sym e ∙ stays))) in
+        ap (λ (b : Bool). 0 ∷ cond b (sub ∷ cond b (n ∷ R) R) (cond b (n ∷ R) R)) other
+        ∙ sym (ap (λ (b : Bool). 0 ∷ cond b (sub ∷ cond b (0 ∷ R) R) (cond b (0 ∷ R) R)) other)
 
     part_same : (x z : ℕ) → ¬ (x ≡ at) → is_label_part news x z ≡ is_label_part olds x z
     part_same x z ne =
         ap (list_all (has news z)) (label_same x ne)
         ∙ all_alike (has news z) (has olds z) (label olds x)
-        (λ c there. has_other z c (λ r. (let held = sym (any-label olds x c) ∙ there in let k = subst (λ (d : ℕ). has olds x d ≡ false) r.1 (none x) in cc)))
+        (λ c there. has_other z c
+        (λ r. (let held = sym (any-label olds x c) ∙ there in
+        let k = subst (λ (d : ℕ). has olds x d ≡ false) r.1 (none x) in cc)))
 
     may_same : (blocks : List Block) (x z : ℕ) → ¬ (x ≡ at) → may_block news blocks x z ≡ may_block olds blocks x z
-    may_same blocks x z ne = ap (λ (b : Bool). eqb (rep olds z) z && is_clear (slice_index_or blocks z Under) && b) (part_same x z ne)
+    may_same blocks x z ne =
+        ap (λ (b : Bool). eqb (rep olds z) z && is_clear (slice_index_or blocks z Under) && b) (part_same x z ne)
 
-    from_same : (blocks : List Block) (x z k : ℕ) → ¬ (x ≡ at) → blocked_from news blocks x z k ≡ blocked_from olds blocks x z k
+    from_same : (blocks : List Block) (x z k : ℕ) → ¬ (x ≡ at)
+        → blocked_from news blocks x z k ≡ blocked_from olds blocks x z k
     from_same blocks x z zero ne = refl
     from_same blocks x z (suc k) ne =
         let here = may_same blocks x z ne in
@@ -179,14 +207,17 @@ module _ (first at sub n : ℕ) (gs : List (Fact ℕ)) (stays : rep (old_facts a
           | inl low ↦
               ap (λ (b : Bool). cond b Clear (cond up (blocked_from news blocks x 0 x) Under)) low
               ∙ sym (ap (λ (b : Bool). cond b Clear (cond up (blocked_from olds blocks x 0 x) Under)) low)
-          | inr high ↦ ap (λ (b : Block). cond (ltb x first) Clear (cond up b Under)) (from_same blocks x 0 x (λ e. (let k = ap (λ (y : ℕ). ltb y first) e ∙ lt-ltb at first is_first in cc)))
+          | inr high ↦
+              ap (λ (b : Block). cond (ltb x first) Clear (cond up b Under))
+              (from_same blocks x 0 x (λ e. (let k = ap (λ (y : ℕ). ltb y first) e ∙ lt-ltb at first is_first in cc)))
         ]
 
     to_same : (k : ℕ) → blocks_to first news k ≡ blocks_to first olds k
     to_same zero = refl
     to_same (suc k) =
         let earlier = to_same k in
-        ap (λ (b : List Block). b ++ block_at first news b k ∷ []) earlier ∙ ap (λ (b : Block). blocks_to first olds k ++ b ∷ []) (at_same (blocks_to first olds k) k)
+        ap (λ (b : List Block). b ++ block_at first news b k ∷ []) earlier
+        ∙ ap (λ (b : Block). blocks_to first olds k ++ b ∷ []) (at_same (blocks_to first olds k) k)
 
     pub block_same : (x : ℕ) → block_of first news x ≡ block_of first olds x
     block_same x = ap (λ (b : List Block). block_at first news b x) (to_same x) ∙ at_same (blocks_to first olds x) x

@@ -1,5 +1,6 @@
 -- The numbers of kept steps, read as the digits of one number, rise with each step.
-use Rattle.std.proofs.Common.{◌≡◌, ℕ, zero, suc, ◌+◌, ◌*◌, ◌^◌, ◌<◌, ◌≤◌, List, [], ◌∷◌, ◌++◌, length, arith, length-append}
+use Rattle.std.proofs.Common.{◌≡◌, ℕ, zero, suc, ◌+◌, ◌*◌, ◌^◌, ◌<◌, ◌≤◌, List, [], ◌∷◌, ◌++◌, length, arith}
+use Rattle.std.proofs.Common.{length-append}
 use Rattle.std.proofs.lemmas.Nat.{mul-le}
 use Rattle.std.proofs.Math.Nat.{pow-zero, pow-suc, one-le-pow}
 use Rattle.search_laws.proofs.KeptSteps.{IsNext}
@@ -42,14 +43,18 @@ value_on b (suc top) [] n pos lt =
     omega (arith, power_pos b top)
 value_on b (suc top) (m ∷ ns) n pos lt = let rest = value_on b top ns n pos (omega arith) in omega arith
 
-value_back : (b top : ℕ) (before after : List ℕ) (n : ℕ) → length before < top → AreAtMost b (before ++ n ∷ after) → value b top (before ++ n ∷ after) + 1 ≤ value b top (before ++ (n + 1) ∷ [])
+value_back : (b top : ℕ) (before after : List ℕ) (n : ℕ) → length before < top → AreAtMost b (before ++ n ∷ after)
+    → value b top (before ++ n ∷ after) + 1 ≤ value b top (before ++ (n + 1) ∷ [])
 value_back b zero before after n lt h = absurd (omega arith)
 value_back b (suc top) [] after n lt h =
     let rest = value_below b top after h.1 in
     omega (arith, split_one n ((b + 1) ^ top))
-value_back b (suc top) (m ∷ before) after n lt h = let rest = value_back b top before after n (omega arith) h.1 in omega arith
+value_back b (suc top) (m ∷ before) after n lt h =
+    let rest = value_back b top before after n (omega arith) h.1 in omega arith
 
 -- the digits after a step, of which all have room
-pub value_rises : (b top : ℕ) (ns ms : List ℕ) → IsNext ns ms → AreAtMost b ns → length ms ≤ top → value b top ns + 1 ≤ value b top ms
+pub value_rises : (b top : ℕ) (ns ms : List ℕ) → IsNext ns ms → AreAtMost b ns → length ms ≤ top
+    → value b top ns + 1 ≤ value b top ms
 value_rises b top ns ms (on ns' n pos) small room = value_on b top ns' n pos (omega (arith, length-append ns' (n ∷ [])))
-value_rises b top ns ms (back_at before after n) small room = value_back b top before after n (omega (arith, length-append before ((n + 1) ∷ []))) small
+value_rises b top ns ms (back_at before after n) small room =
+    value_back b top before after n (omega (arith, length-append before ((n + 1) ∷ []))) small

@@ -20,7 +20,8 @@ theory = record {
 
 -- both rows of the inclusion, with the union's parts and the filler
 pub five_concepts : closure (on_any theory (name 10) bottom) [] []
-    ≡ top ∷ union (parts_of (complement (name 10) ∷ some_of 7 (name 10) ∷ [])) ∷ complement (name 10) ∷ some_of 7 (name 10) ∷ name 10 ∷ []
+    ≡ top ∷ union (parts_of (complement (name 10) ∷ some_of 7 (name 10) ∷ [])) ∷ complement (name 10)
+    ∷ some_of 7 (name 10) ∷ name 10 ∷ []
 five_concepts = refl
 
 pub generates_one : most_made (closure (on_any theory (name 10) bottom) [] []) ≡ 1
@@ -34,11 +35,13 @@ abbrev one_transitive : Theory
 one_transitive = record { parts = []; below = λ r s. r == s; is_transitive = λ r. r == 9 }
 
 -- the transitive role hands on an 'all'
-pub all_is_carried : closure (on_any one_transitive (all_of 7 (name 10)) bottom) (9 ∷ []) [] ≡ all_of 7 (name 10) ∷ all_of 9 (name 10) ∷ name 10 ∷ top ∷ []
+pub all_is_carried : closure (on_any one_transitive (all_of 7 (name 10)) bottom) (9 ∷ []) []
+    ≡ all_of 7 (name 10) ∷ all_of 9 (name 10) ∷ name 10 ∷ top ∷ []
 all_is_carried = refl
 
 -- 'at most' brings its filler and the complement of that
-pub other_is_in : closure (on_any one_transitive (at_most 3 7 (name 10)) bottom) (9 ∷ []) [] ≡ at_most 3 7 (name 10) ∷ name 10 ∷ complement (name 10) ∷ top ∷ []
+pub other_is_in : closure (on_any one_transitive (at_most 3 7 (name 10)) bottom) (9 ∷ []) []
+    ≡ at_most 3 7 (name 10) ∷ name 10 ∷ complement (name 10) ∷ top ∷ []
 other_is_in = refl
 
 -- a closure of one concept bounds the nodes by 16
@@ -58,7 +61,8 @@ of_individuals =
     ∷ record { «axiom» = SameAll (0 ∷ 1 ∷ []); line = 3 }
     ∷ []
 
-pub three_facts : given_facts 2 of_individuals (1 ∷ 2 ∷ 3 ∷ []) ≡ Has 0 (some_of 7 (name 10)) ∷ Edge 8 0 1 ∷ Same 0 1 ∷ []
+pub three_facts : given_facts 2 of_individuals (1 ∷ 2 ∷ 3 ∷ [])
+    ≡ Has 0 (some_of 7 (name 10)) ∷ Edge 8 0 1 ∷ Same 0 1 ∷ []
 three_facts = refl
 
 -- of one individual alone
@@ -66,5 +70,6 @@ pub one_fact : given_facts 1 of_individuals (1 ∷ 2 ∷ 3 ∷ []) ≡ Has 0 (so
 one_fact = refl
 
 -- what an individual has is in the closure, and so is what that contains
-pub member_is_in : closure_of 2 of_individuals (1 ∷ 2 ∷ 3 ∷ []) (record { sub = top; sup = bottom; on = Any }) ≡ top ∷ some_of 7 (name 10) ∷ name 10 ∷ []
+pub member_is_in : closure_of 2 of_individuals (1 ∷ 2 ∷ 3 ∷ []) (record { sub = top; sup = bottom; on = Any })
+    ≡ top ∷ some_of 7 (name 10) ∷ name 10 ∷ []
 member_is_in = refl

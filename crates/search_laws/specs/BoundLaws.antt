@@ -1,5 +1,6 @@
 -- The bounds of a search.
-use Rattle.std.specs.Prelude.{◌≡◌, ℕ, suc, ◌+◌, ◌*◌, ◌^◌, ◌<◌, ◌≤◌, ◌==◌, Bool, true, false, List, [], ◌∷◌, length, Option, None, Some}
+use Rattle.std.specs.Prelude.{◌≡◌, ℕ, suc, ◌+◌, ◌*◌, ◌^◌, ◌<◌, ◌≤◌, ◌==◌, Bool, true, false, List, [], ◌∷◌, length}
+use Rattle.std.specs.Prelude.{Option, None, Some}
 use Rattle.shq_meaning.specs.Below.{count_below}
 use Rattle.shq_terms.specs.declared.axioms.Numbered.{Numbered}
 use Rattle.shq_terms.specs.declared.axioms.Query.{Query}
@@ -22,7 +23,8 @@ use Rattle.search_laws.specs.Closure.{IsInClosure, IsClosure, most_made, node_bo
 
 -- each concept of a reached trail is in the closure
 abbrev pub ConceptsAreInClosure : Type 0
-ConceptsAreInClosure = (q : Question) (table : List Shape) (rows : List Row) (k : ℕ) (trail : List Item) → IsReached q table rows k trail
+ConceptsAreInClosure = (q : Question) (table : List Shape) (rows : List Row) (k : ℕ) (trail : List Item)
+    → IsReached q table rows k trail
     → (x c : ℕ) → has (facts_of trail) x c ≡ true → IsInClosure q (tree_of table c)
 
 -- ---- marks
@@ -40,14 +42,17 @@ AreAtFirst (Mark c ∷ is) = (c.alternative ≡ 1) × AreAtFirst is
 
 -- where no mark has gone on to a later alternative, the steps are at most so many; each given fact is put once at most
 abbrev pub FewStepsAtFirst : Type 0
-FewStepsAtFirst = (q : Question) (cs : List Concept) (facts : List (Fact Concept)) (table : List Shape) (rows : List Row) (k : ℕ) (trail : List Item)
+FewStepsAtFirst =
+    (q : Question) (cs : List Concept) (facts : List (Fact Concept)) (table : List Shape) (rows : List Row) (k : ℕ)
+    (trail : List Item)
     → IsClosure q cs → HasFacts q facts → IsReached q table rows k trail → AreAtFirst trail
     → k ≤ node_count_from q.first (facts_of trail) * (length cs + 2) + length facts
 
 abbrev pub FewMarks : Type 0
 FewMarks = (q : Question) (cs : List Concept) (table : List Shape) (rows : List Row) (k : ℕ) (trail : List Item)
     → IsClosure q cs → IsReached q table rows k trail
-    → mark_count trail ≤ node_count_from q.first (facts_of trail) * (node_count_from q.first (facts_of trail) + length cs + 1)
+    → mark_count trail
+    ≤ node_count_from q.first (facts_of trail) * (node_count_from q.first (facts_of trail) + length cs + 1)
 
 -- ---- nodes
 
@@ -108,12 +113,18 @@ FewSteps = (q : Question) (cs : List Concept) (table : List Shape) (rows : List 
 
 -- where n individuals are listed; c is the number of concepts in the closure, v that of the trail's nodes, and f that
 -- of the facts that the axioms give
-pub record IsBounded (n : ℕ) (axioms : List Numbered) (ks : List ℕ) (q : Query) (k : ℕ) (trail : List Item) : Type 0 where
+pub record IsBounded (n : ℕ) (axioms : List Numbered) (ks : List ℕ) (q : Query) (k : ℕ) (trail : List Item) :
+    Type 0 where
   pub all_steps : n ≡ 0 → k ≤ step_bound (closure_of n axioms ks q)
   pub steps_at_first : AreAtFirst trail
-      → k ≤ node_count_from (n + 1) (facts_of trail) * (length (closure_of n axioms ks q) + 2) + length (given_facts n axioms ks)
-  pub marks : mark_count trail ≤ node_count_from (n + 1) (facts_of trail) * (node_count_from (n + 1) (facts_of trail) + length (closure_of n axioms ks q) + 1)
+      → k ≤ node_count_from (n + 1) (facts_of trail) * (length (closure_of n axioms ks q) + 2)
+      + length (given_facts n axioms ks)
+  pub marks : mark_count trail
+      ≤ node_count_from (n + 1) (facts_of trail)
+      * (node_count_from (n + 1) (facts_of trail) + length (closure_of n axioms ks q) + 1)
 
 abbrev pub LegalRunsAreBounded : Type 0
-LegalRunsAreBounded = (n : ℕ) (axioms : List Numbered) (ks : List ℕ) (q : Query) (table : List Shape) (rows : List Row) (k : ℕ) (trail : List Item)
+LegalRunsAreBounded =
+    (n : ℕ) (axioms : List Numbered) (ks : List ℕ) (q : Query) (table : List Shape) (rows : List Row) (k : ℕ)
+    (trail : List Item)
     → IsReached (question_of n axioms ks q) table rows k trail → IsBounded n axioms ks q k trail

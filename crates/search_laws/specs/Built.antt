@@ -12,7 +12,8 @@ use Rattle.search_laws.specs.Pairs.{IsPair}
 -- individual without a node is the number 0.
 pub record IsBuilt (w : SearchContext) (fs : List (Fact ℕ)) (i : Interpretation) : Type 0 where
   pub size_is : i.size ≡ length (elements w.first fs)
-  pub classes_are : (a v : ℕ) → v < i.size → i.in_class a v ≡ has_name w fs (original w.first fs (node_at w.first fs v)) (name a)
+  pub classes_are : (a v : ℕ) → v < i.size
+      → i.in_class a v ≡ has_name w fs (original w.first fs (node_at w.first fs v)) (name a)
   pub roles_are : (s v u : ℕ) → v < i.size → u < i.size
       → (i.in_role s v u ≡ true) ↔ IsPair w fs s (node_at w.first fs v) (node_at w.first fs u)
   pub individuals_are : (a : ℕ) → a + 1 < w.first → IsNumberOf w.first fs a (i.individual a)

@@ -1,7 +1,8 @@
 -- The closure of what is in question: the concepts that a search may give to its nodes.
 use Rattle.std.specs.Prelude.{◌≡◌, ℕ, ◌+◌, ◌*◌, ◌^◌, true, max, List, [], ◌∷◌, length, Some, Contains}
 use Rattle.std.specs.List.{list_any, IsDistinct}
-use Rattle.shq_terms.specs.Concept.{Concept, top, intersection, union, some_of, all_of, at_least, at_most, Parts, part_list}
+use Rattle.shq_terms.specs.Concept.{Concept, top, intersection, union, some_of, all_of, at_least, at_most, Parts}
+use Rattle.shq_terms.specs.Concept.{part_list}
 use Rattle.calculus_specs.specs.Normal.{normal_form, negated_form}
 use Rattle.calculus_specs.specs.Same.{is_same}
 use Rattle.calculus_specs.specs.Rows.{NumberedPart, are_name_positions, row_concept}
@@ -16,11 +17,14 @@ pub data IsInClosure (q : Question) : Concept → Type 0 where
   has_sub : IsInClosure q (normal_form q.sub)
   has_not_sup : IsInClosure q (negated_form q.sup)
   -- the row concepts of each inclusion, for all positions of names
-  has_row : (n : NumberedPart) (cs : List Concept) (d : Concept) (positions : List ℕ) → Contains q.theory.parts n → n.part ≡ inclusion cs d → are_name_positions cs positions ≡ true
+  has_row : (n : NumberedPart) (cs : List Concept) (d : Concept) (positions : List ℕ) → Contains q.theory.parts n
+      → n.part ≡ inclusion cs d → are_name_positions cs positions ≡ true
       → IsInClosure q (row_concept cs d positions)
-  has_range : (n : NumberedPart) (r : ℕ) (d : Concept) → Contains q.theory.parts n → n.part ≡ range r d → IsInClosure q d
+  has_range : (n : NumberedPart) (r : ℕ) (d : Concept) → Contains q.theory.parts n → n.part ≡ range r d
+      → IsInClosure q d
   has_member : (a p x : ℕ) (c : Concept) → q.fact_of a p ≡ Some (Has x c) → IsInClosure q c
-  has_conjunct : (cs : Parts) (c : Concept) → IsInClosure q (intersection cs) → Contains (part_list cs) c → IsInClosure q c
+  has_conjunct : (cs : Parts) (c : Concept) → IsInClosure q (intersection cs) → Contains (part_list cs) c
+      → IsInClosure q c
   has_disjunct : (cs : Parts) (c : Concept) → IsInClosure q (union cs) → Contains (part_list cs) c → IsInClosure q c
   has_some : (r : ℕ) (c : Concept) → IsInClosure q (some_of r c) → IsInClosure q c
   has_all : (r : ℕ) (c : Concept) → IsInClosure q (all_of r c) → IsInClosure q c
@@ -29,7 +33,8 @@ pub data IsInClosure (q : Question) : Concept → Type 0 where
   -- the complement of what is counted, which a search may choose
   has_other : (n r : ℕ) (c : Concept) → IsInClosure q (at_most n r c) → IsInClosure q (negated_form c)
   -- what a transitive role hands on
-  has_carried : (s t : ℕ) (c : Concept) → IsInClosure q (all_of s c) → q.theory.is_transitive t ≡ true → IsInClosure q (all_of t c)
+  has_carried : (s t : ℕ) (c : Concept) → IsInClosure q (all_of s c) → q.theory.is_transitive t ≡ true
+      → IsInClosure q (all_of t c)
 
 -- the list has each concept of the closure, once, and no other
 pub record IsClosure (q : Question) (cs : List Concept) : Type 0 where

@@ -12,7 +12,8 @@ use Rattle.search_laws.specs.Elements.{elements, node_at, number_at, original}
 module _ (w : SearchContext) (fs : List (Fact ℕ)) where
   -- whether an edge below s leads from the element v to the element u
   abbrev pub leads_to : ℕ → ℕ → ℕ → Bool
-  leads_to s v u = is_successor fs (λ r. below_of w r s) (original w.first fs (node_at w.first fs v)) (node_at w.first fs u)
+  leads_to s v u =
+      is_successor fs (λ r. below_of w r s) (original w.first fs (node_at w.first fs v)) (node_at w.first fs u)
 
   -- whether one or more edges below t do
   abbrev pub has_chain : ℕ → ℕ → ℕ → Bool
@@ -20,7 +21,9 @@ module _ (w : SearchContext) (fs : List (Fact ℕ)) where
 
   -- whether the pair (v, u) is one of role s, where each transitive role is below `limit`
   abbrev pub has_pair : ℕ → ℕ → ℕ → ℕ → Bool
-  has_pair limit s v u = leads_to s v u || list_any (λ t. w.theory.is_transitive t && w.theory.below t s && has_chain t v u) (range_with_len 0 limit)
+  has_pair limit s v u =
+      leads_to s v u
+      || list_any (λ t. w.theory.is_transitive t && w.theory.below t s && has_chain t v u) (range_with_len 0 limit)
 
   -- the number of an individual: that of its node, where it has one
   abbrev pub individual_at : ℕ → ℕ

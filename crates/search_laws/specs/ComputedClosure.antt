@@ -1,7 +1,9 @@
 -- The closure as a list, where the transitive roles and the concepts of given facts are listed.
-use Rattle.std.specs.Prelude.{◌≡◌, ℕ, zero, suc, ◌-◌, max, true, ◌==◌, ◌↔◌, nat_lt, List, [], ◌∷◌, ◌++◌, map, filter, slice_get, Option, Some, None, if◌then◌else◌, Contains}
+use Rattle.std.specs.Prelude.{◌≡◌, ℕ, zero, suc, ◌-◌, max, true, ◌==◌, ◌↔◌, nat_lt, List, [], ◌∷◌, ◌++◌, map, filter}
+use Rattle.std.specs.Prelude.{slice_get, Option, Some, None, if◌then◌else◌, Contains}
 use Rattle.std.specs.List.{list_any, flat_map}
-use Rattle.shq_terms.specs.Concept.{Concept, top, bottom, name, complement, intersection, union, some_of, all_of, at_least, at_most, exactly, Parts, no_parts, part}
+use Rattle.shq_terms.specs.Concept.{Concept, top, bottom, name, complement, intersection, union, some_of, all_of}
+use Rattle.shq_terms.specs.Concept.{at_least, at_most, exactly, Parts, no_parts, part}
 use Rattle.calculus_specs.specs.Normal.{normal_form, negated_form, or_of}
 use Rattle.calculus_specs.specs.Same.{is_same}
 use Rattle.calculus_specs.specs.Rows.{Part, is_name}
@@ -24,7 +26,8 @@ use Rattle.search_laws.specs.Closure.{IsClosure}
 -- the conjuncts that stay where some that are names are left out, for each choice of these
 abbrev pub others_of : List Concept → List (List Concept)
 others_of [] = [] ∷ []
-others_of (c ∷ cs) = if is_name c then map (λ ds. c ∷ ds) (others_of cs) ++ others_of cs else map (λ ds. c ∷ ds) (others_of cs)
+others_of (c ∷ cs) =
+    if is_name c then map (λ ds. c ∷ ds) (others_of cs) ++ others_of cs else map (λ ds. c ∷ ds) (others_of cs)
 
 abbrev pub row_of_others : Concept → List Concept → Concept
 row_of_others right others = or_of (map negated_form others ++ right ∷ [])
@@ -82,7 +85,8 @@ pub record IsMember (q : Question) (c : Concept) : Type 0 where
 -- ---- the closure
 
 abbrev pub roots : Question → List Concept → List Concept
-roots q members = top ∷ normal_form q.sub ∷ negated_form q.sup ∷ (flat_map (λ n. part_concepts n.part) q.theory.parts ++ members)
+roots q members =
+    top ∷ normal_form q.sub ∷ negated_form q.sup ∷ (flat_map (λ n. part_concepts n.part) q.theory.parts ++ members)
 
 abbrev pub deepest : List Concept → ℕ
 deepest [] = 0
@@ -123,7 +127,8 @@ given_facts n axioms ks = flat_map (λ k. facts_in n (slice_get axioms (k - 1)))
 -- the closure of the axioms of these numbers and a query, where n individuals are listed
 abbrev pub closure_of : ℕ → List Numbered → List ℕ → Query → List Concept
 closure_of n axioms ks q =
-    closure (question_of n axioms ks q) (transitive_roles (role_axioms axioms ks)) (flat_map given_concept (given_facts n axioms ks))
+    closure (question_of n axioms ks q) (transitive_roles (role_axioms axioms ks))
+    (flat_map given_concept (given_facts n axioms ks))
 
 -- each list is what it is said to be
 pub record IsComputed (n : ℕ) (axioms : List Numbered) (ks : List ℕ) (q : Query) : Type 0 where

@@ -20,7 +20,13 @@ abbrev table : List Shape
 table = top ∷ name_shape 10 ∷ least_shape 2 5 1 ∷ []
 
 abbrev context : SearchContext
-context = record { theory = record { parts = []; below = λ r s. r == s; is_transitive = λ r. false }; table = table; rows = []; first = 1; fact_of = λ a p. None }
+context = record {
+  theory = record { parts = []; below = λ r s. r == s; is_transitive = λ r. false };
+  table = table;
+  rows = [];
+  first = 1;
+  fact_of = λ a p. None;
+}
 
 abbrev facts : List (Fact ℕ)
 facts = Has 0 1 ∷ Has 0 2 ∷ Edge 5 0 1 ∷ Has 1 1 ∷ Edge 5 0 2 ∷ Has 2 1 ∷ Apart 1 2 ∷ Has 1 2 ∷ Has 2 2 ∷ []
@@ -61,7 +67,15 @@ abbrev below : ℕ → ℕ → Bool
 below r s = r == s || (r == 7 && s == 5)
 
 abbrev chained : Bool → Interpretation
-chained transitive = built (record { theory = record { parts = []; below = below; is_transitive = λ r. transitive && r == 7 }; table = table; rows = []; first = 1; fact_of = λ a p. None }) chain 8
+chained transitive =
+    built (record {
+      theory = record { parts = []; below = below; is_transitive = λ r. transitive && r == 7 };
+      table = table;
+      rows = [];
+      first = 1;
+      fact_of = λ a p. None;
+    })
+    chain 8
 
 -- a role has the chains of a transitive one below it
 pub chain_is_passed_on : (chained true).in_role 5 0 2 ≡ true
@@ -87,7 +101,15 @@ abbrev named : List (Fact ℕ)
 named = Has 3 0 ∷ Has 0 1 ∷ Edge 5 0 1 ∷ Same 1 2 ∷ Apart 0 1 ∷ Edge 5 0 4 ∷ Has 4 1 ∷ []
 
 abbrev of_individuals : Interpretation
-of_individuals = built (record { theory = record { parts = []; below = λ r s. r == s; is_transitive = λ r. false }; table = table; rows = []; first = 4; fact_of = λ a p. None }) named 0
+of_individuals =
+    built (record {
+      theory = record { parts = []; below = λ r s. r == s; is_transitive = λ r. false };
+      table = table;
+      rows = [];
+      first = 4;
+      fact_of = λ a p. None;
+    })
+    named 0
 
 -- what is one with another has no element of its own
 pub representatives_are_elements : elements 4 named ≡ 0 ∷ 1 ∷ 3 ∷ 4 ∷ []

@@ -25,12 +25,14 @@ use Rattle.search_laws.specs.Computed.{built}
 
 -- no transitive role is below a role that some 'at most' of a label counts
 abbrev pub CountsSimple : SearchContext → List (Fact ℕ) → Type 0
-CountsSimple w fs = (x c n s e t : ℕ) → x < node_count_from w.first fs → has fs x c ≡ true → shape_of w.table c ≡ at_most n s e
+CountsSimple w fs = (x c n s e t : ℕ) → x < node_count_from w.first fs → has fs x c ≡ true
+    → shape_of w.table c ≡ at_most n s e
     → w.theory.is_transitive t ≡ true → w.theory.below t s ≡ false
 
 -- a search over the axioms of these numbers of an ontology in limit reaches the saturated trail, and i is its
 -- interpretation
-pub record IsSaturatedSearch (o : Listed) (ks : List ℕ) (q : Query) (table : List Shape) (rows : List Row) (k : ℕ) (trail : List Item) (i : Interpretation) : Type 0 where
+pub record IsSaturatedSearch (o : Listed) (ks : List ℕ) (q : Query) (table : List Shape) (rows : List Row) (k : ℕ)
+    (trail : List Item) (i : Interpretation) : Type 0 where
   pub in_limit : IsInLimit o q
   pub reached : IsReached (question_in o ks q) table rows k trail
   pub is_saturated : IsSaturated (context_of (question_in o ks q) table rows) trail
@@ -57,69 +59,95 @@ FirstNodesAreElements = (first : ℕ) (fs : List (Fact ℕ)) (x : ℕ) → x < f
 
 -- different elements are different nodes, so that different successors of a node are different elements
 abbrev pub ElementsDiffer : Type 0
-ElementsDiffer = (first : ℕ) (fs : List (Fact ℕ)) (v u : ℕ) → v < u → u < length (elements first fs) → node_at first fs v < node_at first fs u
+ElementsDiffer = (first : ℕ) (fs : List (Fact ℕ)) (v u : ℕ) → v < u → u < length (elements first fs)
+    → node_at first fs v < node_at first fs u
 
 -- each successor of the node that an element is like is an element
 abbrev pub SuccessorsAreElements : Type 0
-SuccessorsAreElements = (o : Listed) (ks : List ℕ) (q : Query) (table : List Shape) (rows : List Row) (k : ℕ) (trail : List Item) (i : Interpretation)
+SuccessorsAreElements =
+    (o : Listed) (ks : List ℕ) (q : Query) (table : List Shape) (rows : List Row) (k : ℕ) (trail : List Item)
+    (i : Interpretation)
     → IsSaturatedSearch o ks q table rows k trail i → (s v y : ℕ) → v < i.size
-    → LeadsTo (context_of (question_in o ks q) table rows) (facts_of trail) s (node_at (question_in o ks q).first (facts_of trail) v) y
+    → LeadsTo (context_of (question_in o ks q) table rows) (facts_of trail) s
+    (node_at (question_in o ks q).first (facts_of trail) v) y
     → (u : ℕ) × (u < i.size) × (node_at (question_in o ks q).first (facts_of trail) u ≡ y)
 
 -- the label of an element is part of that of the node which it is like
 abbrev pub LabelsArePart : Type 0
-LabelsArePart = (o : Listed) (ks : List ℕ) (q : Query) (table : List Shape) (rows : List Row) (k : ℕ) (trail : List Item) (i : Interpretation)
+LabelsArePart =
+    (o : Listed) (ks : List ℕ) (q : Query) (table : List Shape) (rows : List Row) (k : ℕ) (trail : List Item)
+    (i : Interpretation)
     → IsSaturatedSearch o ks q table rows k trail i → (v c : ℕ) → v < i.size
     → has (facts_of trail) (node_at (question_in o ks q).first (facts_of trail) v) c ≡ true
-    → has (facts_of trail) (original (question_in o ks q).first (facts_of trail) (node_at (question_in o ks q).first (facts_of trail) v)) c ≡ true
+    → has (facts_of trail)
+    (original (question_in o ks q).first (facts_of trail) (node_at (question_in o ks q).first (facts_of trail) v)) c
+    ≡ true
 
 -- ---- truth
 
 -- an element is in each concept that the node which it is like has
 abbrev pub LabelsAreTrue : Type 0
-LabelsAreTrue = (o : Listed) (ks : List ℕ) (q : Query) (table : List Shape) (rows : List Row) (k : ℕ) (trail : List Item) (i : Interpretation)
+LabelsAreTrue =
+    (o : Listed) (ks : List ℕ) (q : Query) (table : List Shape) (rows : List Row) (k : ℕ) (trail : List Item)
+    (i : Interpretation)
     → IsSaturatedSearch o ks q table rows k trail i → (v c : ℕ) → v < i.size → c < length table
-    → has (facts_of trail) (original (question_in o ks q).first (facts_of trail) (node_at (question_in o ks q).first (facts_of trail) v)) c ≡ true
+    → has (facts_of trail)
+    (original (question_in o ks q).first (facts_of trail) (node_at (question_in o ks q).first (facts_of trail) v)) c
+    ≡ true
     → holds i (tree_of table c) v ≡ true
 
 -- each part of the axioms is met, by the row that is chosen for it
 abbrev pub PartsAreMet : Type 0
-PartsAreMet = (o : Listed) (ks : List ℕ) (q : Query) (table : List Shape) (rows : List Row) (k : ℕ) (trail : List Item) (i : Interpretation)
+PartsAreMet =
+    (o : Listed) (ks : List ℕ) (q : Query) (table : List Shape) (rows : List Row) (k : ℕ) (trail : List Item)
+    (i : Interpretation)
     → IsSaturatedSearch o ks q table rows k trail i → MeetsParts (theory_of o.axioms ks) i
 
 -- so are their roles
 abbrev pub RolesAreMet : Type 0
-RolesAreMet = (o : Listed) (ks : List ℕ) (q : Query) (table : List Shape) (rows : List Row) (k : ℕ) (trail : List Item) (i : Interpretation)
+RolesAreMet =
+    (o : Listed) (ks : List ℕ) (q : Query) (table : List Shape) (rows : List Row) (k : ℕ) (trail : List Item)
+    (i : Interpretation)
     → IsSaturatedSearch o ks q table rows k trail i → MeetsRoles (theory_of o.axioms ks) i
 
 -- and what they assert of individuals
 abbrev pub AssertionsAreMet : Type 0
-AssertionsAreMet = (o : Listed) (ks : List ℕ) (q : Query) (table : List Shape) (rows : List Row) (k : ℕ) (trail : List Item) (i : Interpretation)
+AssertionsAreMet =
+    (o : Listed) (ks : List ℕ) (q : Query) (table : List Shape) (rows : List Row) (k : ℕ) (trail : List Item)
+    (i : Interpretation)
     → IsSaturatedSearch o ks q table rows k trail i → MeetsFacts (question_in o ks q).fact_of i
 
 -- ---- the interpretation is computed
 
 -- in each reached trail, where each transitive role is below a limit, what is computed is the built interpretation
 abbrev pub ComputedIsBuilt : Type 0
-ComputedIsBuilt = (w : SearchContext) (at sub not_sup k : ℕ) (trail : List Item) → at < w.first → Follows w (start at sub not_sup) k trail
-    → (limit : ℕ) → ((t : ℕ) → w.theory.is_transitive t ≡ true → t < limit) → IsBuilt w (facts_of trail) (built w (facts_of trail) limit)
+ComputedIsBuilt = (w : SearchContext) (at sub not_sup k : ℕ) (trail : List Item) → at < w.first
+    → Follows w (start at sub not_sup) k trail
+    → (limit : ℕ) → ((t : ℕ) → w.theory.is_transitive t ≡ true → t < limit)
+    → IsBuilt w (facts_of trail) (built w (facts_of trail) limit)
 
 -- a set that has what edges from x lead to, and what edges from its members lead to, has the end of each chain from x
 abbrev pub ChainsStayWithin : Type 0
-ChainsStayWithin = (w : SearchContext) (fs : List (Fact ℕ)) (t : ℕ) (s : ℕ → Bool) → ((y z : ℕ) → s y ≡ true → LeadsTo w fs t y z → s z ≡ true)
+ChainsStayWithin = (w : SearchContext) (fs : List (Fact ℕ)) (t : ℕ) (s : ℕ → Bool)
+    → ((y z : ℕ) → s y ≡ true → LeadsTo w fs t y z → s z ≡ true)
     → (x y : ℕ) → ((z : ℕ) → LeadsTo w fs t x z → s z ≡ true) → IsChain w fs t x y → s y ≡ true
 
 -- ---- counter-models
 
 -- in each reached trail the labels count simple roles alone
 abbrev pub LabelsCountSimple : Type 0
-LabelsCountSimple = (o : Listed) (ks : List ℕ) (q : Query) (table : List Shape) (rows : List Row) (k : ℕ) (trail : List Item)
-    → IsInLimit o q → IsReached (question_in o ks q) table rows k trail → CountsSimple (context_of (question_in o ks q) table rows) (facts_of trail)
+LabelsCountSimple =
+    (o : Listed) (ks : List ℕ) (q : Query) (table : List Shape) (rows : List Row) (k : ℕ) (trail : List Item)
+    → IsInLimit o q → IsReached (question_in o ks q) table rows k trail
+    → CountsSimple (context_of (question_in o ks q) table rows) (facts_of trail)
 
 -- the element that the node in question is one with is a counter-example
 abbrev pub NodeInQuestionRefutes : Type 0
-NodeInQuestionRefutes = (o : Listed) (ks : List ℕ) (q : Query) (table : List Shape) (rows : List Row) (k : ℕ) (trail : List Item) (i : Interpretation)
-    → IsSaturatedSearch o ks q table rows k trail i → (v : ℕ) → IsNumberOf (question_in o ks q).first (facts_of trail) (question_in o ks q).at v
+NodeInQuestionRefutes =
+    (o : Listed) (ks : List ℕ) (q : Query) (table : List Shape) (rows : List Row) (k : ℕ) (trail : List Item)
+    (i : Interpretation)
+    → IsSaturatedSearch o ks q table rows k trail i → (v : ℕ)
+    → IsNumberOf (question_in o ks q).first (facts_of trail) (question_in o ks q).at v
     → refutes_at i q v ≡ true
 
 -- the classes that have elements and the roles that have pairs are listed, and so is each individual that is another
@@ -142,11 +170,14 @@ pub record IsCounterModel (o : Listed) (ks : List ℕ) (q : Query) (i : Interpre
 
 -- the interpretation of a saturated trail that a search reaches is a counter-model
 abbrev pub SaturatedIsCounterModel : Type 0
-SaturatedIsCounterModel = (o : Listed) (ks : List ℕ) (q : Query) (table : List Shape) (rows : List Row) (k : ℕ) (trail : List Item) (i : Interpretation)
+SaturatedIsCounterModel =
+    (o : Listed) (ks : List ℕ) (q : Query) (table : List Shape) (rows : List Row) (k : ℕ) (trail : List Item)
+    (i : Interpretation)
     → IsSaturatedSearch o ks q table rows k trail i → IsCounterModel o ks q i
 
 -- so where a search saturates, the axioms of these numbers do not entail the query
 abbrev pub SaturatedDoesNotEntail : Type 0
-SaturatedDoesNotEntail = (o : Listed) (ks : List ℕ) (q : Query) (table : List Shape) (rows : List Row) (k : ℕ) (trail : List Item)
+SaturatedDoesNotEntail =
+    (o : Listed) (ks : List ℕ) (q : Query) (table : List Shape) (rows : List Row) (k : ℕ) (trail : List Item)
     → IsInLimit o q → IsReached (question_in o ks q) table rows k trail
     → IsSaturated (context_of (question_in o ks q) table rows) trail → ¬ Entails (named_axioms o.axioms ks) q

@@ -1,6 +1,7 @@
 -- Worked examples of searches over individuals. Nodes 0 to 2 are the individuals, and node 3 is an element without a
 -- name. The table's numbers are: 0 top, 1 a class, 2 'at most 1 of role 7', 3 'some of role 7 in 1'.
-use Rattle.std.specs.Prelude.{◌≡◌, ◌<◌, ℕ, zero, suc, true, false, ◌==◌, List, [], ◌∷◌, ◌++◌, length, take, slice_get, Option, Some, None, refl}
+use Rattle.std.specs.Prelude.{◌≡◌, ◌<◌, ℕ, zero, suc, true, false, ◌==◌, List, [], ◌∷◌, ◌++◌, length, take, slice_get}
+use Rattle.std.specs.Prelude.{Option, Some, None, refl}
 use Rattle.std.specs.List.{count_by}
 use Rattle.std.proofs.lemmas.List.Elements.{All-nil}
 use Rattle.std.proofs.Common.{lit<, ap, sym, subst, ◌∙◌, arith, inr}
@@ -17,7 +18,8 @@ use Rattle.calculus_specs.specs.Rows.Trigger.{always}
 use Rattle.calculus_specs.specs.declared.facts.Fact.{Fact}
 use Rattle.calculus_specs.specs.declared.facts.Fact.TheVariants.{Has, Edge, Apart, Same}
 use Rattle.calculus_specs.specs.Joins.{rep}
-use Rattle.calculus_specs.specs.State.{node_count_from, parent_from, has, is_label_part, are_apart, all_apart, successors_from, is_so}
+use Rattle.calculus_specs.specs.State.{node_count_from, parent_from, has, is_label_part, are_apart, all_apart}
+use Rattle.calculus_specs.specs.State.{successors_from, is_so}
 use Rattle.tableau_specs.specs.declared.Block.TheVariants.{Clear, By, Under}
 use Rattle.tableau_specs.specs.declared.Branch.TheVariants.{Pair}
 use Rattle.tableau_specs.specs.declared.Choice.{Choice}
@@ -70,10 +72,12 @@ successors_in fs x s e = filled_successors 4 (λ r t. r == t) fs x s e
 
 -- the node is in 'at most 1 of role 7', and has more such successors, which are pairwise apart
 abbrev IsFull : List (Fact ℕ) → ℕ → Type 0
-IsFull fs x = (has fs x 2 ≡ true) × (1 < length (successors_in fs x 7 0)) × (all_apart fs (successors_in fs x 7 0) ≡ true)
+IsFull fs x = (has fs x 2 ≡ true) × (1 < length (successors_in fs x 7 0))
+    × (all_apart fs (successors_in fs x 7 0) ≡ true)
 
 is_full : (fs : List (Fact ℕ)) (x c n s e : ℕ) → (c ≡ 2) × (n ≡ 1) × (s ≡ 7) × (e ≡ 0)
-    → has fs x c ≡ true → n < length (successors_in fs x s e) → all_apart fs (successors_in fs x s e) ≡ true → IsFull fs x
+    → has fs x c ≡ true → n < length (successors_in fs x s e) → all_apart fs (successors_in fs x s e) ≡ true
+    → IsFull fs x
 is_full fs x c n s e m h more every =
     let h2 = subst (λ (d : ℕ). has fs x d ≡ true) m.0 h in
     let more1 = subst (λ (k : ℕ). k < length (successors_in fs x s e)) m.1 more in
@@ -84,12 +88,18 @@ is_full fs x c n s e m h more every =
     (h2, more0, every0)
 
 -- none, where no two nodes are apart and no node is full
-no_plain : (given : ℕ → ℕ → Option (Fact Concept)) (parts : List NumberedPart) (rows : List Row) (is : List Item) (n : ℕ) → node_count_from 4 (facts_of is) ≡ n
-    → ((y z : ℕ) → are_apart (facts_of is) y z ≡ false) → ((x : ℕ) → x < n → ¬ IsFull (facts_of is) x) → ¬ HasPlainClash (over given parts rows) is
-no_plain given parts rows is n count none out (plain_bottom x c lt h sh) = subst (λ (s : Shape). IsMild s c) sh (mild_table c)
-no_plain given parts rows is n count none out (plain_names x c d a lt h sh g th) = subst (λ (s : Shape). IsMild s d) th (mild_table d)
+no_plain : (given : ℕ → ℕ → Option (Fact Concept)) (parts : List NumberedPart) (rows : List Row) (is : List Item)
+    (n : ℕ)
+    → node_count_from 4 (facts_of is) ≡ n
+    → ((y z : ℕ) → are_apart (facts_of is) y z ≡ false) → ((x : ℕ) → x < n → ¬ IsFull (facts_of is) x)
+    → ¬ HasPlainClash (over given parts rows) is
+no_plain given parts rows is n count none out (plain_bottom x c lt h sh) =
+    subst (λ (s : Shape). IsMild s c) sh (mild_table c)
+no_plain given parts rows is n count none out (plain_names x c d a lt h sh g th) =
+    subst (λ (s : Shape). IsMild s d) th (mild_table d)
 no_plain given parts rows is n count none out (plain_most x c k s e lt h sh more every) =
-    out x (subst (λ (m : ℕ). x < m) count lt) (is_full (facts_of is) x c k s e (subst (λ (s' : Shape). IsMild s' c) sh (mild_table c)) h more every)
+    out x (subst (λ (m : ℕ). x < m) count lt)
+    (is_full (facts_of is) x c k s e (subst (λ (s' : Shape). IsMild s' c) sh (mild_table c)) h more every)
 no_plain given parts rows is n count none out (plain_differ y z lt mt apart same) = let l = none y z in cc
 
 -- ---- two individuals are one, since a third may have one successor alone
@@ -170,7 +180,8 @@ one_is_not_two e = omega (arith, e)
 pub joins_them : IsLegal (over told [] []) twice joined
 joins_them =
     choose (choice 1 2) (Same 1 2) (no_plain told [] [] twice 4 refl (λ y z. refl) twice_out)
-    (on_pair 0 2 1 7 0 1 2 (lit< tt) refl refl (lit< tt) (0, lit< tt, refl) (1, lit< tt, refl) one_is_not_two refl) refl (of_joining 1 2)
+    (on_pair 0 2 1 7 0 1 2 (lit< tt) refl refl (lit< tt) (0, lit< tt, refl) (1, lit< tt, refl) one_is_not_two refl) refl
+    (of_joining 1 2)
 
 pub four_steps : Follows (over told [] []) (start 3 1 0) 4 joined
 four_steps = (twice, (linked, (limited, (asked, refl, gives_the_limit), gives_an_edge), gives_another), joins_them)
@@ -199,7 +210,8 @@ pub two_successors_again : successors_from 4 (facts_of (take 5 joined)) (λ r. r
 two_successors_again = refl
 
 -- what is given is so by then, and is not given again
-pub each_is_so : (is_so (facts_of joined) (Has 0 2) ≡ true) × (is_so (facts_of joined) (Edge 7 0 1) ≡ true) × (is_so (facts_of joined) (Edge 7 0 2) ≡ true)
+pub each_is_so : (is_so (facts_of joined) (Has 0 2) ≡ true) × (is_so (facts_of joined) (Edge 7 0 1) ≡ true)
+    × (is_so (facts_of joined) (Edge 7 0 2) ≡ true)
 each_is_so = (refl, refl, refl)
 
 -- ---- a query on an individual, which has a named successor and one without a name
@@ -261,7 +273,8 @@ one_is_not_four e = omega (arith, e)
 pub joins_it_with_the_named : IsLegal (over one_edge [] []) with_unnamed identified
 joins_it_with_the_named =
     choose (choice 1 4) (Same 1 4) (no_plain one_edge [] [] with_unnamed 5 refl (λ y z. refl) with_unnamed_out)
-    (on_pair 0 2 1 7 0 1 4 (lit< tt) refl refl (lit< tt) (0, lit< tt, refl) (1, lit< tt, refl) one_is_not_four refl) refl (of_joining 1 4)
+    (on_pair 0 2 1 7 0 1 4 (lit< tt) refl refl (lit< tt) (0, lit< tt, refl) (1, lit< tt, refl) one_is_not_four refl)
+    refl (of_joining 1 4)
 
 pub three_steps : Follows (over one_edge [] []) (start 0 3 2) 3 identified
 three_steps = (with_unnamed, (with_named, (asked_of_it, refl, gives_the_edge), makes_another), joins_it_with_the_named)
@@ -295,7 +308,8 @@ chain = Has 0 1 ∷ Has 1 1 ∷ Edge 7 1 4 ∷ Has 4 1 ∷ Edge 7 4 5 ∷ Has 5 
 pub earlier_has_as_much : is_label_part chain 1 0 ≡ true
 earlier_has_as_much = refl
 
-pub individuals_are_clear : (block_of 4 chain 0 ≡ Clear) × (block_of 4 chain 1 ≡ Clear) × (block_of 4 chain 2 ≡ Clear) × (block_of 4 chain 3 ≡ Clear)
+pub individuals_are_clear : (block_of 4 chain 0 ≡ Clear) × (block_of 4 chain 1 ≡ Clear) × (block_of 4 chain 2 ≡ Clear)
+    × (block_of 4 chain 3 ≡ Clear)
 individuals_are_clear = (refl, refl, refl, refl)
 
 -- a node below it is blocked by the least that has as much, here an individual that is not above it
@@ -316,7 +330,8 @@ clear_below_it = refl
 abbrev with_edges : List (Fact ℕ)
 with_edges = chain ++ Edge 7 0 1 ∷ Edge 7 1 0 ∷ Edge 7 2 2 ∷ []
 
-pub clear_as_before : (block_of 4 with_edges 0 ≡ Clear) × (block_of 4 with_edges 1 ≡ Clear) × (block_of 4 with_edges 2 ≡ Clear) × (block_of 4 with_edges 3 ≡ Clear)
+pub clear_as_before : (block_of 4 with_edges 0 ≡ Clear) × (block_of 4 with_edges 1 ≡ Clear)
+    × (block_of 4 with_edges 2 ≡ Clear) × (block_of 4 with_edges 3 ≡ Clear)
 clear_as_before = (refl, refl, refl, refl)
 
 pub blocked_as_before : (block_of 4 with_edges 4 ≡ By 0) × (block_of 4 with_edges 5 ≡ Under)
@@ -336,7 +351,9 @@ abbrev functional : Row
 functional = record { axiom_number = 4; part_number = 1; trigger = always; concept = 2 }
 
 pub limits_an_individual : IsLegal (over told (one_at_most ∷ []) (functional ∷ [])) asked limited
-limits_an_individual = add 0 2 (no_plain told (one_at_most ∷ []) (functional ∷ []) asked 4 refl (λ y z. refl) asked_out) (by_row 0 functional (lit< tt) (0, lit< tt, refl) refl) refl
+limits_an_individual =
+    add 0 2 (no_plain told (one_at_most ∷ []) (functional ∷ []) asked 4 refl (λ y z. refl) asked_out)
+    (by_row 0 functional (lit< tt) (0, lit< tt, refl) refl) refl
 
 -- ---- four facts that clash
 
@@ -416,8 +433,10 @@ is_table = record {
 have_numbers : (a p : ℕ) (f : Fact Concept) → told_all a p ≡ Some f → HasNumbers 4 table f
 have_numbers (suc zero) (suc zero) f e = record { fact = Has 0 2; reads = cc; listed = refl; on_first = refl }
 have_numbers (suc (suc zero)) (suc zero) f e = record { fact = Edge 7 0 1; reads = cc; listed = refl; on_first = refl }
-have_numbers (suc (suc (suc zero))) (suc zero) f e = record { fact = Edge 7 0 2; reads = cc; listed = refl; on_first = refl }
-have_numbers (suc (suc (suc (suc zero)))) (suc zero) f e = record { fact = Apart 1 2; reads = cc; listed = refl; on_first = refl }
+have_numbers (suc (suc (suc zero))) (suc zero) f e =
+    record { fact = Edge 7 0 2; reads = cc; listed = refl; on_first = refl }
+have_numbers (suc (suc (suc (suc zero)))) (suc zero) f e =
+    record { fact = Apart 1 2; reads = cc; listed = refl; on_first = refl }
 have_numbers zero p f e = cc
 have_numbers (suc (suc (suc (suc (suc a))))) p f e = cc
 have_numbers (suc zero) zero f e = cc
@@ -432,7 +451,10 @@ have_numbers (suc (suc (suc (suc zero)))) (suc (suc p)) f e = cc
 pub reached : IsReached question table [] 4 parted
 reached = record {
   is_table = is_table;
-  is_choice = record { rows_fit = All-nil (IsRowOf (theory []) table); each_once = All-nil (λ n. count_by (λ r. is_row_of r n) [] ≡ 1) };
+  is_choice = record {
+    rows_fit = All-nil (IsRowOf (theory []) table);
+    each_once = All-nil (λ n. count_by (λ r. is_row_of r n) [] ≡ 1);
+  };
   facts_have_numbers = have_numbers;
   at_first = lit< tt;
   sub_number = 1;
@@ -452,7 +474,8 @@ pub clashes_plainly : HasPlainClash (context_of question table []) parted
 clashes_plainly = plain_most 0 2 1 7 0 (lit< tt) refl refl (lit< tt) refl
 
 pub four_steps_decide : (IsEntailed : Type 0) → IsEntailed → Costs question IsEntailed 4
-four_steps_decide IsEntailed yes' = record { table = table; rows = []; trail = parted; reached = reached; ends = inr (clashes, yes') }
+four_steps_decide IsEntailed yes' =
+    record { table = table; rows = []; trail = parted; reached = reached; ends = inr (clashes, yes') }
 
 -- ---- individuals that are said to be different, and are one
 

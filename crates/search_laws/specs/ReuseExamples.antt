@@ -72,7 +72,8 @@ no_plain_clash (plain_bottom x c lt h sh) = subst IsPlain sh (plain_each c)
 no_plain_clash (plain_names x c d a lt h sh g th) =
     let k : d ≡ 3 = complement_is_three d a th in
     let z : x ≡ 0 = omega (arith, lt) in
-    let f : has (facts_of first) 0 3 ≡ true = ap (λ (y : ℕ). has (facts_of first) y 3) (sym z) ∙ ap (has (facts_of first) x) (sym k) ∙ g in
+    let f : has (facts_of first) 0 3 ≡ true =
+    ap (λ (y : ℕ). has (facts_of first) y 3) (sym z) ∙ ap (has (facts_of first) x) (sym k) ∙ g in
     cc
 no_plain_clash (plain_most x c n s e lt h sh more every) = subst IsPlain sh (plain_each c)
 no_plain_clash (plain_differ y z lt mt apart one) = cc
@@ -99,7 +100,8 @@ none_of_twelve (suc (suc (suc zero))) = refl
 none_of_twelve (suc (suc (suc (suc c)))) = refl
 
 is_not_twelve : (c : ℕ) (s : Shape) → is_of_twelve s ≡ true → ¬ (shape_of table c ≡ s)
-is_not_twelve c s is e = (let k : is_of_twelve (shape_of table c) ≡ true = ap is_of_twelve e ∙ is in let l = none_of_twelve c in cc)
+is_not_twelve c s is e =
+    (let k : is_of_twelve (shape_of table c) ≡ true = ap is_of_twelve e ∙ is in let l = none_of_twelve c in cc)
 
 -- of class 12, which has no number, it shows that class 10 is not in it
 pub leaves_out_twelve : LeavesOut 0 table run 12

@@ -32,7 +32,8 @@ IsUnnamed q = (a p : ℕ) (f : Fact Concept) → q.fact_of a p ≡ Some f → no
 
 -- a query on any element asks of such a node
 abbrev pub AnyIsUnnamed : Type 0
-AnyIsUnnamed = (n : ℕ) (axioms : List Numbered) (ks : List ℕ) (q : Query) → q.on ≡ Any → IsUnnamed (question_of n axioms ks q)
+AnyIsUnnamed = (n : ℕ) (axioms : List Numbered) (ks : List ℕ) (q : Query) → q.on ≡ Any
+    → IsUnnamed (question_of n axioms ks q)
 
 -- the same question of another concept on the right
 abbrev pub with_sup : Question → Concept → Question
@@ -42,7 +43,9 @@ with_sup q sup = record { theory = q.theory; sub = q.sub; sup = sup; first = q.f
 -- node, and its run ends saturated and has nothing to do with whether the node is in class a, as many legal steps end
 -- saturated in the search whether `sub` is in a.
 abbrev pub OneRunAnswersMore : Type 0
-OneRunAnswersMore = (q : Question) (table : List Shape) (rows : List Row) (number k a : ℕ) (trail : List Item) (earlier : List (List Item))
+OneRunAnswersMore =
+    (q : Question) (table : List Shape) (rows : List Row) (number k a : ℕ) (trail : List Item)
+    (earlier : List (List Item))
     → IsTable table → IsChoice q.theory table rows → FactsHaveNumbers q table → q.at < q.first → IsUnnamed q
     → number < length table → tree_of table number ≡ normal_form q.sub
     → IsRun (context_of q table rows) (start q.at number 0) (trail ∷ earlier) → length earlier ≡ k
@@ -52,5 +55,8 @@ OneRunAnswersMore = (q : Question) (table : List Shape) (rows : List Row) (numbe
 -- What a legal step puts into a trail stands at its end: from any place on that is neither past the end of the old
 -- trail nor past the last item of the new one. So who has noted all facts of the old trail need look no further back.
 abbrev pub StepsPutLast : Type 0
-StepsPutLast = (w : SearchContext) (old new : List Item) → IsLegal w old new → (place : ℕ) → place ≤ length old → place ≤ length new - 1
-    → (p : Fact ℕ → Bool) → (list_any p (facts_of new) || list_any p (facts_of old)) ≡ (list_any p (facts_of (drop place new)) || list_any p (facts_of old))
+StepsPutLast = (w : SearchContext) (old new : List Item) → IsLegal w old new → (place : ℕ) → place ≤ length old
+    → place ≤ length new - 1
+    → (p : Fact ℕ → Bool)
+    → (list_any p (facts_of new) || list_any p (facts_of old))
+    ≡ (list_any p (facts_of (drop place new)) || list_any p (facts_of old))

@@ -39,6 +39,7 @@ puts_at at c (Same y z) = false
 -- which the class's complement is a part, and none gives the complement to any node
 pub record LeavesOut (at : ℕ) (table : List Shape) (run : List (List Item)) (a : ℕ) : Type 0 where
   pub class_is_not_there : (c : ℕ) → was_ever (puts_at at c) run ≡ true → ¬ (shape_of table c ≡ name a)
-  pub unions_there_lack_complement : (c d : ℕ) (parts : List ℕ) → was_ever (puts_at at c) run ≡ true → shape_of table c ≡ union parts → Contains parts d
+  pub unions_there_lack_complement : (c d : ℕ) (parts : List ℕ) → was_ever (puts_at at c) run ≡ true
+      → shape_of table c ≡ union parts → Contains parts d
       → ¬ (shape_of table d ≡ not_name a)
   pub complement_is_never_put : (c : ℕ) → was_ever (puts c) run ≡ true → ¬ (shape_of table c ≡ not_name a)

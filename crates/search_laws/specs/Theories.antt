@@ -8,7 +8,8 @@ use Rattle.shq_nnf.specs.Meeting.{meets_part, is_true}
 
 -- the pairs of a role are pairs of each role above it, and those of a transitive role are passed on
 pub record MeetsRoles (theory : Theory) (i : Interpretation) : Type 0 where
-  pub upward : (r s : ℕ) → theory.below r s ≡ true → (x y : ℕ) → x < i.size → y < i.size → i.in_role r x y ≡ true → i.in_role s x y ≡ true
+  pub upward : (r s : ℕ) → theory.below r s ≡ true → (x y : ℕ) → x < i.size → y < i.size → i.in_role r x y ≡ true
+      → i.in_role s x y ≡ true
   pub onward : (t : ℕ) → theory.is_transitive t ≡ true → (x y z : ℕ) → x < i.size → y < i.size → z < i.size
       → i.in_role t x y ≡ true → i.in_role t y z ≡ true → i.in_role t x z ≡ true
 

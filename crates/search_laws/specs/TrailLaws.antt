@@ -22,11 +22,15 @@ StartStays = (w : SearchContext) (at sub not_sup k : ℕ) (trail : List Item) �
 -- where a node has 'at most n', n successors with the filler at most are counted
 abbrev pub FewSuccessorsFit : Type 0
 FewSuccessorsFit = (w : SearchContext) (trail : List Item) → IsSaturated w trail
-    → (x c n s e : ℕ) → x < node_count_from w.first (facts_of trail) → has (facts_of trail) x c ≡ true → shape_of w.table c ≡ at_most n s e
+    → (x c n s e : ℕ) → x < node_count_from w.first (facts_of trail) → has (facts_of trail) x c ≡ true
+    → shape_of w.table c ≡ at_most n s e
     → length (filled_successors w.first (below_of w) (facts_of trail) x s e) ≤ n
 
 -- where all names that axioms use are listed, n of them individuals, the axioms of these numbers are met exactly where
 -- their theory is, and all facts that they give
 abbrev pub TheoriesAreTheirAxioms : Type 0
-TheoriesAreTheirAxioms = (i : Interpretation) (classes roles n : ℕ) (axioms : List Numbered) (ks : List ℕ) → all_use_listed classes roles n axioms ≡ true
-    → (meets_all i (named_axioms axioms ks) ≡ true) ↔ (MeetsRoles (theory_of axioms ks) i × MeetsParts (theory_of axioms ks) i × MeetsFacts (fact_of_axiom n axioms ks) i)
+TheoriesAreTheirAxioms = (i : Interpretation) (classes roles n : ℕ) (axioms : List Numbered) (ks : List ℕ)
+    → all_use_listed classes roles n axioms ≡ true
+    → (meets_all i (named_axioms axioms ks) ≡ true)
+    ↔ (MeetsRoles (theory_of axioms ks) i × MeetsParts (theory_of axioms ks) i
+    × MeetsFacts (fact_of_axiom n axioms ks) i)

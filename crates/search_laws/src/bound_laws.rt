@@ -21,7 +21,8 @@
 //! Two of the bounds are on the nodes that a trail has, and are close; they hold with individuals too. The one on all
 //! steps is beyond any budget, and says that without individuals no strategy runs for ever.
 ghost use Rattle.search_laws.specs.ComputedClosure.{ClosureIsComputed, ClosureOfAxiomsIsComputed};
-ghost use Rattle.search_laws.specs.BoundLaws.{ConceptsAreInClosure, PathsAreShort, FewChildren, FewNodes, FewStepsAtFirst, FewMarks, FewSteps, LegalRunsAreBounded};
+ghost use Rattle.search_laws.specs.BoundLaws.{ConceptsAreInClosure, PathsAreShort, FewChildren, FewNodes};
+ghost use Rattle.search_laws.specs.BoundLaws.{FewStepsAtFirst, FewMarks, FewSteps, LegalRunsAreBounded};
 
 /// Where the transitive roles are listed, and the concepts that axioms give to nodes, the closure is computed.
 pub fn the_closure_is_computed()

@@ -21,7 +21,11 @@
 //!   exactly where it chose that the successor is in the filler.
 //! - 'At most' counts edges alone, since no transitive role is below the role: the limits of an ontology say that each
 //!   counted role is simple.
-ghost use Rattle.search_laws.specs.CounterModelLaws.{ElementsAreFew, FirstNodesAreElements, ElementsDiffer, SuccessorsAreElements, LabelsArePart, LabelsAreTrue, PartsAreMet, RolesAreMet, AssertionsAreMet, ComputedIsBuilt, ChainsStayWithin, LabelsCountSimple, NodeInQuestionRefutes, SaturatedIsCounterModel, SaturatedDoesNotEntail};
+ghost use Rattle.search_laws.specs.CounterModelLaws.{ElementsAreFew, FirstNodesAreElements, ElementsDiffer};
+ghost use Rattle.search_laws.specs.CounterModelLaws.{SuccessorsAreElements, LabelsArePart, LabelsAreTrue, PartsAreMet};
+ghost use Rattle.search_laws.specs.CounterModelLaws.{RolesAreMet, AssertionsAreMet, ComputedIsBuilt, ChainsStayWithin};
+ghost use Rattle.search_laws.specs.CounterModelLaws.{LabelsCountSimple, NodeInQuestionRefutes, SaturatedIsCounterModel};
+ghost use Rattle.search_laws.specs.CounterModelLaws.{SaturatedDoesNotEntail};
 
 /// There is an element, and there are at most as many elements as representatives.
 pub fn elements_are_few()

@@ -1,13 +1,19 @@
 -- The rows of a set are filed, and nothing else.
-use Rattle.std.proofs.Common.{◌≡◌, ◌⊎◌, ℕ, zero, suc, ◌+◌, ◌<◌, ◌&&◌, ◌||◌, ltb, Bool, true, false, eqb, List, [], ◌∷◌, map, length, get_or, Some, refl, ap, sym, subst, ◌∙◌, inl, inr, arith, cond}
+use Rattle.std.proofs.Common.{◌≡◌, ◌⊎◌, ℕ, zero, suc, ◌+◌, ◌<◌, ◌&&◌, ◌||◌, ltb, Bool, true, false, eqb, List, [], ◌∷◌}
+use Rattle.std.proofs.Common.{map, length, get_or, Some, refl, ap, sym, subst, ◌∙◌, inl, inr, arith, cond}
 use Rattle.std.specs.Prelude.{nat_eq, unwrap_or}
 use Rattle.std.specs.List.{All, Contains, flat_map, list_any, list_all, range_with_len}
 use Rattle.std.specs.Map.{lookup, keys_of}
 use Rattle.std.proofs.lemmas.Bool.{cases_Bool, eqb-true, eq-eqb, and_parts, and_from, ltb-true, or_cases}
-use Rattle.std.proofs.lemmas.List.Elements.{All-contains, All-contains_itself, Contains-append_left, Contains-append_right, Contains-append_cases}
-use Rattle.shq_terms.specs.Concept.{Concept, top, bottom, name, complement, intersection, union, some_of, all_of, at_least, at_most, exactly}
+use Rattle.std.proofs.lemmas.List.Elements.{All-contains, All-contains_itself, Contains-append_left}
+use Rattle.std.proofs.lemmas.List.Elements.{Contains-append_right, Contains-append_cases}
+use Rattle.shq_terms.specs.Concept.{Concept, top, bottom, name, complement, intersection, union, some_of, all_of}
+use Rattle.shq_terms.specs.Concept.{at_least, at_most, exactly}
 use Rattle.calculus_specs.specs.Shape.{Shape, shape_of, IsTable}
-use Rattle.calculus_specs.specs.Shape.Shape.{top as top_shape, bottom as bottom_shape, name as name_shape, not_name, intersection as intersection_shape, union as union_shape, some_of as some_shape, all_of as all_shape, at_least as least_shape, at_most as most_shape}
+use Rattle.calculus_specs.specs.Shape.Shape.{top as top_shape, bottom as bottom_shape, name as name_shape, not_name}
+use Rattle.calculus_specs.specs.Shape.Shape.{intersection as intersection_shape, union as union_shape}
+use Rattle.calculus_specs.specs.Shape.Shape.{some_of as some_shape, all_of as all_shape, at_least as least_shape}
+use Rattle.calculus_specs.specs.Shape.Shape.{at_most as most_shape}
 use Rattle.calculus_specs.specs.Tree.{tree_over, trees_of, tree_of}
 use Rattle.calculus_specs.specs.Rows.{Part, part_at, conjunct_at, Trigger as PlainTrigger, Row as PlainRowOf}
 use Rattle.calculus_specs.specs.Rows.Part.{inclusion, range}
@@ -20,7 +26,8 @@ use Rattle.calculus_specs.specs.Joins.{rep}
 use Rattle.calculus_specs.specs.State.{node_count_from, has, label, has_edge, gives_edge, is_successor}
 use Rattle.calculus_specs.proofs.Joined.{rep-joined, joined-rep}
 use Rattle.calculus_specs.proofs.State.{any-label}
-use Rattle.tableau_specs.specs.Steps.{SearchContext, below_of, is_named, has_name, has_names, begins_edge, ends_edge, is_triggered, is_used_at}
+use Rattle.tableau_specs.specs.Steps.{SearchContext, below_of, is_named, has_name, has_names, begins_edge, ends_edge}
+use Rattle.tableau_specs.specs.Steps.{is_triggered, is_used_at}
 use Rattle.tableau_specs.proofs.Listed.{listed}
 use Rattle.tableau_specs.proofs.Moved.{has_at, edge_to}
 use Rattle.absorption.specs.Triggers.{trigger_for, premises_for}
@@ -36,7 +43,8 @@ use Rattle.step_finders.specs.declared.state.PlainRow.{PlainRow}
 use Rattle.step_finders.specs.Found.{IsPlain, IsAtEdge, IsNamed, AreFiled, PlainHolds, NamedHold, HoldsRows}
 use Rattle.search_rules.specs.declared.edge_tables.Side.TheVariants.{Begin, End as Finish}
 use Rattle.search_rules.specs.RuleLists.{RuleLists, theory_in, context_in, IsReady}
-use Rattle.search_rules.specs.Files.{plain_of, positions_of, named_of, rows_at_shape, waits_for, row_if, passing_rows, rows_above, edge_rows, files_in}
+use Rattle.search_rules.specs.Files.{plain_of, positions_of, named_of, rows_at_shape, waits_for, row_if, passing_rows}
+use Rattle.search_rules.specs.Files.{rows_above, edge_rows, files_in}
 
 -- ---- members of lists
 
@@ -65,13 +73,17 @@ in_map : {A B : Type 0} (f : A → B) (xs : List A) (y : B) → Contains (map f 
 in_map f [] y h = absurd (none_in y h)
 in_map f (x ∷ xs) y h = elim (Contains-append_cases (f x ∷ []) (map f xs) y h) [
   | inl here ↦ record { of = x; is_in = first_in x xs; gives = only_one (f x) y here }
-  | inr later ↦ let m = in_map f xs y later in record { of = m.of; is_in = Contains-append_right (x ∷ []) xs m.of m.is_in; gives = m.gives }
+  | inr later ↦
+      let m = in_map f xs y later in
+      record { of = m.of; is_in = Contains-append_right (x ∷ []) xs m.of m.is_in; gives = m.gives }
 ]
 
 to_map : {A B : Type 0} (f : A → B) (xs : List A) (x : A) → Contains xs x → Contains (map f xs) (f x)
 to_map f [] x h = absurd (none_in x h)
 to_map f (z ∷ xs) x h = elim (Contains-append_cases (z ∷ []) xs x h) [
-  | inl here ↦ let same : z ≡ x = only_one z x here in subst (λ y. Contains (f z ∷ map f xs) (f y)) same (first_in (f z) (map f xs))
+  | inl here ↦
+      let same : z ≡ x = only_one z x here in
+      subst (λ y. Contains (f z ∷ map f xs) (f y)) same (first_in (f z) (map f xs))
   | inr later ↦ Contains-append_right (f z ∷ []) (map f xs) (f x) (to_map f xs x later)
 ]
 
@@ -84,13 +96,18 @@ in_flat : {A B : Type 0} (f : A → List B) (xs : List A) (y : B) → Contains (
 in_flat f [] y h = absurd (none_in y h)
 in_flat f (x ∷ xs) y h = elim (Contains-append_cases (f x) (flat_map f xs) y h) [
   | inl here ↦ record { by = x; is_in = first_in x xs; gives = here }
-  | inr later ↦ let g = in_flat f xs y later in record { by = g.by; is_in = Contains-append_right (x ∷ []) xs g.by g.is_in; gives = g.gives }
+  | inr later ↦
+      let g = in_flat f xs y later in
+      record { by = g.by; is_in = Contains-append_right (x ∷ []) xs g.by g.is_in; gives = g.gives }
 ]
 
-to_flat : {A B : Type 0} (f : A → List B) (xs : List A) (x : A) (y : B) → Contains xs x → Contains (f x) y → Contains (flat_map f xs) y
+to_flat : {A B : Type 0} (f : A → List B) (xs : List A) (x : A) (y : B) → Contains xs x → Contains (f x) y
+    → Contains (flat_map f xs) y
 to_flat f [] x y h is = absurd (none_in x h)
 to_flat f (z ∷ xs) x y h is = elim (Contains-append_cases (z ∷ []) xs x h) [
-  | inl here ↦ let same : z ≡ x = only_one z x here in Contains-append_left (f z) (flat_map f xs) y (subst (λ v. Contains (f v) y) (sym same) is)
+  | inl here ↦
+      let same : z ≡ x = only_one z x here in
+      Contains-append_left (f z) (flat_map f xs) y (subst (λ v. Contains (f v) y) (sym same) is)
   | inr later ↦ Contains-append_right (f z) (flat_map f xs) y (to_flat f xs x y later is)
 ]
 
@@ -104,7 +121,9 @@ passing : {A : Type 0} (p : A → Bool) (xs : List A) → list_any p xs ≡ true
 passing p [] h = cc
 passing p (x ∷ xs) h = elim (or_cases (p x) (list_any p xs) h) [
   | inl here ↦ record { it = x; is_in = first_in x xs; passes = here }
-  | inr later ↦ let m = passing p xs later in record { it = m.it; is_in = Contains-append_right (x ∷ []) xs m.it m.is_in; passes = m.passes }
+  | inr later ↦
+      let m = passing p xs later in
+      record { it = m.it; is_in = Contains-append_right (x ∷ []) xs m.it m.is_in; passes = m.passes }
 ]
 
 any_with : {A : Type 0} (p : A → Bool) (xs : List A) (x : A) → Contains xs x → p x ≡ true → list_any p xs ≡ true
@@ -139,7 +158,10 @@ under_key : (es : RowsByNumber) (k : ℕ) (r : Row) → Contains (rows_under es 
 under_key [] k r h = absurd (none_in r h)
 under_key (f ∷ fs) k r h = elim (cases_Bool (eqb k f.0)) [
   | inl hit ↦ subst (λ (n : ℕ). Contains (f.0 ∷ keys_of fs) n) (sym (eqb-true k f.0 hit)) (first_in f.0 (keys_of fs))
-  | inr miss ↦ Contains-append_right (f.0 ∷ []) (keys_of fs) k (under_key fs k r (subst (λ (b : Bool). Contains (unwrap_or (cond b (Some f.1) (lookup (nat_eq k) fs)) []) r) miss h))
+  | inr miss ↦
+      Contains-append_right (f.0 ∷ []) (keys_of fs) k
+      (under_key fs k r
+      (subst (λ (b : Bool). Contains (unwrap_or (cond b (Some f.1) (lookup (nat_eq k) fs)) []) r) miss h))
 ]
 
 -- ---- edges
@@ -165,11 +187,15 @@ led fs roles x y h = of m.it m.is_in m.passes
         let a = and_parts (roles r) (eqb (rep fs v) (rep fs x)) b.0 in
         let here : has_edge fs (λ q. eqb q r) x y ≡ true =
         any_with (gives_edge (λ q. eqb q r) (rep fs) (rep fs x) (rep fs y)) fs (EdgeFact r v z) is
-        (and_from (eqb r r && eqb (rep fs v) (rep fs x)) (eqb (rep fs z) (rep fs y)) (and_from (eqb r r) (eqb (rep fs v) (rep fs x)) (eq-eqb r r refl) a.1) b.1) in
+        (and_from (eqb r r && eqb (rep fs v) (rep fs x)) (eqb (rep fs z) (rep fs y))
+        (and_from (eqb r r) (eqb (rep fs v) (rep fs x)) (eq-eqb r r refl) a.1) b.1) in
         record {
           role = r;
           is_one = a.0;
-          next = and_from (eqb (rep fs (rep fs y)) (rep fs y)) (has_edge fs (λ q. eqb q r) x (rep fs y)) (eq-eqb (rep fs (rep fs y)) (rep fs y) (rep_twice fs y)) (edge_to fs (λ q. eqb q r) (rep fs y) y x (rep_twice fs y) ∙ here);
+          next =
+              and_from (eqb (rep fs (rep fs y)) (rep fs y)) (has_edge fs (λ q. eqb q r) x (rep fs y))
+              (eq-eqb (rep fs (rep fs y)) (rep fs y) (rep_twice fs y))
+              (edge_to fs (λ q. eqb q r) (rep fs y) y x (rep_twice fs y) ∙ here);
         }
     of (Has v c) is g = cc
     of (Apart v z) is g = cc
@@ -190,22 +216,26 @@ record AtEdge (below : ℕ → ℕ → Bool) (p : Trigger → Bool) (lists : Row
   passes : p row.trigger ≡ true
   is : plain_of row ≡ u
 
-at_edge : (below : ℕ → ℕ → Bool) (p : Trigger → Bool) (lists : RowsByNumber) (s : ℕ) (u : PlainRow) → Contains (edge_rows below p lists s) u → AtEdge below p lists s u
+at_edge : (below : ℕ → ℕ → Bool) (p : Trigger → Bool) (lists : RowsByNumber) (s : ℕ) (u : PlainRow)
+    → Contains (edge_rows below p lists s) u → AtEdge below p lists s u
 at_edge below p lists s u h =
     let g = in_flat (rows_above below p lists s) (keys_of lists) u h in by g.by (below s g.by) refl g.gives
   where
-    by : (e : ℕ) (b : Bool) → below s e ≡ b → Contains (cond b (passing_rows p (rows_under lists e)) []) u → AtEdge below p lists s u
+    by : (e : ℕ) (b : Bool) → below s e ≡ b → Contains (cond b (passing_rows p (rows_under lists e)) []) u
+        → AtEdge below p lists s u
     by e true above is =
         let q = in_flat (λ (r : Row). row_if (p r.trigger) r) (rows_under lists e) u is in
         let t = row_in (p q.by.trigger) q.by u q.gives in
         record { role = e; above = above; row = q.by; stands = q.is_in; passes = t.0; is = t.1 }
     by e false above is = absurd (none_in u is)
 
-to_edge : (below : ℕ → ℕ → Bool) (p : Trigger → Bool) (lists : RowsByNumber) (s e : ℕ) (q : Row) → below s e ≡ true → Contains (rows_under lists e) q → p q.trigger ≡ true → Contains (edge_rows below p lists s) (plain_of q)
+to_edge : (below : ℕ → ℕ → Bool) (p : Trigger → Bool) (lists : RowsByNumber) (s e : ℕ) (q : Row) → below s e ≡ true
+    → Contains (rows_under lists e) q → p q.trigger ≡ true → Contains (edge_rows below p lists s) (plain_of q)
 to_edge below p lists s e q above is passes =
     to_flat (rows_above below p lists s) (keys_of lists) e (plain_of q) (under_key lists e q is)
     (subst (λ (b : Bool). Contains (cond b (passing_rows p (rows_under lists e)) []) (plain_of q)) (sym above)
-    (to_flat (λ (r : Row). row_if (p r.trigger) r) (rows_under lists e) q (plain_of q) is (subst (λ (b : Bool). Contains (row_if b q) (plain_of q)) (sym passes) (first_in (plain_of q) []))))
+    (to_flat (λ (r : Row). row_if (p r.trigger) r) (rows_under lists e) q (plain_of q) is
+    (subst (λ (b : Bool). Contains (row_if b q) (plain_of q)) (sym passes) (first_in (plain_of q) []))))
 
 -- ---- names
 
@@ -242,7 +272,8 @@ module _ (w : SearchContext) (good : IsTable w.table) (fs : List (Fact ℕ)) (x 
   listed_name c a is = listed w.table c (λ same. (let e = sym same ∙ is in cc))
 
   -- a node with a name has each number of it
-  name_had : (a n : ℕ) → n < length w.table → tree_of w.table n ≡ name a → list_any (λ c. is_named a (shape_of w.table c)) (label fs x) ≡ true → has fs x n ≡ true
+  name_had : (a n : ℕ) → n < length w.table → tree_of w.table n ≡ name a
+      → list_any (λ c. is_named a (shape_of w.table c)) (label fs x) ≡ true → has fs x n ≡ true
   name_had a n lt is any =
       let m = passing (λ c. is_named a (shape_of w.table c)) (label fs x) any in
       let here = name_of_tree (trees_of w.table) (shape_of w.table n) a (sym (shape_tree w.table good n lt) ∙ is) in
@@ -250,7 +281,8 @@ module _ (w : SearchContext) (good : IsTable w.table) (fs : List (Fact ℕ)) (x 
       let same : m.it ≡ n = good.are_distinct m.it n (listed_name m.it a there) lt (there ∙ sym here) in
       subst (λ (k : ℕ). has fs x k ≡ true) same (in_label m.it m.is_in)
 
-  concept_had : (c : Concept) (n : ℕ) → n < length w.table → tree_of w.table n ≡ c → has_name w fs x c ≡ true → has fs x n ≡ true
+  concept_had : (c : Concept) (n : ℕ) → n < length w.table → tree_of w.table n ≡ c → has_name w fs x c ≡ true
+      → has fs x n ≡ true
   concept_had (name a) n lt is any = name_had a n lt is any
   concept_had top n lt is any = cc
   concept_had bottom n lt is any = cc
@@ -263,16 +295,19 @@ module _ (w : SearchContext) (good : IsTable w.table) (fs : List (Fact ℕ)) (x 
   concept_had (at_most k r c) n lt is any = cc
   concept_had (exactly k r c) n lt is any = cc
 
-  all_had : (cs : List Concept) (ps ns : List ℕ) → list_all (λ n. ltb n (length w.table)) ns ≡ true → trees_at w.table ns ≡ map (conjunct_at cs) ps → list_all (λ i. has_name w fs x (conjunct_at cs i)) ps ≡ true
+  all_had : (cs : List Concept) (ps ns : List ℕ) → list_all (λ n. ltb n (length w.table)) ns ≡ true
+      → trees_at w.table ns ≡ map (conjunct_at cs) ps → list_all (λ i. has_name w fs x (conjunct_at cs i)) ps ≡ true
       → list_all (has fs x) ns ≡ true
   all_had cs ps [] ls is all = refl
   all_had cs [] (n ∷ ns) ls is all = cc
   all_had cs (p ∷ ps) (n ∷ ns) ls is all =
       let l = and_parts (ltb n (length w.table)) (list_all (λ k. ltb k (length w.table)) ns) ls in
-      let a = and_parts (has_name w fs x (conjunct_at cs p)) (list_all (λ i. has_name w fs x (conjunct_at cs i)) ps) all in
+      let a =
+      and_parts (has_name w fs x (conjunct_at cs p)) (list_all (λ i. has_name w fs x (conjunct_at cs i)) ps) all in
       let head : tree_of w.table n ≡ conjunct_at cs p = cc in
       let tail : trees_at w.table ns ≡ map (conjunct_at cs) ps = cc in
-      and_from (has fs x n) (list_all (has fs x) ns) (concept_had (conjunct_at cs p) n (ltb-true n (length w.table) l.0) head a.0) (all_had cs ps ns l.1 tail a.1)
+      and_from (has fs x n) (list_all (has fs x) ns)
+      (concept_had (conjunct_at cs p) n (ltb-true n (length w.table) l.0) head a.0) (all_had cs ps ns l.1 tail a.1)
 
 -- ---- what is filed
 
@@ -286,8 +321,16 @@ module _ (r : RuleLists) (ready : IsReady r) where
   in_rows : (q : Row) → Contains (all_filed r.filed) q → Contains w.rows (plain_row q)
   in_rows q is = to_map plain_row (all_filed r.filed) q is
 
-  is_plain : (t : PlainTrigger) (q : Row) → Contains (all_filed r.filed) q → plain_trigger q.trigger ≡ t → IsPlain w t (plain_of q)
-  is_plain t q is on = record { row = plain_row q; is_in = in_rows q is; axiom_is = refl; part_is = refl; gives_is = refl; trigger_is = on }
+  is_plain : (t : PlainTrigger) (q : Row) → Contains (all_filed r.filed) q → plain_trigger q.trigger ≡ t
+      → IsPlain w t (plain_of q)
+  is_plain t q is on = record {
+    row = plain_row q;
+    is_in = in_rows q is;
+    axiom_is = refl;
+    part_is = refl;
+    gives_is = refl;
+    trigger_is = on;
+  }
 
   general_filed : All (IsPlain w always) (files_in r).general
   general_filed = all_from (IsPlain w always) (map plain_of r.filed.general) (λ u is.
@@ -295,11 +338,13 @@ module _ (r : RuleLists) (ready : IsReady r) where
       let t = found.general m.of m.is_in in
       subst (IsPlain w always) m.gives (is_plain always m.of t.0 (ap plain_trigger t.1)))
 
-  begin_trigger : (t : Trigger) (role : ℕ) → (t ≡ Edge role) ⊎ (t ≡ End role) → waits_for Begin t ≡ true → plain_trigger t ≡ edge role
+  begin_trigger : (t : Trigger) (role : ℕ) → (t ≡ Edge role) ⊎ (t ≡ End role) → waits_for Begin t ≡ true
+      → plain_trigger t ≡ edge role
   begin_trigger t role (inl is) h = ap plain_trigger is
   begin_trigger t role (inr is) h = let e = sym (ap (waits_for Begin) is) ∙ h in cc
 
-  end_trigger : (t : Trigger) (role : ℕ) → (t ≡ Edge role) ⊎ (t ≡ End role) → waits_for Finish t ≡ true → plain_trigger t ≡ end_of role
+  end_trigger : (t : Trigger) (role : ℕ) → (t ≡ Edge role) ⊎ (t ≡ End role) → waits_for Finish t ≡ true
+      → plain_trigger t ≡ end_of role
   end_trigger t role (inl is) h = let e = sym (ap (waits_for Finish) is) ∙ h in cc
   end_trigger t role (inr is) h = ap plain_trigger is
 
@@ -307,24 +352,38 @@ module _ (r : RuleLists) (ready : IsReady r) where
   begins_filed s = all_from (IsAtEdge w edge s) ((files_in r).begins s) (λ u is.
       let a = at_edge (theory_in r).below (waits_for Begin) r.filed.at_roles s u is in
       let t = found.by_role a.role a.row a.stands in
-      record { role = a.role; role_above = a.above; is_plain = subst (IsPlain w (edge a.role)) a.is (is_plain (edge a.role) a.row t.0 (begin_trigger a.row.trigger a.role t.1 a.passes)) })
+      record {
+        role = a.role;
+        role_above = a.above;
+        is_plain =
+            subst (IsPlain w (edge a.role)) a.is
+            (is_plain (edge a.role) a.row t.0 (begin_trigger a.row.trigger a.role t.1 a.passes));
+      })
 
   ends_filed : (s : ℕ) → All (IsAtEdge w end_of s) ((files_in r).ends s)
   ends_filed s = all_from (IsAtEdge w end_of s) ((files_in r).ends s) (λ u is.
       let a = at_edge (theory_in r).below (waits_for Finish) r.filed.at_roles s u is in
       let t = found.by_role a.role a.row a.stands in
-      record { role = a.role; role_above = a.above; is_plain = subst (IsPlain w (end_of a.role)) a.is (is_plain (end_of a.role) a.row t.0 (end_trigger a.row.trigger a.role t.1 a.passes)) })
+      record {
+        role = a.role;
+        role_above = a.above;
+        is_plain =
+            subst (IsPlain w (end_of a.role)) a.is
+            (is_plain (end_of a.role) a.row t.0 (end_trigger a.row.trigger a.role t.1 a.passes));
+      })
 
   fixed : (q : Row) → Contains (all_filed r.filed) q → HasFixedTrigger (theory_in r) r.table q
   fixed q is = All-contains (HasFixedTrigger (theory_in r) r.table) (all_filed r.filed) q ready.row_table.fixed is
 
-  is_named_row : (q : Row) (ps : List ℕ) → Contains (all_filed r.filed) q → q.trigger ≡ Names ps → IsNamed w (named_of q)
+  is_named_row : (q : Row) (ps : List ℕ) → Contains (all_filed r.filed) q → q.trigger ≡ Names ps
+      → IsNamed w (named_of q)
   is_named_row q ps is on = of f.part f.is_there f.is_row
     where
       f : HasFixedTrigger (theory_in r) r.table q
       f = fixed q is
 
-      of : (part : Part) → part_at (theory_in r) q.«axiom» q.part ≡ Some part → IsRowOfPart r.table q.«axiom» q.part part q → IsNamed w (named_of q)
+      of : (part : Part) → part_at (theory_in r) q.«axiom» q.part ≡ Some part
+          → IsRowOfPart r.table q.«axiom» q.part part q → IsNamed w (named_of q)
       of (inclusion cs d) there row =
           let positions : positions_of q.trigger ≡ ps = ap positions_of on in
           let trigger : trigger_for (inclusion cs d) ≡ names ps = sym row.trigger_is ∙ ap plain_trigger on in
@@ -339,7 +398,8 @@ module _ (r : RuleLists) (ready : IsReady r) where
             right = d;
             is_part = there;
             waits_are = subst (λ (qs : List ℕ). AreNumbers r.table q.premises (map (conjunct_at cs) qs)) (sym positions)
-                (subst (λ (t : PlainTrigger). AreNumbers r.table q.premises (premises_for (inclusion cs d) t)) trigger row.premises_are);
+                (subst (λ (t : PlainTrigger). AreNumbers r.table q.premises (premises_for (inclusion cs d) t)) trigger
+                row.premises_are);
           }
       of (range s d) there row = let e : end_of s ≡ names ps = sym row.trigger_is ∙ ap plain_trigger on in cc
 
@@ -363,52 +423,74 @@ module _ (r : RuleLists) (ready : IsReady r) where
 
   -- ---- each row is filed
 
-  module _ (fs : List (Fact ℕ)) (hold : (x : ℕ) → x < node_count_from w.first fs → HoldsRows (files_in r) fs x) (x : ℕ) (lt : x < node_count_from w.first fs) (q : Row) (is : Contains (all_filed r.filed) q) where
+  module _ (fs : List (Fact ℕ)) (hold : (x : ℕ) → x < node_count_from w.first fs → HoldsRows (files_in r) fs x) (x : ℕ)
+      (lt : x < node_count_from w.first fs) (q : Row) (is : Contains (all_filed r.filed) q) where
     by_general : Contains r.filed.general q → has fs x q.concept ≡ true
-    by_general there = All-contains (PlainHolds fs x) (map plain_of r.filed.general) (plain_of q) (hold x lt).at_each (to_map plain_of r.filed.general q there)
+    by_general there =
+        All-contains (PlainHolds fs x) (map plain_of r.filed.general) (plain_of q) (hold x lt).at_each
+        (to_map plain_of r.filed.general q there)
 
-    by_begin : (e : ℕ) → q.trigger ≡ Edge e → Contains (rows_under r.filed.at_roles e) q → begins_edge w fs e x ≡ true → has fs x q.concept ≡ true
+    by_begin : (e : ℕ) → q.trigger ≡ Edge e → Contains (rows_under r.filed.at_roles e) q → begins_edge w fs e x ≡ true
+        → has fs x q.concept ≡ true
     by_begin e on there used =
-        let m = passing (λ y. has_edge fs (λ s. below_of w s e) x y) (range_with_len 0 (node_count_from w.first fs)) used in
+        let m =
+        passing (λ y. has_edge fs (λ s. below_of w s e) x y) (range_with_len 0 (node_count_from w.first fs)) used in
         let l = led fs (λ s. below_of w s e) x m.it m.passes in
-        All-contains (PlainHolds fs x) ((files_in r).begins l.role) (plain_of q) ((hold x lt).edges.at_edges l.role (rep fs m.it) l.next).at_begin
-        (to_edge (theory_in r).below (waits_for Begin) r.filed.at_roles l.role e q l.is_one there (ap (waits_for Begin) on))
+        All-contains (PlainHolds fs x) ((files_in r).begins l.role) (plain_of q)
+        ((hold x lt).edges.at_edges l.role (rep fs m.it) l.next).at_begin
+        (to_edge (theory_in r).below (waits_for Begin) r.filed.at_roles l.role e q l.is_one there
+        (ap (waits_for Begin) on))
 
-    by_end : (e : ℕ) → q.trigger ≡ End e → Contains (rows_under r.filed.at_roles e) q → ends_edge w fs e x ≡ true → has fs x q.concept ≡ true
+    by_end : (e : ℕ) → q.trigger ≡ End e → Contains (rows_under r.filed.at_roles e) q → ends_edge w fs e x ≡ true
+        → has fs x q.concept ≡ true
     by_end e on there used =
-        let m = passing (λ z. has_edge fs (λ s. below_of w s e) z x) (range_with_len 0 (node_count_from w.first fs)) used in
+        let m =
+        passing (λ z. has_edge fs (λ s. below_of w s e) z x) (range_with_len 0 (node_count_from w.first fs)) used in
         let l = led fs (λ s. below_of w s e) m.it x m.passes in
         let in_row = in_range 0 (node_count_from w.first fs) m.it m.is_in in
         let less : m.it < node_count_from w.first fs = omega (arith, in_row) in
         sym (has_at fs (rep fs x) x q.concept (rep_twice fs x))
-        ∙ All-contains (PlainHolds fs (rep fs x)) ((files_in r).ends l.role) (plain_of q) ((hold m.it less).edges.at_edges l.role (rep fs x) l.next).at_end
-        (to_edge (theory_in r).below (waits_for Finish) r.filed.at_roles l.role e q l.is_one there (ap (waits_for Finish) on))
+        ∙ All-contains (PlainHolds fs (rep fs x)) ((files_in r).ends l.role) (plain_of q)
+        ((hold m.it less).edges.at_edges l.role (rep fs x) l.next).at_end
+        (to_edge (theory_in r).below (waits_for Finish) r.filed.at_roles l.role e q l.is_one there
+        (ap (waits_for Finish) on))
 
-    by_names : (ps : List ℕ) → q.trigger ≡ Names ps → (class : ℕ) → names_class r.table q.premises class ≡ true → Contains (rows_under r.filed.at_names class) q
+    by_names : (ps : List ℕ) → q.trigger ≡ Names ps → (class : ℕ) → names_class r.table q.premises class ≡ true
+        → Contains (rows_under r.filed.at_names class) q
         → has_names w fs x ps (part_at (theory_in r) q.«axiom» q.part) ≡ true → has fs x q.concept ≡ true
     by_names ps on class among there used = by (fixed q is).part (fixed q is).is_there (fixed q is).is_row
       where
-        by : (part : Part) → part_at (theory_in r) q.«axiom» q.part ≡ Some part → IsRowOfPart r.table q.«axiom» q.part part q → has fs x q.concept ≡ true
+        by : (part : Part) → part_at (theory_in r) q.«axiom» q.part ≡ Some part
+            → IsRowOfPart r.table q.«axiom» q.part part q → has fs x q.concept ≡ true
         by (inclusion cs d) at row =
             let trigger : trigger_for (inclusion cs d) ≡ names ps = sym row.trigger_is ∙ ap plain_trigger on in
             let premises : AreNumbers r.table q.premises (map (conjunct_at cs) ps) =
-            subst (λ (t : PlainTrigger). AreNumbers r.table q.premises (premises_for (inclusion cs d) t)) trigger row.premises_are in
-            let all : list_all (has fs x) q.premises ≡ true = all_had w ready.tabled fs x cs ps q.premises premises.listed premises.stand_for (sym (ap (has_names w fs x ps) at) ∙ used) in
+            subst (λ (t : PlainTrigger). AreNumbers r.table q.premises (premises_for (inclusion cs d) t)) trigger
+            row.premises_are in
+            let all : list_all (has fs x) q.premises ≡ true =
+            all_had w ready.tabled fs x cs ps q.premises premises.listed premises.stand_for
+            (sym (ap (has_names w fs x ps) at) ∙ used) in
             let m = passing (λ c. is_named class (shape_of r.table c)) q.premises among in
             let shape = named_shape class (shape_of r.table m.it) m.passes in
             let filed : Contains ((files_in r).named m.it) (named_of q) =
-            subst (λ (s : Shape). Contains (rows_at_shape r.filed.at_names s) (named_of q)) (sym shape) (to_map named_of (rows_under r.filed.at_names class) q there) in
-            (All-contains (NamedHold fs x) ((files_in r).named m.it) (named_of q) ((hold x lt).names.at_names m.it (all_with (has fs x) q.premises m.it m.is_in all)) filed).holds all
+            subst (λ (s : Shape). Contains (rows_at_shape r.filed.at_names s) (named_of q)) (sym shape)
+            (to_map named_of (rows_under r.filed.at_names class) q there) in
+            (All-contains (NamedHold fs x) ((files_in r).named m.it) (named_of q)
+            ((hold x lt).names.at_names m.it (all_with (has fs x) q.premises m.it m.is_in all)) filed).holds
+            all
         by (range s d) at row = let e : end_of s ≡ names ps = sym row.trigger_is ∙ ap plain_trigger on in cc
 
-    by_trigger : (t : Trigger) → q.trigger ≡ t → IsFoundBy t r.table r.filed q → is_triggered w fs x (part_at (theory_in r) q.«axiom» q.part) (plain_trigger t) ≡ true → has fs x q.concept ≡ true
+    by_trigger : (t : Trigger) → q.trigger ≡ t → IsFoundBy t r.table r.filed q
+        → is_triggered w fs x (part_at (theory_in r) q.«axiom» q.part) (plain_trigger t) ≡ true
+        → has fs x q.concept ≡ true
     by_trigger Always on at used = by_general at
     by_trigger (Names ps) on at used = by_names ps on at.0 at.1.is_among at.2 used
     by_trigger (Edge e) on at used = by_begin e on at used
     by_trigger (End e) on at used = by_end e on at used
 
     each : is_used_at w fs (plain_row q) x ≡ true → has fs x q.concept ≡ true
-    each used = by_trigger q.trigger refl (each_found r.table r.filed ready.row_table.places ready.row_table.keys q is) used
+    each used =
+        by_trigger q.trigger refl (each_found r.table r.filed ready.row_table.places ready.row_table.keys q is) used
 
   pub filed : AreFiled w (files_in r)
   filed = record {
@@ -418,5 +500,6 @@ module _ (r : RuleLists) (ready : IsReady r) where
     ends = ends_filed;
     each_filed = λ fs hold x row lt is used.
         let m = in_map plain_row (all_filed r.filed) row is in
-        subst (λ (p : PlainRowOf). has fs x p.concept ≡ true) m.gives (each fs hold x lt m.of m.is_in (subst (λ (p : PlainRowOf). is_used_at w fs p x ≡ true) (sym m.gives) used));
+        subst (λ (p : PlainRowOf). has fs x p.concept ≡ true) m.gives
+        (each fs hold x lt m.of m.is_in (subst (λ (p : PlainRowOf). is_used_at w fs p x ≡ true) (sym m.gives) used));
   }

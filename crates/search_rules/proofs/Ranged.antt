@@ -1,14 +1,18 @@
 -- A range is the first part of its axiom.
-use Rattle.std.proofs.Common.{◌≡◌, ℕ, zero, suc, ◌-◌, ◌<◌, ◌&&◌, Bool, true, false, List, [], ◌∷◌, ◌++◌, map, length, Option, Some, None, refl, sym, ◌∙◌, arith, cond, leb}
+use Rattle.std.proofs.Common.{◌≡◌, ℕ, zero, suc, ◌-◌, ◌<◌, ◌&&◌, Bool, true, false, List, [], ◌∷◌, ◌++◌, map, length}
+use Rattle.std.proofs.Common.{Option, Some, None, refl, sym, ◌∙◌, arith, cond, leb}
 use Rattle.std.specs.Prelude.{slice_get}
 use Rattle.std.specs.List.{list_all}
 use Rattle.std.proofs.lemmas.Bool.{and_parts, leb-true}
 use Rattle.shq_terms.specs.Concept.{Concept}
 use Rattle.shq_terms.specs.declared.axioms.Axiom.{Axiom}
-use Rattle.shq_terms.specs.declared.axioms.Axiom.TheVariants.{SubClassOf, EquivalentClasses, DisjointClasses, DisjointUnion, SubRole, EquivalentRoles, Domain, Range, Functional, Transitive, Member, Pair, SameAll, Different}
+use Rattle.shq_terms.specs.declared.axioms.Axiom.TheVariants.{SubClassOf, EquivalentClasses, DisjointClasses}
+use Rattle.shq_terms.specs.declared.axioms.Axiom.TheVariants.{DisjointUnion, SubRole, EquivalentRoles, Domain, Range}
+use Rattle.shq_terms.specs.declared.axioms.Axiom.TheVariants.{Functional, Transitive, Member, Pair, SameAll, Different}
 use Rattle.shq_terms.specs.declared.axioms.Numbered.{Numbered}
 use Rattle.calculus_specs.specs.Rows.{Part, inclusion, range, is_among, inclusion_of}
-use Rattle.shq_nnf.specs.Parts.{axiom_parts, part_in, disjoint_pair, disjoint_parts, chain_parts, equivalent_parts, union_parts}
+use Rattle.shq_nnf.specs.Parts.{axiom_parts, part_in, disjoint_pair, disjoint_parts, chain_parts, equivalent_parts}
+use Rattle.shq_nnf.specs.Parts.{union_parts}
 use Rattle.absorption.specs.Theory.{theory_of, parts_at, parts_in}
 use Rattle.absorption.proofs.Numbered.{numbered}
 use Rattle.tableau_specs.specs.LineLaws.{RangesAreFirst}
@@ -17,7 +21,8 @@ abbrev is_inclusion : Part → Bool
 is_inclusion (inclusion cs d) = true
 is_inclusion (range r d) = false
 
-all_append : (ps qs : List Part) → list_all is_inclusion ps ≡ true → list_all is_inclusion qs ≡ true → list_all is_inclusion (ps ++ qs) ≡ true
+all_append : (ps qs : List Part) → list_all is_inclusion ps ≡ true → list_all is_inclusion qs ≡ true
+    → list_all is_inclusion (ps ++ qs) ≡ true
 all_append [] qs h k = k
 all_append (inclusion cs d ∷ ps) qs h k = all_append ps qs h k
 all_append (range r d ∷ ps) qs h k = cc
@@ -47,15 +52,18 @@ all_union : (a : Concept) (cs : List Concept) → list_all is_inclusion (union_p
 all_union a cs = all_append (map (λ c. inclusion_of c a) cs) (disjoint_parts cs) (all_in a cs) (all_disjoint cs)
 
 -- no part that is an inclusion is a range
-no_range : (qs : List Part) (place s : ℕ) (d : Concept) → list_all is_inclusion qs ≡ true → part_in qs place ≡ range s d → ⊥
+no_range : (qs : List Part) (place s : ℕ) (d : Concept) → list_all is_inclusion qs ≡ true → part_in qs place ≡ range s d
+    → ⊥
 no_range [] place s d h is = cc
 no_range (range r e ∷ qs) place s d h is = cc
 no_range (inclusion cs e ∷ qs) zero s d h is = cc
 no_range (inclusion cs e ∷ qs) (suc place) s d h is = no_range qs place s d h is
 
-range_first : (a : Axiom) (place s : ℕ) (d : Concept) → place < length (axiom_parts a) → part_in (axiom_parts a) place ≡ range s d → place ≡ 0
+range_first : (a : Axiom) (place s : ℕ) (d : Concept) → place < length (axiom_parts a)
+    → part_in (axiom_parts a) place ≡ range s d → place ≡ 0
 range_first (SubClassOf c e) place s d lt is = absurd (no_range (axiom_parts (SubClassOf c e)) place s d refl is)
-range_first (EquivalentClasses cs) place s d lt is = absurd (no_range (equivalent_parts cs) place s d (all_equivalent cs) is)
+range_first (EquivalentClasses cs) place s d lt is =
+    absurd (no_range (equivalent_parts cs) place s d (all_equivalent cs) is)
 range_first (DisjointClasses cs) place s d lt is = absurd (no_range (disjoint_parts cs) place s d (all_disjoint cs) is)
 range_first (DisjointUnion c cs) place s d lt is = absurd (no_range (union_parts c cs) place s d (all_union c cs) is)
 range_first (SubRole r q) place s d lt is = absurd (omega arith)
@@ -69,7 +77,8 @@ range_first (Pair r a b) place s d lt is = absurd (omega arith)
 range_first (SameAll as_) place s d lt is = absurd (omega arith)
 range_first (Different as_) place s d lt is = absurd (omega arith)
 
-in_option : (o : Option Numbered) (place s : ℕ) (d : Concept) → place < length (parts_in o) → part_in (parts_in o) place ≡ range s d → place ≡ 0
+in_option : (o : Option Numbered) (place s : ℕ) (d : Concept) → place < length (parts_in o)
+    → part_in (parts_in o) place ≡ range s d → place ≡ 0
 in_option None place s d lt is = absurd (omega arith)
 in_option (Some n) place s d lt is = range_first n.axiom place s d lt is
 
@@ -77,7 +86,8 @@ pub ranges_first : (axioms : List Numbered) (ks : List ℕ) → RangesAreFirst (
 ranges_first axioms ks a p s d h =
     by (is_among ks a && leb 1 p && leb p (length (parts_at axioms a))) refl (sym (numbered axioms ks a p) ∙ h)
   where
-    by : (b : Bool) → (is_among ks a && leb 1 p && leb p (length (parts_at axioms a))) ≡ b → cond b (Some (part_in (parts_at axioms a) (p - 1))) None ≡ Some (range s d) → p ≡ 1
+    by : (b : Bool) → (is_among ks a && leb 1 p && leb p (length (parts_at axioms a))) ≡ b
+        → cond b (Some (part_in (parts_at axioms a) (p - 1))) None ≡ Some (range s d) → p ≡ 1
     by true t is =
         let outer = and_parts (is_among ks a && leb 1 p) (leb p (length (parts_at axioms a))) t in
         let inner = and_parts (is_among ks a) (leb 1 p) outer.0 in

@@ -1,5 +1,6 @@
 -- The rows of a set stay its rows while the table of concepts grows.
-use Rattle.std.proofs.Common.{◌≡◌, ℕ, ◌<◌, ◌||◌, Bool, true, false, List, [], ◌∷◌, length, Some, refl, ap, sym, ◌∙◌, subst, arith, Option}
+use Rattle.std.proofs.Common.{◌≡◌, ℕ, ◌<◌, ◌||◌, Bool, true, false, List, [], ◌∷◌, length, Some, refl, ap, sym, ◌∙◌}
+use Rattle.std.proofs.Common.{subst, arith, Option}
 use Rattle.std.proofs.lemmas.Bool.{or_right}
 use Rattle.shq_terms.specs.Concept.{Concept}
 use Rattle.calculus_specs.specs.Shape.{Shape, shape_of, IsTable}
@@ -68,13 +69,15 @@ module _ (old new : List Shape) (grown : Extends old new) where
   any_stays class [] h = h
   any_stays class (c ∷ cs) h = by (is_named class (shape_of old c)) refl h (any_stays class cs)
     where
-      by : (b : Bool) → is_named class (shape_of old c) ≡ b → (b || names_class old cs class) ≡ true → (names_class old cs class ≡ true → names_class new cs class ≡ true)
+      by : (b : Bool) → is_named class (shape_of old c) ≡ b → (b || names_class old cs class) ≡ true
+          → (names_class old cs class ≡ true → names_class new cs class ≡ true)
           → (is_named class (shape_of new c) || names_class new cs class) ≡ true
       by true e k rest = ap (λ v. v || names_class new cs class) (named_stays class c e)
       by false e k rest = or_right (is_named class (shape_of new c)) (names_class new cs class) (rest k)
 
   waits_stays : (class : ℕ) (r : Filed) → WaitsForName old class r → WaitsForName new class r
-  waits_stays class r h = record { positions = h.positions; waits = h.waits; is_among = any_stays class r.premises h.is_among }
+  waits_stays class r h =
+      record { positions = h.positions; waits = h.waits; is_among = any_stays class r.premises h.is_among }
 
   places_stay : (f : FiledRows) → StandInPlaces old f → StandInPlaces new f
   places_stay f h = record {
@@ -83,7 +86,8 @@ module _ (old new : List Shape) (grown : Extends old new) where
     in_general = h.in_general;
   }
 
-  pub table_stays : (axioms : List Numbered) (ks : List ℕ) (f : FiledRows) → IsRowTable axioms ks old f → IsRowTable axioms ks new f
+  pub table_stays : (axioms : List Numbered) (ks : List ℕ) (f : FiledRows) → IsRowTable axioms ks old f
+      → IsRowTable axioms ks new f
   table_stays axioms ks f h = record {
     choice = record {
       rows_fit = λ k d lt. row_stays (theory_of axioms ks) _ (h.choice.rows_fit k d lt);
@@ -95,17 +99,27 @@ module _ (old new : List Shape) (grown : Extends old new) where
   }
 
 -- what is built is kept
-pub kept_all : (o : Listed) (set copy : Limited) (only : List ℕ) (roles : List RoleAxiom) (a b d : List Shape) (f : FiledRows) (gs : List Given) (numbers : NumberLists) (edges : EdgeLists)
-    → IsOntologyInLimit o → copy ≡ set → only ≡ member_list set → roles ≡ role_axioms o.axioms only → IsTable d → IsClosed (is_below roles) (is_transitive roles) d → Extends a b → Extends b d
-    → IsRowTable o.axioms (member_list set) a f → AreNumbered b (stated_facts o.axioms only) gs → AreNumberLists d roles f.at_names numbers → AreEdgeLists (is_below roles) f edges
+pub kept_all : (o : Listed) (set copy : Limited) (only : List ℕ) (roles : List RoleAxiom) (a b d : List Shape)
+    (f : FiledRows) (gs : List Given) (numbers : NumberLists) (edges : EdgeLists)
+    → IsOntologyInLimit o → copy ≡ set → only ≡ member_list set → roles ≡ role_axioms o.axioms only → IsTable d
+    → IsClosed (is_below roles) (is_transitive roles) d → Extends a b → Extends b d
+    → IsRowTable o.axioms (member_list set) a f → AreNumbered b (stated_facts o.axioms only) gs
+    → AreNumberLists d roles f.at_names numbers → AreEdgeLists (is_below roles) f edges
     → AreKept (record { ontology = o; set = copy; table = d; filed = f; given = gs }) roles numbers edges
-kept_all o set copy only roles a b d f gs numbers edges limits same members is good closed first later rows given lists at_edges =
+kept_all o set copy only roles a b d f gs numbers edges limits same members is good closed first later rows given lists
+    at_edges =
     let all : roles ≡ role_axioms o.axioms (member_list set) = is ∙ ap (role_axioms o.axioms) members in
     let r : RuleLists = record { ontology = o; set = set; table = d; filed = f; given = gs } in
-    let numbered : AreNumbered b (stated_facts o.axioms (member_list set)) gs = subst (λ (ks : List ℕ). AreNumbered b (stated_facts o.axioms ks) gs) members given in
-    let facts : AreGiven (context_in r) gs = facts_given r (numbered_stay b d later (stated_facts o.axioms (member_list set)) gs (length (stated_facts o.axioms (member_list set))) numbered)
+    let numbered : AreNumbered b (stated_facts o.axioms (member_list set)) gs =
+    subst (λ (ks : List ℕ). AreNumbered b (stated_facts o.axioms ks) gs) members given in
+    let facts : AreGiven (context_in r) gs =
+    facts_given r
+    (numbered_stay b d later (stated_facts o.axioms (member_list set)) gs
+    (length (stated_facts o.axioms (member_list set))) numbered)
     (are_given (length o.classes) (length o.roles) (length o.individuals) o.axioms (member_list set) limits.listed) in
-    subst (λ (s : Limited). AreKept (record { ontology = o; set = s; table = d; filed = f; given = gs }) roles numbers edges) (sym same)
+    subst
+    (λ (s : Limited). AreKept (record { ontology = o; set = s; table = d; filed = f; given = gs }) roles numbers edges)
+    (sym same)
     (record {
       ready = record {
         tabled = good;
@@ -120,11 +134,14 @@ kept_all o set copy only roles a b d f gs numbers edges limits same members is g
     })
 
 -- and stays so with the new concepts of a query
-pub kept_grown : (r : RuleLists) (roles : List RoleAxiom) (numbers lists : NumberLists) (edges : EdgeLists) (new : List Shape) (q : Query) (found : QueryNumbers)
+pub kept_grown : (r : RuleLists) (roles : List RoleAxiom) (numbers lists : NumberLists) (edges : EdgeLists)
+    (new : List Shape) (q : Query) (found : QueryNumbers)
     → AreKept r roles numbers edges → IsFound r.table new roles r.filed.at_names q found → found.tables ≡ Some lists
-    → AreKept (record { ontology = r.ontology; set = r.set; table = new; filed = r.filed; given = r.given }) roles lists edges
+    → AreKept (record { ontology = r.ontology; set = r.set; table = new; filed = r.filed; given = r.given }) roles lists
+    edges
 kept_grown r roles numbers lists edges new q found h f is =
-    let grown : RuleLists = record { ontology = r.ontology; set = r.set; table = new; filed = r.filed; given = r.given } in
+    let grown : RuleLists =
+    record { ontology = r.ontology; set = r.set; table = new; filed = r.filed; given = r.given } in
     let facts : AreGiven (context_in grown) r.given = given_stay r new f.kept h.ready.facts_are in
     record {
       ready = record {

@@ -25,7 +25,13 @@ positions_of _ = []
 
 -- a row beside the names for which it waits
 abbrev pub named_of : Row → NamedRow
-named_of r = record { «axiom» = r.«axiom»; part = r.part; positions = positions_of r.trigger; waits = r.premises; gives = r.concept }
+named_of r = record {
+  «axiom» = r.«axiom»;
+  part = r.part;
+  positions = positions_of r.trigger;
+  waits = r.premises;
+  gives = r.concept;
+}
 
 -- ---- rows of names
 

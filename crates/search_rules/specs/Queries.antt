@@ -19,7 +19,8 @@ HasListsIf old new roles at_names None = new ≡ old
 HasListsIf old new roles at_names (Some lists) = AreNumberLists new roles at_names lists
 
 -- the numbers are those of what the query asks, in a closed table that begins with the earlier one
-pub record IsFound (old new : List Shape) (roles : List RoleAxiom) (at_names : RowsByNumber) (q : Query) (found : QueryNumbers) : Type 0 where
+pub record IsFound (old new : List Shape) (roles : List RoleAxiom) (at_names : RowsByNumber) (q : Query)
+    (found : QueryNumbers) : Type 0 where
   pub kept : Extends old new
   pub tabled : IsTable new
   pub closed : IsClosed (is_below roles) (is_transitive roles) new

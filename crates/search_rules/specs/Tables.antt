@@ -18,7 +18,13 @@ use Rattle.search_rules.specs.Files.{plain_of, waits_for, rows_at_shape, edge_ro
 
 -- what a search reads of a table and roles alone
 abbrev pub role_context : List Shape → List RoleAxiom → SearchContext
-role_context table roles = record { theory = record { parts = []; below = is_below roles; is_transitive = is_transitive roles }; table = table; rows = []; first = 1; fact_of = λ a p. None }
+role_context table roles = record {
+  theory = record { parts = []; below = is_below roles; is_transitive = is_transitive roles };
+  table = table;
+  rows = [];
+  first = 1;
+  fact_of = λ a p. None;
+}
 
 -- the role and the filler of a universal restriction
 abbrev pub universal_of : Shape → Option (ℕ × ℕ)
@@ -30,7 +36,8 @@ abbrev pub FindsComplement : List Shape → ℕ → Option ℕ → Type 0
 FindsComplement table c found = MatchOption found ((d : ℕ) → ¬ IsComplement table c d) (λ d. IsComplement table c d)
 
 -- the lists are those of the concepts of a table
-pub record AreNumberLists (table : List Shape) (roles : List RoleAxiom) (at_names : RowsByNumber) (lists : NumberLists) : Type 0 where
+pub record AreNumberLists (table : List Shape) (roles : List RoleAxiom) (at_names : RowsByNumber) (lists : NumberLists)
+    : Type 0 where
   pub carries_are : (c : ℕ) → AreCarriesOf (role_context table roles) (shape_of table c) (list_at lists.carries c)
   pub complements_are : (c : ℕ) → c < length table → FindsComplement table c (slice_index_or lists.complements c None)
   pub mosts_are : (c : ℕ) → AreMosts table c (list_at lists.mosts c)

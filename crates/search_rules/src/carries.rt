@@ -25,7 +25,9 @@ pub(crate) fn carry_lists(
     roles: &RoleBox,
 ) -> Result<Vec<ItemList<(u32, u32)>>, NoMemory>
     requires { IsClosed (is_below roles.now) (is_transitive roles.now) concepts.now }
-    ensures { IfOk result (λ lists. (c : ℕ) → AreCarriesOf (role_context concepts.now roles.now) (shape_of concepts.now c) (list_at lists.items c)) }
+    ensures { IfOk result
+        (λ lists. (c : ℕ)
+        → AreCarriesOf (role_context concepts.now roles.now) (shape_of concepts.now c) (list_at lists.items c)) }
 {
     let transitive = transitive_roles(alloc, roles)?;
     let mut lists = Vec::new(alloc);
@@ -107,7 +109,8 @@ fn carried(
 // The role and the number of a restriction, where the role is transitive.
 fn own_carry(roles: &RoleBox, number: u32, role: u32) -> Option<(u32, u32)>
     ensures { MatchOption result (is_transitive roles.now role ≡ true → ¬ (is_below roles.now role role ≡ true))
-        (λ p. (is_transitive roles.now role ≡ true) × (is_below roles.now role role ≡ true) × (p.0 ≡ role) × (p.1 ≡ number)) }
+        (λ p. (is_transitive roles.now role ≡ true) × (is_below roles.now role role ≡ true) × (p.0 ≡ role)
+        × (p.1 ≡ number)) }
 {
     if roles.is_transitive(role) && roles.below(role, role) {
         Some((role, number))

@@ -11,7 +11,9 @@ pub(crate) fn complement_numbers(
     alloc: Global,
     concepts: &mut Concepts,
 ) -> Result<Vec<Option<u32>>, NoMemory>
-    ensures found { IfOk result (λ found. (c : ℕ) → c < length concepts.old → FindsComplement concepts.old c (slice_index_or found.items c None)) }
+    ensures found { IfOk result
+        (λ found. (c : ℕ) → c < length concepts.old
+        → FindsComplement concepts.old c (slice_index_or found.items c None)) }
     ensures same { concepts.new ≡ concepts.old }
 {
     let mut found = Vec::new(alloc);

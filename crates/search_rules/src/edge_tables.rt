@@ -104,7 +104,9 @@ fn lists_of(
     used: &[u32],
     side: Side,
 ) -> Result<Vec<ItemList<PlainRow>>, NoMemory>
-    ensures { IfOk result (λ lists. (r : ℕ) → list_at lists.items r ≡ rows_among (is_below roles.now) (waits_for side) rows.now.at_roles used.now r) }
+    ensures { IfOk result
+        (λ lists. (r : ℕ)
+        → list_at lists.items r ≡ rows_among (is_below roles.now) (waits_for side) rows.now.at_roles used.now r) }
 {
     let limit = limit_of(roles, used);
     let mut lists = Vec::new(alloc);
@@ -145,7 +147,8 @@ fn rows_above(
     role: u32,
     side: Side,
 ) -> Result<ItemList<PlainRow>, NoMemory>
-    ensures { IfOk result (λ list. list ≡ rows_among (is_below roles.now) (waits_for side) rows.now.at_roles used.now role) }
+    ensures { IfOk result
+        (λ list. list ≡ rows_among (is_below roles.now) (waits_for side) rows.now.at_roles used.now role) }
 {
     let mut list = ItemList::new(alloc);
     for upper in used {
@@ -163,7 +166,8 @@ fn push_above(
     upper: u32,
     side: Side,
 ) -> Result<(), NoMemory>
-    ensures { OnOk result (list.new ≡ list.old ++ rows_above (is_below roles.now) (waits_for side) rows.now.at_roles role upper) }
+    ensures { OnOk result
+        (list.new ≡ list.old ++ rows_above (is_below roles.now) (waits_for side) rows.now.at_roles role upper) }
 {
     if roles.below(role, upper) {
         push_passing(list, rows.by_role(upper), side)

@@ -5,7 +5,8 @@ ghost use Rattle.ontology_limits.specs.Limits.{IsOntologyInLimit};
 ghost use Rattle.assertion_box.specs.Stated.{stated_facts, stated_at};
 ghost use Rattle.assertion_box.specs.Entries.{axiom_of, fact_of};
 ghost use Rattle.search_rules.specs.Lists.{list_at};
-ghost use Rattle.search_rules.specs.GivenFacts.{fact_has_counts, IsFactNumber, IsNumbered, AreNumbered, edge_into, edges_into};
+ghost use Rattle.search_rules.specs.GivenFacts.{fact_has_counts, IsFactNumber, IsNumbered, AreNumbered, edge_into};
+ghost use Rattle.search_rules.specs.GivenFacts.{edges_into};
 
 use crate::NoMemory;
 use crate::item_list::{ItemList, list_at, push_grown};

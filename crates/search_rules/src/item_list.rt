@@ -70,7 +70,8 @@ pub(crate) fn push_under<T: Drop>(
     item: T,
 ) -> Result<(), NoMemory>
     requires { place < length lists.old.items }
-    ensures { OnOk result (lists.new.items ≡ slice_set lists.old.items place (list_at lists.old.items place ++ item ∷ [])) }
+    ensures { OnOk result
+        (lists.new.items ≡ slice_set lists.old.items place (list_at lists.old.items place ++ item ∷ [])) }
 {
     let list = &mut lists[place as usize];
     list.push(item)
@@ -83,7 +84,8 @@ pub(crate) fn push_grown<T: Drop>(
     number: u32,
     item: T,
 ) -> Result<(), NoMemory>
-    ensures { OnOk result ((k : ℕ) → list_at lists.new.items k ≡ list_at lists.old.items k ++ (if number == k then item ∷ [] else [])) }
+    ensures { OnOk result
+        ((k : ℕ) → list_at lists.new.items k ≡ list_at lists.old.items k ++ (if number == k then item ∷ [] else [])) }
 {
     match grow(alloc, lists, number) {
         Ok(()) => push_under(lists, number, item),

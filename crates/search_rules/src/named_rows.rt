@@ -19,7 +19,8 @@ pub(crate) fn named_lists(
     concepts: &Concepts,
     rows: &RowTable,
 ) -> Result<Vec<ItemList<NamedRow>>, NoMemory>
-    ensures { IfOk result (λ lists. (c : ℕ) → list_at lists.items c ≡ rows_at_shape rows.now.at_names (shape_of concepts.now c)) }
+    ensures { IfOk result
+        (λ lists. (c : ℕ) → list_at lists.items c ≡ rows_at_shape rows.now.at_names (shape_of concepts.now c)) }
 {
     let mut lists = Vec::new(alloc);
     for number in 0..concepts.len() {

@@ -33,7 +33,12 @@ impl Model for NumberTables {
 
     ghost Value = { NumberLists };
 
-    ghost view = { λ t. record { carries = t.carries.items; complements = t.complements.items; mosts = t.mosts.items; named = t.named.items } };
+    ghost view = { λ t. record {
+      carries = t.carries.items;
+      complements = t.complements.items;
+      mosts = t.mosts.items;
+      named = t.named.items;
+    } };
 }
 
 impl NumberTables {

@@ -47,9 +47,17 @@ impl<'a> Model for SearchRules<'a> {
 
     ghost coded = { Prim.hlevel (codes, concept_code, limited_code) };
 
-    ghost view = { λ r. record { ontology = r.ontology.now; set = r.set; table = r.concepts; filed = r.rows; given = r.given } };
+    ghost view = { λ r. record {
+      ontology = r.ontology.now;
+      set = r.set;
+      table = r.concepts;
+      filed = r.rows;
+      given = r.given;
+    } };
 
-    ghost invariant = { λ r. AreKept (record { ontology = r.ontology.now; set = r.set; table = r.concepts; filed = r.rows; given = r.given }) r.roles r.numbers r.edges };
+    ghost invariant = { λ r. AreKept
+        (record { ontology = r.ontology.now; set = r.set; table = r.concepts; filed = r.rows; given = r.given }) r.roles
+        r.numbers r.edges };
 }
 
 impl<'a> SearchRules<'a> {

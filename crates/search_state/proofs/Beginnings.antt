@@ -23,39 +23,108 @@ module _ (w : SearchContext) (q : Query) (at sub not_sup : ℕ) (asked : IsAsked
   entries_now = begun_entries at sub not_sup
 
   abbrev at_start : Printed → Option Clash → ProgressLists
-  at_start prints clash = record { query = q; at = at; sub = sub; not_sup = not_sup; first = w.first; entries = entries_now; prints = prints; trace = begun; marks = []; clash = clash; steps = 0 }
+  at_start prints clash = record {
+    query = q;
+    at = at;
+    sub = sub;
+    not_sup = not_sup;
+    first = w.first;
+    entries = entries_now;
+    prints = prints;
+    trace = begun;
+    marks = [];
+    clash = clash;
+    steps = 0;
+  }
 
   grounded_now : AreGrounded w.first (marked_in entries_now)
   grounded_now =
       let k = first_is_known w.first sets.empty (marked_in entries_now) at asked.at_first in
-      and_from (is_known_within w.first sets.empty (marked_in entries_now) at && true) ((is_known_within w.first sets.empty (marked_in entries_now) at && true) && true)
+      and_from (is_known_within w.first sets.empty (marked_in entries_now) at && true)
+      ((is_known_within w.first sets.empty (marked_in entries_now) at && true) && true)
       (and_from (is_known_within w.first sets.empty (marked_in entries_now) at) true k refl)
-      (and_from (is_known_within w.first sets.empty (marked_in entries_now) at && true) true (and_from (is_known_within w.first sets.empty (marked_in entries_now) at) true k refl) refl)
+      (and_from (is_known_within w.first sets.empty (marked_in entries_now) at && true) true
+      (and_from (is_known_within w.first sets.empty (marked_in entries_now) at) true k refl) refl)
 
-  stands : (prints : Printed) → AreFirstBlocks w.first (facts_in entries_now) prints → (clash : Option Clash) → IsStanding w (at_start prints clash)
+  stands : (prints : Printed) → AreFirstBlocks w.first (facts_in entries_now) prints → (clash : Option Clash)
+      → IsStanding w (at_start prints clash)
   stands prints blocks clash = record {
     asked = asked;
     first_is = refl;
     follows = refl;
     blocks = blocks;
     places = [];
-    traced = record { are_at = tt; traced = start_is_traced (asked_of w q at) w.table sub not_sup asked.sub_is asked.not_sup_is };
+    traced = record {
+      are_at = tt;
+      traced = start_is_traced (asked_of w q at) w.table sub not_sup asked.sub_is asked.not_sup_is;
+    };
     are_marks = tt;
     grounded = grounded_now;
     fit = All-nil (IsFitLine w sub not_sup);
   }
 
-  starts : (prints : Printed) → IsCurrent w.first (facts_in entries_now) prints → AreFirstBlocks w.first (facts_in entries_now) prints → (clash : Option Clash) → IsClashOf w (facts_in entries_now) clash
+  starts : (prints : Printed) → IsCurrent w.first (facts_in entries_now) prints
+      → AreFirstBlocks w.first (facts_in entries_now) prints → (clash : Option Clash)
+      → IsClashOf w (facts_in entries_now) clash
       → HasBegun w (at_start prints clash)
-  starts prints current blocks clash is = record { is_searching = record { standing = stands prints blocks clash; clash = is }; current = current; trail_is = refl; no_steps = refl }
+  starts prints current blocks clash is = record {
+    is_searching = record { standing = stands prints blocks clash; clash = is };
+    current = current;
+    trail_is = refl;
+    no_steps = refl;
+  }
 
-  pub begins : (first : ℕ) → first ≡ w.first → (es : List Entry) → es ≡ entries_now → (prints : Printed) → IsCurrent first (facts_in es) prints → AreFirstBlocks first (facts_in es) prints → (trace : TraceLists) → trace ≡ begun
+  pub begins : (first : ℕ) → first ≡ w.first → (es : List Entry) → es ≡ entries_now → (prints : Printed)
+      → IsCurrent first (facts_in es) prints → AreFirstBlocks first (facts_in es) prints → (trace : TraceLists)
+      → trace ≡ begun
       → (marks : List ℕ) → marks ≡ [] → (clash : Option Clash) → IsClashOf w (facts_in es) clash
-      → HasBegun w (record { query = q; at = at; sub = sub; not_sup = not_sup; first = first; entries = es; prints = prints; trace = trace; marks = marks; clash = clash; steps = 0 })
+      → HasBegun w (record {
+        query = q;
+        at = at;
+        sub = sub;
+        not_sup = not_sup;
+        first = first;
+        entries = es;
+        prints = prints;
+        trace = trace;
+        marks = marks;
+        clash = clash;
+        steps = 0;
+      })
   begins first one es are prints current blocks trace traced marks none clash is =
-      let h = starts prints (subst (λ (k : ℕ). IsCurrent k (facts_in entries_now) prints) one (subst (λ (xs : List Entry). IsCurrent first (facts_in xs) prints) are current))
-      (subst (λ (k : ℕ). AreFirstBlocks k (facts_in entries_now) prints) one (subst (λ (xs : List Entry). AreFirstBlocks first (facts_in xs) prints) are blocks)) clash
+      let h =
+      starts prints
+      (subst (λ (k : ℕ). IsCurrent k (facts_in entries_now) prints) one
+      (subst (λ (xs : List Entry). IsCurrent first (facts_in xs) prints) are current))
+      (subst (λ (k : ℕ). AreFirstBlocks k (facts_in entries_now) prints) one
+      (subst (λ (xs : List Entry). AreFirstBlocks first (facts_in xs) prints) are blocks))
+      clash
       (subst (λ (xs : List Entry). IsClashOf w (facts_in xs) clash) are is) in
-      let all : at_start prints clash ≡ record { query = q; at = at; sub = sub; not_sup = not_sup; first = first; entries = es; prints = prints; trace = trace; marks = marks; clash = clash; steps = 0 } =
-      (λ i. record { query = q; at = at; sub = sub; not_sup = not_sup; first = sym one i; entries = sym are i; prints = prints; trace = sym traced i; marks = sym none i; clash = clash; steps = 0 }) in
+      let all : at_start prints clash
+      ≡ record {
+        query = q;
+        at = at;
+        sub = sub;
+        not_sup = not_sup;
+        first = first;
+        entries = es;
+        prints = prints;
+        trace = trace;
+        marks = marks;
+        clash = clash;
+        steps = 0;
+      } =
+      (λ i. record {
+        query = q;
+        at = at;
+        sub = sub;
+        not_sup = not_sup;
+        first = sym one i;
+        entries = sym are i;
+        prints = prints;
+        trace = sym traced i;
+        marks = sym none i;
+        clash = clash;
+        steps = 0;
+      }) in
       subst (λ (s : ProgressLists). HasBegun w s) all h

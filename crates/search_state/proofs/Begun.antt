@@ -1,5 +1,6 @@
 -- The plain clash of a search that begins.
-use Rattle.std.proofs.Common.{◌≡◌, ℕ, ◌<◌, ◌||◌, eqb, Bool, true, false, cond, List, [], ◌∷◌, length, Option, Some, None, refl, ap, ◌∙◌, sym, subst, arith, inl, inr}
+use Rattle.std.proofs.Common.{◌≡◌, ℕ, ◌<◌, ◌||◌, eqb, Bool, true, false, cond, List, [], ◌∷◌, length, Option, Some}
+use Rattle.std.proofs.Common.{None, refl, ap, ◌∙◌, sym, subst, arith, inl, inr}
 use Rattle.std.specs.Prelude.{MatchOption}
 use Rattle.std.specs.List.{filter, range_with_len}
 use Rattle.calculus_specs.specs.Joins.{rep}
@@ -60,7 +61,9 @@ module _ (w : SearchContext) (is : IsTable w.table) where
 
     none_after : (x s e : ℕ) → filled_successors w.first below one x s e ≡ []
     none_after x s e =
-        ap (filter (λ y. has one y e)) (none_pass (is_successor one (λ r. below r s) x) (λ y. and_right (eqb (rep one y) y) false refl) (range_with_len 0 w.first))
+        ap (filter (λ y. has one y e))
+        (none_pass (is_successor one (λ r. below r s) x) (λ y. and_right (eqb (rep one y) y) false refl)
+        (range_with_len 0 w.first))
 
     not_over : (x c n s e : ℕ) → IsOverrun w.first below w.table one x c n s e → ⊥
     not_over x c n s e over = omega (arith, over.more, ap length (none_after x s e))
@@ -74,9 +77,14 @@ module _ (w : SearchContext) (is : IsTable w.table) where
 
     none_at_start : NoClashBy w both at sub → NoClashBy w both at not_sup → ¬ IsPlainClash w.first below w.table both
     none_at_start free also clash =
-        let before : ¬ IsPlainClash w.first below w.table one = λ c. free.none (clashes_more ((concept_clashes w.first below w.table [] at sub at_first none_yet).0 c)) in
+        let before : ¬ IsPlainClash w.first below w.table one =
+        λ c. free.none (clashes_more ((concept_clashes w.first below w.table [] at sub at_first none_yet).0 c)) in
         also.none ((concept_clashes w.first below w.table one at not_sup at_first before).0 clash)
 
-    pub clash_at_start : (fs : List (Fact ℕ)) → fs ≡ both → NoClashBy w fs at sub → (found : Option Clash) → MatchOption found (NoClashBy w fs at not_sup) (IsShown w fs) → IsClashOf w fs found
-    clash_at_start fs e free None h = subst (λ (gs : List (Fact ℕ)). NoClashBy w gs at sub → NoClashBy w gs at not_sup → ¬ IsPlainClash w.first below w.table gs) (sym e) none_at_start free h
+    pub clash_at_start : (fs : List (Fact ℕ)) → fs ≡ both → NoClashBy w fs at sub → (found : Option Clash)
+        → MatchOption found (NoClashBy w fs at not_sup) (IsShown w fs) → IsClashOf w fs found
+    clash_at_start fs e free None h =
+        subst (λ (gs : List (Fact ℕ)). NoClashBy w gs at sub → NoClashBy w gs at not_sup
+        → ¬ IsPlainClash w.first below w.table gs)
+        (sym e) none_at_start free h
     clash_at_start fs e free (Some clash) h = h

@@ -30,7 +30,10 @@ facts-items (Mark c ∷ es) = facts-items es
 pub within-marked : (u : NumberSet) (es : List Entry) → within u (marked_in es) ≡ facts_within u es
 within-marked u [] = refl
 within-marked u (Grounded f by ∷ es) =
-    elim (sets.is_subset by.marks u) as (λ b. map (λ (m : MarkedFact). m.item) (cond b (marked by.marks f ∷ filter (is_within u) (marked_in es)) (filter (is_within u) (marked_in es))) ≡ cond b (f ∷ facts_within u es) (facts_within u es)) [
+    elim (sets.is_subset by.marks u) as
+    (λ b. map (λ (m : MarkedFact). m.item)
+    (cond b (marked by.marks f ∷ filter (is_within u) (marked_in es)) (filter (is_within u) (marked_in es)))
+    ≡ cond b (f ∷ facts_within u es) (facts_within u es)) [
       | true ↦ ap (λ (fs : List (Fact ℕ)). f ∷ fs) (within-marked u es)
       | false ↦ within-marked u es
     ]

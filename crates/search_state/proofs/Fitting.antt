@@ -8,7 +8,9 @@ use Rattle.shq_terms.specs.Concept.{Concept}
 use Rattle.calculus_specs.specs.Rows.{part_at}
 use Rattle.calculus_specs.specs.Tree.{tree_of}
 use Rattle.calculus_specs.specs.Line.{Line}
-use Rattle.calculus_specs.specs.Line.Line.{start_line, and_line, or_line, all_line, carry_line, row_line, range_line, some_line, least_line, choose_line, pair_line, bottom_line, clash_line, most_line, fact_line, differ_line}
+use Rattle.calculus_specs.specs.Line.Line.{start_line, and_line, or_line, all_line, carry_line, row_line, range_line}
+use Rattle.calculus_specs.specs.Line.Line.{some_line, least_line, choose_line, pair_line, bottom_line, clash_line}
+use Rattle.calculus_specs.specs.Line.Line.{most_line, fact_line, differ_line}
 use Rattle.refutation_tree.specs.RuleLine.{concept_numbers}
 use Rattle.tableau_specs.specs.KeptKinds.{IsKept}
 use Rattle.tableau_specs.specs.Steps.{SearchContext}
@@ -89,9 +91,12 @@ shows_part w (differ_line y z) h = refl
 -- ---- fit lines by tests
 
 module _ (w : SearchContext) (sub not_sup : ℕ) where
-  all_pass : (p : Line → Bool) → ((l : NotedLine) → IsFitLine w sub not_sup l → p l.line ≡ true) → (ls : List NotedLine) → All (IsFitLine w sub not_sup) ls → list_all p (map (λ l. l.line) ls) ≡ true
+  all_pass : (p : Line → Bool) → ((l : NotedLine) → IsFitLine w sub not_sup l → p l.line ≡ true) → (ls : List NotedLine)
+      → All (IsFitLine w sub not_sup) ls → list_all p (map (λ l. l.line) ls) ≡ true
   all_pass p passes [] h = refl
-  all_pass p passes (l ∷ ls) h = and_from (p l.line) (list_all p (map (λ m. m.line) ls)) (passes l (All-head (IsFitLine w sub not_sup) l ls h)) (all_pass p passes ls (All-tail (IsFitLine w sub not_sup) l ls h))
+  all_pass p passes (l ∷ ls) h =
+      and_from (p l.line) (list_all p (map (λ m. m.line) ls)) (passes l (All-head (IsFitLine w sub not_sup) l ls h))
+      (all_pass p passes ls (All-tail (IsFitLine w sub not_sup) l ls h))
 
   abbrev over : Line → Bool
   over line = list_all (λ c. nat_lt c (length w.table)) (concept_numbers line)
@@ -100,25 +105,35 @@ module _ (w : SearchContext) (sub not_sup : ℕ) where
   of_kind p line = list_all (λ c. p (tree_of w.table c)) (concept_numbers line)
 
   abbrev AreOfKinds : List NotedLine → Type 0
-  AreOfKinds ls = (p : Concept → Bool) (e : ℕ → Bool) → IsKept w.theory w.fact_of (λ c. p c ≡ true) (λ r. e r ≡ true) → p (tree_of w.table sub) ≡ true → p (tree_of w.table not_sup) ≡ true
+  AreOfKinds ls = (p : Concept → Bool) (e : ℕ → Bool) → IsKept w.theory w.fact_of (λ c. p c ≡ true) (λ r. e r ≡ true)
+      → p (tree_of w.table sub) ≡ true → p (tree_of w.table not_sup) ≡ true
       → list_all (of_kind p) (map (λ l. l.line) ls) ≡ true
 
-  all_fit : (ls : List NotedLine) → list_all over (map (λ l. l.line) ls) ≡ true → AreOfKinds ls → list_all (part_there w) (map (λ l. l.line) ls) ≡ true → All (IsFitLine w sub not_sup) ls
+  all_fit : (ls : List NotedLine) → list_all over (map (λ l. l.line) ls) ≡ true → AreOfKinds ls
+      → list_all (part_there w) (map (λ l. l.line) ls) ≡ true → All (IsFitLine w sub not_sup) ls
   all_fit [] a b c = All-nil (IsFitLine w sub not_sup)
   all_fit (l ∷ ls) a b c =
       let here = and_parts (over l.line) (list_all over (map (λ m. m.line) ls)) a in
       let cs = and_parts (part_there w l.line) (list_all (part_there w) (map (λ m. m.line) ls)) c in
-      let bs : (p : Concept → Bool) (e : ℕ → Bool) → IsKept w.theory w.fact_of (λ c. p c ≡ true) (λ r. e r ≡ true) → p (tree_of w.table sub) ≡ true → p (tree_of w.table not_sup) ≡ true
+      let bs : (p : Concept → Bool) (e : ℕ → Bool) → IsKept w.theory w.fact_of (λ c. p c ≡ true) (λ r. e r ≡ true)
+      → p (tree_of w.table sub) ≡ true → p (tree_of w.table not_sup) ≡ true
       → (of_kind p l.line ≡ true) × (list_all (of_kind p) (map (λ m. m.line) ls) ≡ true) =
-      (λ p e kept is_sub is_not_sup. and_parts (of_kind p l.line) (list_all (of_kind p) (map (λ m. m.line) ls)) (b p e kept is_sub is_not_sup)) in
+      (λ p e kept is_sub is_not_sup. and_parts (of_kind p l.line) (list_all (of_kind p) (map (λ m. m.line) ls))
+      (b p e kept is_sub is_not_sup)) in
       All-cons (IsFitLine w sub not_sup) l ls
-      (record { over = here.0; of_kind = λ p e kept is_sub is_not_sup. (bs p e kept is_sub is_not_sup).0; has_part = has_part w l.line cs.0 })
+      (record {
+        over = here.0;
+        of_kind = λ p e kept is_sub is_not_sup. (bs p e kept is_sub is_not_sup).0;
+        has_part = has_part w l.line cs.0;
+      })
       (all_fit ls here.1 (λ p e kept is_sub is_not_sup. (bs p e kept is_sub is_not_sup).1) cs.1)
 
   -- going back leaves fit lines
-  pub fit_back : (t : TraceLists) (u : NumberSet) → All (IsFitLine w sub not_sup) t.lines → All (IsFitLine w sub not_sup) (turned_back t u).lines
+  pub fit_back : (t : TraceLists) (u : NumberSet) → All (IsFitLine w sub not_sup) t.lines
+      → All (IsFitLine w sub not_sup) (turned_back t u).lines
   fit_back t u fit =
       all_fit (turned_back t u).lines
       (kinds_kept over t u (all_pass over (λ l f. f.over) t.lines fit))
-      (λ p e kept is_sub is_not_sup. kinds_kept (of_kind p) t u (all_pass (of_kind p) (λ l f. f.of_kind p e kept is_sub is_not_sup) t.lines fit))
+      (λ p e kept is_sub is_not_sup. kinds_kept (of_kind p) t u
+      (all_pass (of_kind p) (λ l f. f.of_kind p e kept is_sub is_not_sup) t.lines fit))
       (kinds_kept (part_there w) t u (all_pass (part_there w) (λ l f. shows_part w l.line f.has_part) t.lines fit))

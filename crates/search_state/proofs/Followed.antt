@@ -14,10 +14,12 @@ pub entries_same : (old new : ProgressLists) → IsSameButBlocks old new → new
 entries_same old new same = ap (λ (q : ProgressLists). q.entries) same
 
 -- all blocks are those that are there
-pub followed_first : (old new : ProgressLists) → HasFollowed old new → AreFirstBlocks new.first (facts_in new.entries) new.prints
+pub followed_first : (old new : ProgressLists) → HasFollowed old new
+    → AreFirstBlocks new.first (facts_in new.entries) new.prints
 followed_first old new h = all_are_first new.first (facts_in new.entries) new.prints h.current
 
-pub still_stands : (w : SearchContext) (old new : ProgressLists) → IsSameButBlocks old new → AreFirstBlocks new.first (facts_in new.entries) new.prints → IsStanding w old → IsStanding w new
+pub still_stands : (w : SearchContext) (old new : ProgressLists) → IsSameButBlocks old new
+    → AreFirstBlocks new.first (facts_in new.entries) new.prints → IsStanding w old → IsStanding w new
 still_stands w old new same first st = subst (λ (q : ProgressLists). IsStanding w q) (sym same) (record {
   asked = st.asked;
   first_is = st.first_is;
@@ -30,17 +32,21 @@ still_stands w old new same first st = subst (λ (q : ProgressLists). IsStanding
   fit = st.fit;
 })
 
-pub still_none : (w : SearchContext) (old new : ProgressLists) → IsSameButBlocks old new → IsClashOf w (facts_in old.entries) None → IsClashOf w (facts_in new.entries) None
-still_none w old new same none = subst (λ (es : List Entry). IsClashOf w (facts_in es) None) (sym (entries_same old new same)) none
+pub still_none : (w : SearchContext) (old new : ProgressLists) → IsSameButBlocks old new
+    → IsClashOf w (facts_in old.entries) None → IsClashOf w (facts_in new.entries) None
+still_none w old new same none =
+    subst (λ (es : List Entry). IsClashOf w (facts_in es) None) (sym (entries_same old new same)) none
 
-pub still_searches : (w : SearchContext) (old new : ProgressLists) → IsSameButBlocks old new → AreFirstBlocks new.first (facts_in new.entries) new.prints → IsSearching w old → IsSearching w new
+pub still_searches : (w : SearchContext) (old new : ProgressLists) → IsSameButBlocks old new
+    → AreFirstBlocks new.first (facts_in new.entries) new.prints → IsSearching w old → IsSearching w new
 still_searches w old new same first h = record {
   standing = still_stands w old new same first h.standing;
   clash = subst (λ (q : ProgressLists). IsClashOf w (facts_in q.entries) q.clash) (sym same) h.clash;
 }
 
 -- what a step comes to
-pub stepped_after : (w : SearchContext) (old mid new : ProgressLists) → IsSameButBlocks old mid → (s : Stepped) → IsStepped w mid new s → IsStepped w old new s
+pub stepped_after : (w : SearchContext) (old mid new : ProgressLists) → IsSameButBlocks old mid → (s : Stepped)
+    → IsStepped w mid new s → IsStepped w old new s
 stepped_after w old mid new same s h = by_kind s (subst (λ (q : ProgressLists). IsStepped w q new s) same h)
   where
     before : ProgressLists
@@ -49,7 +55,13 @@ stepped_after w old mid new same s h = by_kind s (subst (λ (q : ProgressLists).
     by_kind : (s : Stepped) → IsStepped w before new s → IsStepped w old new s
     by_kind Moved h = (
       record {
-        same = record { query = h.0.same.query; at = h.0.same.at; sub = h.0.same.sub; not_sup = h.0.same.not_sup; first = h.0.same.first };
+        same = record {
+          query = h.0.same.query;
+          at = h.0.same.at;
+          sub = h.0.same.sub;
+          not_sup = h.0.same.not_sup;
+          first = h.0.same.first;
+        };
         standing = h.0.standing;
         is_legal = h.0.is_legal;
         counted = h.0.counted;
@@ -58,7 +70,13 @@ stepped_after w old mid new same s h = by_kind s (subst (λ (q : ProgressLists).
     )
     by_kind Saturated h = (record { same = h.0.same; current = h.0.current }, h.1)
     by_kind Closed h = record {
-      same = record { query = h.same.query; at = h.same.at; sub = h.same.sub; not_sup = h.same.not_sup; first = h.same.first };
+      same = record {
+        query = h.same.query;
+        at = h.same.at;
+        sub = h.same.sub;
+        not_sup = h.same.not_sup;
+        first = h.same.first;
+      };
       entries = h.entries;
       blocks = h.blocks;
       steps = h.steps;

@@ -22,7 +22,8 @@ use Rattle.search_state.specs.Turning.{HasGoneBack}
 use Rattle.search_state.proofs.Moving.{lines_fit}
 use Rattle.search_state.proofs.Fitting.{fit_back}
 
-module _ (w : SearchContext) (old : ProgressLists) (st : IsStanding w old) (clash : HasClash w (items_of old.entries)) (line : Line) (u : NumberSet) (r : RestsClash w old.entries line u) where
+module _ (w : SearchContext) (old : ProgressLists) (st : IsStanding w old) (clash : HasClash w (items_of old.entries))
+    (line : Line) (u : NumberSet) (r : RestsClash w old.entries line u) where
   abbrev asked : Question
   asked = asked_by w old
 
@@ -33,20 +34,46 @@ module _ (w : SearchContext) (old : ProgressLists) (st : IsStanding w old) (clas
   lined = with_line old.trace line u
 
   closing : IsClosingAt asked w.table start lined st.places u
-  closing = let at = r.resting.holds (asked_by w old) old.trace.next in (goes_on asked w.table start old.trace st.places (marked_in old.entries) st.traced).clash line u at.rule at.holds at.children_are
+  closing =
+      let at = r.resting.holds (asked_by w old) old.trace.next in
+      (goes_on asked w.table start old.trace st.places (marked_in old.entries) st.traced).clash line u at.rule at.holds
+      at.children_are
 
   gone : GoesBack asked w.table start lined st.places u
   gone = goes_back asked w.table start lined st.places u closing
 
   -- the progress with the trace that has gone back
   abbrev pub back_progress : ProgressLists
-  back_progress = record { query = old.query; at = old.at; sub = old.sub; not_sup = old.not_sup; first = old.first; entries = old.entries; prints = old.prints; trace = closed_trace old.trace line u; marks = old.marks; clash = old.clash; steps = old.steps }
+  back_progress = record {
+    query = old.query;
+    at = old.at;
+    sub = old.sub;
+    not_sup = old.not_sup;
+    first = old.first;
+    entries = old.entries;
+    prints = old.prints;
+    trace = closed_trace old.trace line u;
+    marks = old.marks;
+    clash = old.clash;
+    steps = old.steps;
+  }
 
   fit : All (IsFitLine w old.sub old.not_sup) (turned_back lined u).lines
   fit = fit_back w old.sub old.not_sup lined u (lines_fit w old st old.trace.next line u [] [] r.resting)
 
-  by_left : (left : List Place) (b : Back) → gone.passed ++ left ≡ st.places → length left ≡ length (turned_back lined u).opens → IsLeft asked w.table start (turned_back lined u) (gone_back lined.lines lined.opens u).used left b → HasGoneBack w back_progress b
-  by_left [] Closed are count is = record { asked = st.asked; first_is = st.first_is; follows = st.follows; blocks = st.blocks; has_clash = clash; closes = is; fit = fit }
+  by_left : (left : List Place) (b : Back) → gone.passed ++ left ≡ st.places
+      → length left ≡ length (turned_back lined u).opens
+      → IsLeft asked w.table start (turned_back lined u) (gone_back lined.lines lined.opens u).used left b
+      → HasGoneBack w back_progress b
+  by_left [] Closed are count is = record {
+    asked = st.asked;
+    first_is = st.first_is;
+    follows = st.follows;
+    blocks = st.blocks;
+    has_clash = clash;
+    closes = is;
+    fit = fit;
+  }
   by_left [] (Turned mark marks) are count is = absurd is
   by_left (p ∷ older) Closed are count is = absurd is
   by_left (p ∷ older) (Turned mark marks) are count is = record {
@@ -69,4 +96,6 @@ module _ (w : SearchContext) (old : ProgressLists) (st : IsStanding w old) (clas
   }
 
   pub has_gone_back : (b : Back) → b ≡ answer_of lined u → HasGoneBack w back_progress b
-  has_gone_back b e = subst (λ (a : Back). HasGoneBack w back_progress a) (sym e) (by_left gone.left (answer_of lined u) gone.places_are gone.same_count gone.is_left)
+  has_gone_back b e =
+      subst (λ (a : Back). HasGoneBack w back_progress a) (sym e)
+      (by_left gone.left (answer_of lined u) gone.places_are gone.same_count gone.is_left)

@@ -1,5 +1,6 @@
 -- Facts that hold by those which rest on few marks hold by more.
-use Rattle.std.proofs.Common.{◌≡◌, ℕ, zero, suc, ◌+◌, ◌<◌, ◌&&◌, eqb, true, List, [], ◌∷◌, length, get_or, take, refl, ap, ◌∙◌, sym, subst, arith, inl, inr, eq-eqb}
+use Rattle.std.proofs.Common.{◌≡◌, ℕ, zero, suc, ◌+◌, ◌<◌, ◌&&◌, eqb, true, List, [], ◌∷◌, length, get_or, take, refl}
+use Rattle.std.proofs.Common.{ap, ◌∙◌, sym, subst, arith, inl, inr, eq-eqb}
 use Rattle.std.specs.List.{list_all}
 use Rattle.std.specs.FinSet as sets
 use Rattle.std.proofs.lemmas.Cmp.{nat_cmp_total}
@@ -38,22 +39,32 @@ use Rattle.search_state.proofs.Entries.{items-marked}
 -- ---- more marks
 
 pub part_on : (s u v : NumberSet) → sets.is_subset s u ≡ true → sets.is_subset u v ≡ true → sets.is_subset s v ≡ true
-part_on s u v h more = sets.contains-is_subset nat_cmp_total s v (λ k one. sets.is_subset-contains nat_cmp_total u v more k (sets.is_subset-contains nat_cmp_total s u h k one))
+part_on s u v h more =
+    sets.contains-is_subset nat_cmp_total s v
+    (λ k one. sets.is_subset-contains nat_cmp_total u v more k (sets.is_subset-contains nat_cmp_total s u h k one))
 
 pub part_itself : (s : NumberSet) → sets.is_subset s s ≡ true
 part_itself s = sets.contains-is_subset nat_cmp_total s s (λ k h. h)
 
 pub part_left : (s t : NumberSet) → sets.is_subset s (sets.union s t) ≡ true
-part_left s t = sets.contains-is_subset nat_cmp_total s (sets.union s t) (λ k h. sets.contains-union nat_cmp_total s t k ∙ or_left (sets.contains s k) (sets.contains t k) h)
+part_left s t =
+    sets.contains-is_subset nat_cmp_total s (sets.union s t)
+    (λ k h. sets.contains-union nat_cmp_total s t k ∙ or_left (sets.contains s k) (sets.contains t k) h)
 
 pub part_right : (s t : NumberSet) → sets.is_subset t (sets.union s t) ≡ true
-part_right s t = sets.contains-is_subset nat_cmp_total t (sets.union s t) (λ k h. sets.contains-union nat_cmp_total s t k ∙ or_right (sets.contains s k) (sets.contains t k) h)
+part_right s t =
+    sets.contains-is_subset nat_cmp_total t (sets.union s t)
+    (λ k h. sets.contains-union nat_cmp_total s t k ∙ or_right (sets.contains s k) (sets.contains t k) h)
 
-within_more : {A : Type 0} → (u v : NumberSet) (ms : List (Marked A)) → sets.is_subset u v ≡ true → IsAmong (within u ms) (within v ms)
+within_more : {A : Type 0} → (u v : NumberSet) (ms : List (Marked A)) → sets.is_subset u v ≡ true
+    → IsAmong (within u ms) (within v ms)
 within_more u v ms more p any =
     any_within v p ms
     ∙ any_implies (λ m. is_within u m && p m.item) (λ m. is_within v m && p m.item)
-    (λ m h. let b = and_parts (is_within u m) (p m.item) h in and_from (is_within v m) (p m.item) (part_on m.marks u v b.0 more) b.1) ms (sym (any_within u p ms) ∙ any)
+    (λ m h.
+    let b = and_parts (is_within u m) (p m.item) h in
+    and_from (is_within v m) (p m.item) (part_on m.marks u v b.0 more) b.1)
+    ms (sym (any_within u p ms) ∙ any)
 
 module _ (fs gs : List (Fact ℕ)) (more : IsAmong fs gs) where
   joined_more : (x y : ℕ) → IsJoined fs x y → IsJoined gs x y
@@ -76,30 +87,40 @@ module _ (fs gs : List (Fact ℕ)) (more : IsAmong fs gs) where
   so_more (Apart x y) h = apart_stays fs gs more x y h
   so_more (Same x y) h = one_more x y h
 
-pub holds_more : (u v : NumberSet) (ms : List MarkedFact) (f : Fact ℕ) → sets.is_subset u v ≡ true → is_so (within u ms) f ≡ true → is_so (within v ms) f ≡ true
+pub holds_more : (u v : NumberSet) (ms : List MarkedFact) (f : Fact ℕ) → sets.is_subset u v ≡ true
+    → is_so (within u ms) f ≡ true → is_so (within v ms) f ≡ true
 holds_more u v ms f more h = so_more (within u ms) (within v ms) (within_more u v ms more) f h
 
-pub all_hold_more : (u v : NumberSet) (ms : List MarkedFact) (fs : List (Fact ℕ)) → sets.is_subset u v ≡ true → HoldWithin u ms fs → HoldWithin v ms fs
+pub all_hold_more : (u v : NumberSet) (ms : List MarkedFact) (fs : List (Fact ℕ)) → sets.is_subset u v ≡ true
+    → HoldWithin u ms fs → HoldWithin v ms fs
 all_hold_more u v ms [] more h = refl
 all_hold_more u v ms (f ∷ fs) more h =
     let b = and_parts (is_so (within u ms) f) (list_all (is_so (within u ms)) fs) h in
-    and_from (is_so (within v ms) f) (list_all (is_so (within v ms)) fs) (holds_more u v ms f more b.0) (all_hold_more u v ms fs more b.1)
+    and_from (is_so (within v ms) f) (list_all (is_so (within v ms)) fs) (holds_more u v ms f more b.0)
+    (all_hold_more u v ms fs more b.1)
 
-pub hold_next : (u v : NumberSet) (ms : List MarkedFact) (fs : List (Fact ℕ)) (i : ℕ) (d : Fact ℕ) → i < length fs → sets.is_subset u v ≡ true → HoldWithin u ms (take i fs)
+pub hold_next : (u v : NumberSet) (ms : List MarkedFact) (fs : List (Fact ℕ)) (i : ℕ) (d : Fact ℕ) → i < length fs
+    → sets.is_subset u v ≡ true → HoldWithin u ms (take i fs)
     → is_so (within v ms) (get_or fs i d) ≡ true → HoldWithin v ms (take (i + 1) fs)
 hold_next u v ms fs i d lt more before here =
-    ap (list_all (is_so (within v ms))) (take_more fs i d lt) ∙ list_all-append (is_so (within v ms)) (take i fs) (get_or fs i d ∷ [])
-    ∙ and_from (list_all (is_so (within v ms)) (take i fs)) (is_so (within v ms) (get_or fs i d) && true) (all_hold_more u v ms (take i fs) more before) (and_from (is_so (within v ms) (get_or fs i d)) true here refl)
+    ap (list_all (is_so (within v ms))) (take_more fs i d lt)
+    ∙ list_all-append (is_so (within v ms)) (take i fs) (get_or fs i d ∷ [])
+    ∙ and_from (list_all (is_so (within v ms)) (take i fs)) (is_so (within v ms) (get_or fs i d) && true)
+    (all_hold_more u v ms (take i fs) more before) (and_from (is_so (within v ms) (get_or fs i d)) true here refl)
 
-pub so_at : (fs gs : List (Fact ℕ)) (i : ℕ) (d : Fact ℕ) → i < length gs → list_all (is_so fs) gs ≡ true → is_so fs (get_or gs i d) ≡ true
+pub so_at : (fs gs : List (Fact ℕ)) (i : ℕ) (d : Fact ℕ) → i < length gs → list_all (is_so fs) gs ≡ true
+    → is_so fs (get_or gs i d) ≡ true
 so_at fs [] i d lt h = absurd (omega (arith, lt))
 so_at fs (g ∷ gs) zero d lt h = (and_parts (is_so fs g) (list_all (is_so fs) gs) h).0
-so_at fs (g ∷ gs) (suc i) d lt h = so_at fs gs i d (omega (arith, lt)) (and_parts (is_so fs g) (list_all (is_so fs) gs) h).1
+so_at fs (g ∷ gs) (suc i) d lt h =
+    so_at fs gs i d (omega (arith, lt)) (and_parts (is_so fs g) (list_all (is_so fs) gs) h).1
 
 -- ---- lines
 
-module _ (w : SearchContext) (es : List Entry) (line : Line) (grounds : List (Fact ℕ)) (u : NumberSet) (grounded : AreGrounded w.first (marked_in es)) (hold : HoldWithin u (marked_in es) grounds) where
-  resting : (children : List Added) (nodes : List ℕ) → Serves w (facts_in es) line grounds children nodes → IsResting w es line u children nodes
+module _ (w : SearchContext) (es : List Entry) (line : Line) (grounds : List (Fact ℕ)) (u : NumberSet)
+    (grounded : AreGrounded w.first (marked_in es)) (hold : HoldWithin u (marked_in es) grounds) where
+  resting : (children : List Added) (nodes : List ℕ) → Serves w (facts_in es) line grounds children nodes
+      → IsResting w es line u children nodes
   resting children nodes s = record {
     holds = λ q number. s.holds_by q number u (marked_in es) (items-marked es) grounded hold;
     knows = s.knows u (marked_in es) grounded hold;
@@ -109,19 +130,37 @@ module _ (w : SearchContext) (es : List Entry) (line : Line) (grounds : List (Fa
   }
 
   pub addition_rests : (x d : ℕ) → ServesAddition w (facts_in es) x d line grounds → RestsAddition w es x d line u
-  addition_rests x d s = record { child = s.child; resting = resting (s.child ∷ []) (x ∷ []) s.serves; puts = s.puts; single = s.single }
+  addition_rests x d s =
+      record { child = s.child; resting = resting (s.child ∷ []) (x ∷ []) s.serves; puts = s.puts; single = s.single }
 
-  pub given_rests : (g : Given) → u ≡ sets.empty → ServesGiven w (facts_in es) g line grounds → RestsGiven w es g.fact line u
-  given_rests g none s = record { child = s.child; resting = resting (s.child ∷ []) (named g.fact) s.serves; puts = s.puts; single = s.single; on_nothing = none }
+  pub given_rests : (g : Given) → u ≡ sets.empty → ServesGiven w (facts_in es) g line grounds
+      → RestsGiven w es g.fact line u
+  given_rests g none s = record {
+    child = s.child;
+    resting = resting (s.child ∷ []) (named g.fact) s.serves;
+    puts = s.puts;
+    single = s.single;
+    on_nothing = none;
+  }
 
   pub new_nodes_rest : (m : NewNodes) → ServesNewNodes w (facts_in es) m line grounds → RestsNewNodes w es m line u
-  new_nodes_rest m s = record { child = s.child; resting = resting (s.child ∷ []) (m.parent ∷ []) s.serves; puts = s.puts; single = s.single }
+  new_nodes_rest m s = record {
+    child = s.child;
+    resting = resting (s.child ∷ []) (m.parent ∷ []) s.serves;
+    puts = s.puts;
+    single = s.single;
+  }
 
-  pub choice_rests : (c : Choosing) → IsClosedFor w → IsChoosable w (facts_in es) c → ServesChoice w (facts_in es) (branch_of c) line grounds → RestsChoice w es (branch_of c) line u
+  pub choice_rests : (c : Choosing) → IsClosedFor w → IsChoosable w (facts_in es) c
+      → ServesChoice w (facts_in es) (branch_of c) line grounds → RestsChoice w es (branch_of c) line u
   choice_rests c closed is s = record {
     children = s.children;
     resting = resting s.children _ s.serves;
-    alternatives = record { each = s.alternatives; count = s.count; numbered = (lack_nothing w (facts_in es) closed).1 (branch_of c) is.may };
+    alternatives = record {
+      each = s.alternatives;
+      count = s.count;
+      numbered = (lack_nothing w (facts_in es) closed).1 (branch_of c) is.may;
+    };
     branching = s.branching;
   }
 

@@ -1,5 +1,6 @@
 -- The marks of a trail that grows or is cut.
-use Rattle.std.proofs.Common.{◌≡◌, ℕ, zero, suc, ◌<◌, ◌≤◌, List, [], ◌∷◌, ◌++◌, length, take, drop, Some, refl, ap, ◌∙◌, sym, subst, arith}
+use Rattle.std.proofs.Common.{◌≡◌, ℕ, zero, suc, ◌<◌, ◌≤◌, List, [], ◌∷◌, ◌++◌, length, take, drop, Some, refl, ap, ◌∙◌}
+use Rattle.std.proofs.Common.{sym, subst, arith}
 use Rattle.std.specs.Prelude.{slice_get}
 use Rattle.tableau_specs.specs.Steps.{SearchContext}
 use Rattle.search_trace.specs.Places.{Place}
@@ -14,7 +15,8 @@ get-within [] k v h = cc
 get-within (x ∷ xs) zero v h = omega arith
 get-within (x ∷ xs) (suc k) v h = omega (arith, get-within xs k v h)
 
-pub get-front : {A : Type 0} → (xs ys : List A) (k : ℕ) (v : A) → slice_get xs k ≡ Some v → slice_get (xs ++ ys) k ≡ Some v
+pub get-front : {A : Type 0} → (xs ys : List A) (k : ℕ) (v : A) → slice_get xs k ≡ Some v
+    → slice_get (xs ++ ys) k ≡ Some v
 get-front [] ys k v h = cc
 get-front (x ∷ xs) ys zero v h = h
 get-front (x ∷ xs) ys (suc k) v h = get-front xs ys k v h
@@ -35,7 +37,8 @@ pub get-behind : {A : Type 0} → (xs : List A) (x : A) (ys : List A) → slice_
 get-behind [] x ys = refl
 get-behind (y ∷ xs) x ys = get-behind xs x ys
 
-pub get-back : {A : Type 0} → (n : ℕ) (xs : List A) (k : ℕ) (v : A) → slice_get (take n xs) k ≡ Some v → slice_get xs k ≡ Some v
+pub get-back : {A : Type 0} → (n : ℕ) (xs : List A) (k : ℕ) (v : A) → slice_get (take n xs) k ≡ Some v
+    → slice_get xs k ≡ Some v
 get-back zero xs k v h = cc
 get-back (suc n) [] k v h = cc
 get-back (suc n) (x ∷ xs) zero v h = h
@@ -65,13 +68,15 @@ module _ (w : SearchContext) where
     rest = m.rest;
   }
 
-  pub marks_stay : (es more : List Entry) (ats : List ℕ) (ps : List Place) → AreMarks w es ats ps → AreMarks w (es ++ more) ats ps
+  pub marks_stay : (es more : List Entry) (ats : List ℕ) (ps : List Place) → AreMarks w es ats ps
+      → AreMarks w (es ++ more) ats ps
   marks_stay es more [] [] h = tt
   marks_stay es more [] (p ∷ ps) h = absurd h
   marks_stay es more (at ∷ ats) [] h = absurd h
   marks_stay es more (at ∷ ats) (p ∷ ps) h = (
     mark_stays es more at p h.0,
-    subst (λ (us : List Entry). AreMarks w us ats ps) (sym (take-front es more at (omega (arith, get-within es at _ h.0.stands)))) h.1,
+    subst (λ (us : List Entry). AreMarks w us ats ps)
+        (sym (take-front es more at (omega (arith, get-within es at _ h.0.stands)))) h.1,
   )
 
   -- ---- a trail that is cut
@@ -108,7 +113,8 @@ module _ (w : SearchContext) where
         rest = m.rest;
       }
 
-  pub marks_left : (es : List Entry) (ats : List ℕ) (passed : List Place) (p : Place) (ps : List Place) → AreMarks w es ats (passed ++ p ∷ ps) → AreLeft es (drop (length passed) ats) p ps
+  pub marks_left : (es : List Entry) (ats : List ℕ) (passed : List Place) (p : Place) (ps : List Place)
+      → AreMarks w es ats (passed ++ p ∷ ps) → AreLeft es (drop (length passed) ats) p ps
   marks_left es [] [] p ps h = absurd h
   marks_left es (at ∷ ats) [] p ps h = record { at = at; older = ats; ats_are = refl; mark = h.0; others = h.1 }
   marks_left es [] (q ∷ passed) p ps h = absurd h

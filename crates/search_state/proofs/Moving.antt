@@ -53,18 +53,48 @@ module _ (w : SearchContext) (old : ProgressLists) where
     pub grounded : AreGrounded w.first (marked_in entries)
     pub fit : All (IsFitLine w old.sub old.not_sup) trace.lines
 
-  pub moved : IsAsked w old.query old.at old.sub old.not_sup → old.first ≡ w.first → Follows w (start old.at old.sub old.not_sup) old.steps (items_of old.entries) → (new : ProgressLists) (entries : List Entry) (trace : TraceLists) (marks : List ℕ) → AreKept entries trace marks → IsNext old new entries trace marks → HasMoved w old new
+  pub moved : IsAsked w old.query old.at old.sub old.not_sup → old.first ≡ w.first
+      → Follows w (start old.at old.sub old.not_sup) old.steps (items_of old.entries)
+      → (new : ProgressLists) (entries : List Entry) (trace : TraceLists) (marks : List ℕ) → AreKept entries trace marks
+      → IsNext old new entries trace marks → HasMoved w old new
   moved asked first_is follows new entries trace marks k n =
-      let explicit : ProgressLists = record { query = old.query; at = old.at; sub = old.sub; not_sup = old.not_sup; first = old.first; entries = entries; prints = new.prints; trace = trace; marks = marks; clash = new.clash; steps = old.steps + 1 } in
+      let explicit : ProgressLists = record {
+        query = old.query;
+        at = old.at;
+        sub = old.sub;
+        not_sup = old.not_sup;
+        first = old.first;
+        entries = entries;
+        prints = new.prints;
+        trace = trace;
+        marks = marks;
+        clash = new.clash;
+        steps = old.steps + 1;
+      } in
       let same : explicit ≡ new =
-      (λ i. record { query = sym n.query i; at = sym n.at i; sub = sym n.sub i; not_sup = sym n.not_sup i; first = sym n.first i; entries = sym n.entries_are i; prints = new.prints; trace = sym n.trace_is i; marks = sym n.marks_are i; clash = new.clash; steps = sym n.counted i }) in
+      (λ i. record {
+        query = sym n.query i;
+        at = sym n.at i;
+        sub = sym n.sub i;
+        not_sup = sym n.not_sup i;
+        first = sym n.first i;
+        entries = sym n.entries_are i;
+        prints = new.prints;
+        trace = sym n.trace_is i;
+        marks = sym n.marks_are i;
+        clash = new.clash;
+        steps = sym n.counted i;
+      }) in
       let more : suc old.steps ≡ old.steps + 1 = omega arith in
-      let base : Follows w (start old.at old.sub old.not_sup) (suc old.steps) (items_of entries) = (items_of old.entries, follows, k.is_legal) in
+      let base : Follows w (start old.at old.sub old.not_sup) (suc old.steps) (items_of entries) =
+      (items_of old.entries, follows, k.is_legal) in
       let here : IsStanding w explicit = record {
         asked = asked;
         first_is = first_is;
         follows = subst (λ (m : ℕ). Follows w (start old.at old.sub old.not_sup) m (items_of entries)) more base;
-        blocks = subst (λ (k : ℕ). AreFirstBlocks k (facts_in entries) new.prints) n.first (subst (λ (es : List Entry). AreFirstBlocks new.first (facts_in es) new.prints) n.entries_are n.blocks);
+        blocks =
+            subst (λ (k : ℕ). AreFirstBlocks k (facts_in entries) new.prints) n.first
+            (subst (λ (es : List Entry). AreFirstBlocks new.first (facts_in es) new.prints) n.entries_are n.blocks);
         places = k.places;
         traced = k.traced;
         are_marks = k.are_marks;
@@ -74,7 +104,8 @@ module _ (w : SearchContext) (old : ProgressLists) where
       record {
         same = record { query = n.query; at = n.at; sub = n.sub; not_sup = n.not_sup; first = n.first };
         standing = subst (λ (q : ProgressLists). IsStanding w q) same here;
-        is_legal = subst (λ (es : List Entry). IsLegal w (items_of old.entries) (items_of es)) (sym n.entries_are) k.is_legal;
+        is_legal =
+            subst (λ (es : List Entry). IsLegal w (items_of old.entries) (items_of es)) (sym n.entries_are) k.is_legal;
         counted = n.counted;
       }
 
@@ -97,37 +128,53 @@ module _ (w : SearchContext) (old : ProgressLists) (st : IsStanding w old) where
   }
 
   -- a line that is written for the trail is fit
-  pub line_fits : (number : ℕ) (line : Line) (u : NumberSet) (children : List Added) (nodes : List ℕ) → IsResting w old.entries line u children nodes
+  pub line_fits : (number : ℕ) (line : Line) (u : NumberSet) (children : List Added) (nodes : List ℕ)
+      → IsResting w old.entries line u children nodes
       → IsFitLine w old.sub old.not_sup (record { number = number; line = line; marks = u })
   line_fits number line u children nodes r = record {
     over = r.numbered;
     of_kind = λ p e kept is_sub is_not_sup.
         (let kinds = kept_kinds_stay (asked_by w old) w.table w.rows old.steps (items_of old.entries) reached p e kept
-        (subst (λ (c : Concept). p c ≡ true) st.asked.sub_is is_sub) (subst (λ (c : Concept). p c ≡ true) st.asked.not_sup_is is_not_sup) in
+        (subst (λ (c : Concept). p c ≡ true) st.asked.sub_is is_sub)
+        (subst (λ (c : Concept). p c ≡ true) st.asked.not_sup_is is_not_sup) in
         r.of_kind p e kept (subst (λ (fs : List (Fact ℕ)). AreOfKind w.table fs p e) (facts-items old.entries) kinds));
     has_part = r.has_part;
   }
 
-  pub lines_fit : (number : ℕ) (line : Line) (u : NumberSet) (children : List Added) (nodes : List ℕ) → IsResting w old.entries line u children nodes
-      → All (IsFitLine w old.sub old.not_sup) (old.trace.lines ++ record { number = number; line = line; marks = u } ∷ [])
+  pub lines_fit : (number : ℕ) (line : Line) (u : NumberSet) (children : List Added) (nodes : List ℕ)
+      → IsResting w old.entries line u children nodes
+      → All (IsFitLine w old.sub old.not_sup)
+      (old.trace.lines ++ record { number = number; line = line; marks = u } ∷ [])
   lines_fit number line u children nodes r = (let l : NotedLine = record { number = number; line = line; marks = u } in
-      All-append (IsFitLine w old.sub old.not_sup) old.trace.lines (l ∷ []) st.fit (All-cons (IsFitLine w old.sub old.not_sup) l [] (line_fits number line u children nodes r) (All-nil (IsFitLine w old.sub old.not_sup))))
+      All-append (IsFitLine w old.sub old.not_sup) old.trace.lines (l ∷ []) st.fit
+      (All-cons (IsFitLine w old.sub old.not_sup) l [] (line_fits number line u children nodes r)
+      (All-nil (IsFitLine w old.sub old.not_sup))))
 
   -- ---- one line with one child
 
-  pub single_kept : (line : Line) (u : NumberSet) (child : Added) (nodes : List ℕ) (fs : List (Fact ℕ)) (by : By) → IsResting w old.entries line u (child ∷ []) nodes → Puts w.first w.table child fs → is_single line ≡ true
-      → by.marks ≡ u → AreGrounded w.first (marked_in old.entries ++ map (marked u) fs) → IsLegal w (items_of old.entries) (items_of old.entries ++ says fs)
+  pub single_kept : (line : Line) (u : NumberSet) (child : Added) (nodes : List ℕ) (fs : List (Fact ℕ)) (by : By)
+      → IsResting w old.entries line u (child ∷ []) nodes → Puts w.first w.table child fs → is_single line ≡ true
+      → by.marks ≡ u → AreGrounded w.first (marked_in old.entries ++ map (marked u) fs)
+      → IsLegal w (items_of old.entries) (items_of old.entries ++ says fs)
       → AreKept w old (old.entries ++ grounded by fs) (with_line old.trace line u) old.marks
   single_kept line u child nodes fs by r puts single same ground legal =
       let at = r.holds (asked_by w old) old.trace.next in
       let ms : marked_in (old.entries ++ grounded by fs) ≡ marked_in old.entries ++ map (marked u) fs =
-      marked-append old.entries (grounded by fs) ∙ ap (λ (ns : List MarkedFact). marked_in old.entries ++ ns) (marked-grounded by fs ∙ ap (λ (v : NumberSet). map (marked v) fs) same) in
-      let trail : items_of (old.entries ++ grounded by fs) ≡ items_of old.entries ++ says fs = items-append old.entries (grounded by fs) ∙ ap (λ xs. items_of old.entries ++ xs) (items-grounded by fs) in
+      marked-append old.entries (grounded by fs)
+      ∙ ap (λ (ns : List MarkedFact). marked_in old.entries ++ ns)
+      (marked-grounded by fs ∙ ap (λ (v : NumberSet). map (marked v) fs) same) in
+      let trail : items_of (old.entries ++ grounded by fs) ≡ items_of old.entries ++ says fs =
+      items-append old.entries (grounded by fs) ∙ ap (λ xs. items_of old.entries ++ xs) (items-grounded by fs) in
       record {
         is_legal = subst (λ xs. IsLegal w (items_of old.entries) xs) (sym trail) legal;
         places = st.places;
-        traced = subst (λ (ns : List MarkedFact). IsTracedAt (asked_by w old) w.table (start_of (asked_by w old)) (with_line old.trace line u) st.places ns) (sym ms)
-            ((goes_on (asked_by w old) w.table (start_of (asked_by w old)) old.trace st.places (marked_in old.entries) st.traced).single line u at.rule child fs at.holds at.children_are single puts);
+        traced =
+            subst (λ (ns : List MarkedFact). IsTracedAt (asked_by w old) w.table (start_of (asked_by w old))
+            (with_line old.trace line u) st.places ns)
+            (sym ms)
+            ((goes_on (asked_by w old) w.table (start_of (asked_by w old)) old.trace st.places (marked_in old.entries)
+            st.traced).single
+            line u at.rule child fs at.holds at.children_are single puts);
         are_marks = marks_stay w old.entries (grounded by fs) old.marks st.places st.are_marks;
         grounded = subst (AreGrounded w.first) (sym ms) ground;
         fit = lines_fit old.trace.next line u (child ∷ []) nodes r;

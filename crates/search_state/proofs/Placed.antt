@@ -1,5 +1,6 @@
 -- The alternatives of a branch by their places.
-use Rattle.std.proofs.Common.{◌≡◌, ℕ, zero, suc, ◌+◌, ◌<◌, List, [], ◌∷◌, length, Some, refl, sym, subst, arith, slice_index_or}
+use Rattle.std.proofs.Common.{◌≡◌, ℕ, zero, suc, ◌+◌, ◌<◌, List, [], ◌∷◌, length, Some, refl, sym, subst, arith}
+use Rattle.std.proofs.Common.{slice_index_or}
 use Rattle.std.specs.Prelude.{slice_get}
 use Rattle.calculus_specs.specs.Shape.{Shape, shape_of}
 use Rattle.calculus_specs.specs.Shape.Shape.{union}
@@ -14,15 +15,20 @@ get_there [] k lt = absurd (omega (arith, lt))
 get_there (d ∷ ds) zero lt = refl
 get_there (d ∷ ds) (suc k) lt = get_there ds k (omega (arith, lt))
 
-pub of_part : (table : List Shape) (c k : ℕ) (parts : List ℕ) → union parts ≡ shape_of table c → k < part_count (shape_of table c) → (x : ℕ) → IsAlternative table (Or x c) (k + 1) (Has x (slice_index_or parts k 0))
+pub of_part : (table : List Shape) (c k : ℕ) (parts : List ℕ) → union parts ≡ shape_of table c
+    → k < part_count (shape_of table c) → (x : ℕ)
+    → IsAlternative table (Or x c) (k + 1) (Has x (slice_index_or parts k 0))
 of_part table c k parts is lt x =
-    of_union x c k (slice_index_or parts k 0) parts (sym is) (get_there parts k (subst (λ (s : Shape). k < part_count s) (sym is) lt))
+    of_union x c k (slice_index_or parts k 0) parts (sym is)
+    (get_there parts k (subst (λ (s : Shape). k < part_count s) (sym is) lt))
 
 pub of_first : (table : List Shape) (k y c : ℕ) → k ≡ 0 → IsAlternative table (Choose y c) (k + 1) (Has y c)
 of_first table k y c is = subst (λ (n : ℕ). IsAlternative table (Choose y c) (n + 1) (Has y c)) (sym is) (of_filler y c)
 
-pub of_second : (table : List Shape) (k y c d : ℕ) → k ≡ 1 → IsComplement table c d → IsAlternative table (Choose y c) (k + 1) (Has y d)
-of_second table k y c d is complement = subst (λ (n : ℕ). IsAlternative table (Choose y c) (n + 1) (Has y d)) (sym is) (of_complement y c d complement)
+pub of_second : (table : List Shape) (k y c d : ℕ) → k ≡ 1 → IsComplement table c d
+    → IsAlternative table (Choose y c) (k + 1) (Has y d)
+of_second table k y c d is complement =
+    subst (λ (n : ℕ). IsAlternative table (Choose y c) (n + 1) (Has y d)) (sym is) (of_complement y c d complement)
 
 pub joined : (table : List Shape) (k y z : ℕ) → k ≡ 0 → IsAlternative table (Pair y z) (k + 1) (Same y z)
 joined table k y z is = subst (λ (n : ℕ). IsAlternative table (Pair y z) (n + 1) (Same y z)) (sym is) (of_joining y z)

@@ -1,5 +1,6 @@
 -- How far a search is.
-use Rattle.std.specs.Prelude.{◌≡◌, ℕ, ◌+◌, ◌<◌, nat_lt, Bool, true, List, [], ◌∷◌, ◌++◌, length, Option, Some, None, All}
+use Rattle.std.specs.Prelude.{◌≡◌, ℕ, ◌+◌, ◌<◌, nat_lt, Bool, true, List, [], ◌∷◌, ◌++◌, length, Option, Some, None}
+use Rattle.std.specs.Prelude.{All}
 use Rattle.std.specs.List.{list_all}
 use Rattle.shq_terms.specs.Concept.{Concept}
 use Rattle.shq_terms.specs.declared.axioms.Query.{Query}
@@ -90,7 +91,8 @@ pub record IsSameQuery (old new : ProgressLists) : Type 0 where
 -- a fact of an axiom, there is one.
 pub record IsFitLine (w : SearchContext) (sub not_sup : ℕ) (l : NotedLine) : Type 0 where
   pub over : list_all (λ c. nat_lt c (length w.table)) (concept_numbers l.line) ≡ true
-  pub of_kind : (p : Concept → Bool) (e : ℕ → Bool) → IsKept w.theory w.fact_of (λ c. p c ≡ true) (λ r. e r ≡ true) → p (tree_of w.table sub) ≡ true → p (tree_of w.table not_sup) ≡ true
+  pub of_kind : (p : Concept → Bool) (e : ℕ → Bool) → IsKept w.theory w.fact_of (λ c. p c ≡ true) (λ r. e r ≡ true)
+      → p (tree_of w.table sub) ≡ true → p (tree_of w.table not_sup) ≡ true
       → list_all (λ c. p (tree_of w.table c)) (concept_numbers l.line) ≡ true
   pub has_part : HasPart w l.line
 
@@ -134,7 +136,8 @@ pub record IsLast (w : SearchContext) (es : List Entry) (f : Fact ℕ) : Type 0 
 
 -- the entries with the facts of new nodes behind them
 abbrev pub with_nodes : ℕ → List Entry → NewNodes → By → List Entry
-with_nodes first es m by = (with_fresh (record { first = first; entries = es }) m.parent m.role m.filler m.count by).entries
+with_nodes first es m by =
+    (with_fresh (record { first = first; entries = es }) m.parent m.role m.filler m.count by).entries
 
 -- the trail's last entries are the facts of new nodes, before which there was no plain clash
 pub record IsLastNew (w : SearchContext) (es : List Entry) (m : NewNodes) (new : ℕ) : Type 0 where

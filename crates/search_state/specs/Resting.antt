@@ -27,10 +27,13 @@ use Rattle.search_state.specs.Branchings.{AreAlternatives}
 
 -- what the line asks holds by facts that rest on marks in u alone, its children add that, and these nodes are known by
 -- such facts
-pub record IsResting (w : SearchContext) (es : List Entry) (line : Line) (u : NumberSet) (children : List Added) (nodes : List ℕ) : Type 0 where
-  pub holds : (q : Question) (number : ℕ) → HoldsAt w q (marked_in es) (record { number = number; line = line; marks = u }) children
+pub record IsResting (w : SearchContext) (es : List Entry) (line : Line) (u : NumberSet) (children : List Added)
+    (nodes : List ℕ) : Type 0 where
+  pub holds : (q : Question) (number : ℕ)
+      → HoldsAt w q (marked_in es) (record { number = number; line = line; marks = u }) children
   pub knows : list_all (is_known_within w.first u (marked_in es)) nodes ≡ true
-  pub of_kind : (p : Concept → Bool) (e : ℕ → Bool) → IsKept w.theory w.fact_of (λ c. p c ≡ true) (λ r. e r ≡ true) → AreOfKind w.table (facts_in es) p e
+  pub of_kind : (p : Concept → Bool) (e : ℕ → Bool) → IsKept w.theory w.fact_of (λ c. p c ≡ true) (λ r. e r ≡ true)
+      → AreOfKind w.table (facts_in es) p e
       → list_all (λ c. p (tree_of w.table c)) (concept_numbers line) ≡ true
   pub numbered : list_all (λ c. nat_lt c (length w.table)) (concept_numbers line) ≡ true
   pub has_part : HasPart w line
@@ -43,10 +46,12 @@ pub record RestsAddition (w : SearchContext) (es : List Entry) (x d : ℕ) (line
   pub single : is_single line ≡ true
 
 -- the line makes these nodes
-pub record RestsNewNodes (w : SearchContext) (es : List Entry) (m : NewNodes) (line : Line) (u : NumberSet) : Type 0 where
+pub record RestsNewNodes (w : SearchContext) (es : List Entry) (m : NewNodes) (line : Line) (u : NumberSet) :
+    Type 0 where
   pub child : Added
   pub resting : IsResting w es line u (child ∷ []) (m.parent ∷ [])
-  pub puts : Puts w.first w.table child (fresh_facts m.parent m.role m.filler (node_count_from w.first (facts_in es)) m.count)
+  pub puts : Puts w.first w.table child
+      (fresh_facts m.parent m.role m.filler (node_count_from w.first (facts_in es)) m.count)
   pub single : is_single line ≡ true
 
 -- the line gives this fact, and rests on nothing

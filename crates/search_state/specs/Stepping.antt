@@ -11,7 +11,8 @@ use Rattle.step_agenda.specs.Followed.{AreFirstBlocks, IsCurrent}
 use Rattle.search_state.specs.declared.stepping.Stepped.{Stepped}
 use Rattle.search_state.specs.declared.stepping.Stepped.TheVariants.{Moved, Saturated, Closed}
 use Rattle.search_state.specs.declared.stepping.Rested.{Rested}
-use Rattle.search_state.specs.declared.stepping.Rested.TheVariants.{CanMove, Saturated as RestSaturated, Closed as RestClosed}
+use Rattle.search_state.specs.declared.stepping.Rested.TheVariants.{CanMove, Saturated as RestSaturated}
+use Rattle.search_state.specs.declared.stepping.Rested.TheVariants.{Closed as RestClosed}
 use Rattle.search_state.specs.Progress.{ProgressLists, asked_by, IsFitLine, IsSearching, IsSameQuery, HasMoved}
 
 -- what has begun

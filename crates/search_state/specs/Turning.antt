@@ -36,8 +36,10 @@ pub record IsTurning (w : SearchContext) (s : ProgressLists) (mark : ℕ) (marks
   pub marks_are : marks ≡ sets.insert place.marks place.mark
   pub used : NumberSet
   pub has_next : (a : Added) × (rest : List Added) × (place.rest ≡ a ∷ rest)
-  pub traced : (a : Added) (rest : List Added) (new : List (Fact ℕ)) → place.rest ≡ a ∷ rest → Puts w.first w.table a new
-      → IsTracedAt (asked_by w s) w.table (start_of (asked_by w s)) s.trace (turned_place place s.trace.lines used rest ∷ older) (place.facts ++ map (marked marks) new)
+  pub traced : (a : Added) (rest : List Added) (new : List (Fact ℕ)) → place.rest ≡ a ∷ rest
+      → Puts w.first w.table a new
+      → IsTracedAt (asked_by w s) w.table (start_of (asked_by w s)) s.trace
+      (turned_place place s.trace.lines used rest ∷ older) (place.facts ++ map (marked marks) new)
   pub fit : All (IsFitLine w s.sub s.not_sup) s.trace.lines
 
 -- the trail has a clash, and the lines of the trace close everything

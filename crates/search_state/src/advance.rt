@@ -36,7 +36,8 @@ impl<'b, A: Allocator + Copy> Progress<'b, A> {
     fn add<R: Rules>(&mut self, rules: &R, addition: &Addition) -> Result<(), NoMemory>
         requires standing { IsStanding (R.context rules.now) self.old }
         requires none { IsClashOf (R.context rules.now) (facts_in self.old.entries) None }
-        requires addition { IsAddition (R.context rules.now) (facts_in self.old.entries) (R.files rules.now) addition.now }
+        requires addition { IsAddition (R.context rules.now) (facts_in self.old.entries) (R.files rules.now)
+            addition.now }
         requires countable { self.old.steps + 1 < 2 ^ 64 }
         ensures { OnOk result (HasAdvanced (R.context rules.now) self.old self.new) }
     {

@@ -1,5 +1,6 @@
 // Going back from a clash.
-ghost use Rattle.std.specs.Prelude.{◌≡◌, ℕ, ◌+◌, ◌<◌, ◌≤◌, ◌^◌, min, length, take, drop, true, Some, slice_get, OnOk, IfOk};
+ghost use Rattle.std.specs.Prelude.{◌≡◌, ℕ, ◌+◌, ◌<◌, ◌≤◌, ◌^◌, min, length, take, drop, true, Some, slice_get, OnOk};
+ghost use Rattle.std.specs.Prelude.{IfOk};
 ghost use Rattle.calculus_specs.specs.Joins.{rep};
 ghost use Rattle.calculus_specs.specs.State.{node_count_from};
 ghost use Rattle.step_agenda.specs.Changed.{least_touched};
@@ -37,8 +38,10 @@ impl<'b, A: Allocator + Copy> Progress<'b, A> {
         requires standing { IsStanding (R.context rules.now) self.old }
         requires clash { HasClash (R.context rules.now) (items_of self.old.entries) }
         requires rests { RestsClash (R.context rules.now) self.old.entries (line_of resting.line) resting.marks }
-        ensures answer { IfOk result (λ b. b ≡ answer_of (with_line self.old.trace (line_of resting.line) resting.marks) resting.marks) }
-        ensures trace { OnOk result (self.new ≡ record self.old { trace = closed_trace self.old.trace (line_of resting.line) resting.marks }) }
+        ensures answer { IfOk result
+            (λ b. b ≡ answer_of (with_line self.old.trace (line_of resting.line) resting.marks) resting.marks) }
+        ensures trace { OnOk result
+            (self.new ≡ record self.old { trace = closed_trace self.old.trace (line_of resting.line) resting.marks }) }
         ensures gone_back { IfOk result (HasGoneBack (R.context rules.now) self.new) }
     {
         let _ = rules;
@@ -135,7 +138,8 @@ fn cut<A: Allocator + Copy>(tree: &mut Tree<A>, place: u32, from: u32) -> u32
     ensures stand { (p : Printed) → AreBlocksBelow tree.old.first (facts_in tree.old.entries) from p
         → AreBlocksBelow tree.old.first (facts_in (take place tree.old.entries)) result p }
     ensures least { let first = tree.old.first in let fs = facts_in tree.old.entries in
-        result ≡ min (min from (least_touched first (rep fs) (node_count_from first fs) (facts_in (drop place tree.old.entries))))
+        result ≡ min
+        (min from (least_touched first (rep fs) (node_count_from first fs) (facts_in (drop place tree.old.entries))))
         (node_count_from first (facts_in (take place tree.old.entries))) }
 {
     let _nodes = tree.nodes();

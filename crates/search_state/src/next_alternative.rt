@@ -2,7 +2,8 @@
 ghost use Rattle.std.specs.Prelude.{◌≡◌, ℕ, ◌+◌, ◌<◌, List};
 ghost use Rattle.calculus_specs.specs.Shape.{Shape as PlainShape, shape_of};
 ghost use Rattle.calculus_specs.specs.declared.facts.Fact.TheVariants.{Has as HasFact};
-ghost use Rattle.tableau_specs.specs.declared.Branch.TheVariants.{Or as OrBranch, Choose as ChooseBranch, Pair as PairBranch};
+ghost use Rattle.tableau_specs.specs.declared.Branch.TheVariants.{Or as OrBranch, Choose as ChooseBranch};
+ghost use Rattle.tableau_specs.specs.declared.Branch.TheVariants.{Pair as PairBranch};
 ghost use Rattle.tableau_specs.specs.Steps.{IsAlternative};
 ghost use Rattle.tableau_specs.specs.LineLaws.{IsNumbered};
 ghost use Rattle.step_lines.specs.Kinds.{part_count, alternative_count};
@@ -42,7 +43,8 @@ fn part_at<R: Rules>(rules: &R, concept: u32, place: u32) -> u32
 fn filler_or_complement<R: Rules>(rules: &R, concept: u32, place: u32) -> u32
     requires two { place < 2 }
     requires numbered { IsNumbered (R.context rules.now).table (ChooseBranch 0 concept) }
-    ensures { (y : ℕ) → IsAlternative (R.context rules.now).table (ChooseBranch y concept) (place + 1) (HasFact y result) }
+    ensures { (y : ℕ)
+        → IsAlternative (R.context rules.now).table (ChooseBranch y concept) (place + 1) (HasFact y result) }
 {
     if place == 0 {
         return concept;

@@ -92,7 +92,10 @@ pub(crate) fn keep_blocks<A: Allocator + Copy>(
     requires place { place ≤ length tree.now.entries }
     requires stood { AreBlocksBelow tree.now.first (facts_in (take place tree.now.entries)) from prints.old }
     ensures kept { let first = tree.now.first in let fs = facts_in tree.now.entries in
-        prints.new ≡ printed_first (min from (least_touched first (rep fs) (node_count_from first fs) (facts_in (drop place tree.now.entries)))) prints.old }
+        prints.new
+        ≡ printed_first
+        (min from (least_touched first (rep fs) (node_count_from first fs) (facts_in (drop place tree.now.entries))))
+        prints.old }
     ensures first { AreFirstBlocks tree.now.first (facts_in tree.now.entries) prints.new }
 {
     let _count = tree.nodes();
@@ -110,11 +113,14 @@ impl<'b, A: Allocator + Copy> Progress<'b, A> {
     ) -> Result<(), NoMemory>
         requires standing { IsStanding (R.context rules.now) self.old }
         requires none { IsClashOf (R.context rules.now) (facts_in self.old.entries) None }
-        requires addition { IsAddition (R.context rules.now) (facts_in self.old.entries) (R.files rules.now) addition.now }
-        requires rests { RestsAddition (R.context rules.now) self.old.entries addition.now.node addition.now.concept (line_of resting.line) resting.marks }
+        requires addition { IsAddition (R.context rules.now) (facts_in self.old.entries) (R.files rules.now)
+            addition.now }
+        requires rests { RestsAddition (R.context rules.now) self.old.entries addition.now.node addition.now.concept
+            (line_of resting.line) resting.marks }
         requires countable { self.old.steps + 1 < 2 ^ 64 }
         ensures moved { OnOk result (HasMoved (R.context rules.now) self.old self.new) }
-        ensures last { OnOk result (IsLast (R.context rules.now) self.new.entries (Has addition.now.node addition.now.concept)) }
+        ensures last { OnOk result
+            (IsLast (R.context rules.now) self.new.entries (Has addition.now.node addition.now.concept)) }
     {
         let RestingLine { line, marks } = resting;
         let place = self.tree.len();
@@ -143,7 +149,8 @@ impl<'b, A: Allocator + Copy> Progress<'b, A> {
         requires standing { IsStanding (R.context rules.now) self.old }
         requires none { IsClashOf (R.context rules.now) (facts_in self.old.entries) None }
         requires giving { IsGiving (R.context rules.now) (facts_in self.old.entries) given.now }
-        requires rests { RestsGiven (R.context rules.now) self.old.entries given.now.fact (line_of resting.line) resting.marks }
+        requires rests { RestsGiven (R.context rules.now) self.old.entries given.now.fact (line_of resting.line)
+            resting.marks }
         requires countable { self.old.steps + 1 < 2 ^ 64 }
         ensures moved { OnOk result (HasMoved (R.context rules.now) self.old self.new) }
         ensures last { OnOk result (IsLast (R.context rules.now) self.new.entries given.now.fact) }
@@ -186,7 +193,8 @@ impl<'b, A: Allocator + Copy> Progress<'b, A> {
         requires standing { IsStanding (R.context rules.now) self.old }
         requires none { IsClashOf (R.context rules.now) (facts_in self.old.entries) None }
         requires making { IsMaking (R.context rules.now) (facts_in self.old.entries) new.now }
-        requires rests { RestsNewNodes (R.context rules.now) self.old.entries new.now (line_of resting.line) resting.marks }
+        requires rests { RestsNewNodes (R.context rules.now) self.old.entries new.now (line_of resting.line)
+            resting.marks }
         requires countable { self.old.steps + 1 < 2 ^ 64 }
         ensures moved { OnOk result (HasMoved (R.context rules.now) self.old self.new) }
         ensures last { IfOk result (IsLastNew (R.context rules.now) self.new.entries new.now) }
@@ -233,7 +241,8 @@ impl<'b, A: Allocator + Copy> Progress<'b, A> {
         requires standing { IsStanding (R.context rules.now) self.old }
         requires none { IsClashOf (R.context rules.now) (facts_in self.old.entries) None }
         requires choosable { IsChoosable (R.context rules.now) (facts_in self.old.entries) choosing.now }
-        requires rests { RestsChoice (R.context rules.now) self.old.entries (branch_of choosing.now) (line_of resting.line) resting.marks }
+        requires rests { RestsChoice (R.context rules.now) self.old.entries (branch_of choosing.now)
+            (line_of resting.line) resting.marks }
         requires left { left + 1 ≡ alternative_count (R.context rules.now).table (branch_of choosing.now) }
         requires small { left + 1 < 2 ^ 32 }
         requires first { IsAlternative (R.context rules.now).table (branch_of choosing.now) 1 fact }

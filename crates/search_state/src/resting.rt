@@ -77,7 +77,9 @@ pub(crate) fn rest_addition<A: Allocator + Copy, R: Rules>(
     requires one_first { tree.now.first ≡ (R.context rules.now).first }
     requires grounded { AreGrounded (R.context rules.now).first (marked_in tree.now.entries) }
     requires addition { IsAddition (R.context rules.now) (facts_in tree.now.entries) (R.files rules.now) addition.now }
-    ensures { IfOk result (λ l. RestsAddition (R.context rules.now) tree.now.entries addition.now.node addition.now.concept (line_of l.line) l.marks) }
+    ensures { IfOk result
+        (λ l. RestsAddition (R.context rules.now) tree.now.entries addition.now.node addition.now.concept
+        (line_of l.line) l.marks) }
 {
     let line = line_of_addition(alloc, &TreeState::new(tree), rules, addition)?;
     let marks = marks_of_all(alloc, tree, &line.grounds)?;
@@ -96,7 +98,8 @@ pub(crate) fn rest_given<A: Allocator + Copy, R: Rules>(
 ) -> Result<RestingLine, NoMemory>
     requires grounded { AreGrounded (R.context rules.now).first (marked_in tree.now.entries) }
     requires giving { IsGiving (R.context rules.now) (facts_in tree.now.entries) given.now }
-    ensures { IfOk result (λ l. RestsGiven (R.context rules.now) tree.now.entries given.now.fact (line_of l.line) l.marks) }
+    ensures { IfOk result
+        (λ l. RestsGiven (R.context rules.now) tree.now.entries given.now.fact (line_of l.line) l.marks) }
 {
     let line = line_of_given(alloc, rules, given)?;
     Ok(RestingLine {
@@ -136,7 +139,8 @@ pub(crate) fn rest_choice<A: Allocator + Copy, R: Rules>(
     requires grounded { AreGrounded (R.context rules.now).first (marked_in tree.now.entries) }
     requires choosable { IsChoosable (R.context rules.now) (facts_in tree.now.entries) choosing.now }
     requires closed { IsClosedFor (R.context rules.now) }
-    ensures { IfOk result (λ l. RestsChoice (R.context rules.now) tree.now.entries (branch_of choosing.now) (line_of l.line) l.marks) }
+    ensures { IfOk result
+        (λ l. RestsChoice (R.context rules.now) tree.now.entries (branch_of choosing.now) (line_of l.line) l.marks) }
 {
     let line = line_of_choice(alloc, &TreeState::new(tree), rules, choosing)?;
     let marks = marks_of_all(alloc, tree, &line.grounds)?;

@@ -12,5 +12,10 @@ pub within_count : (s : Limited) (n : ℕ) → IsWithin s.limit s.members → n 
 within_count s n within e = subst (λ (m : ℕ). IsWithin m s.members) (sym e) within
 
 -- one axiom more
-pub one_more : (axioms more : List Numbered) (n : Numbered) → AreInLimit axioms → IsTrue (axiom_has_counts_within 100 n.axiom) → length (axiom_parts n.axiom) ≤ 500000 → more ≡ axioms ++ n ∷ [] → AreInLimit more
-one_more axioms more n h counts parts e = subst AreInLimit (sym e) (All-push (λ m. IsTrue (axiom_has_counts_within 100 m.axiom) × (length (axiom_parts m.axiom) ≤ 500000)) axioms n h (counts, parts))
+pub one_more : (axioms more : List Numbered) (n : Numbered) → AreInLimit axioms
+    → IsTrue (axiom_has_counts_within 100 n.axiom) → length (axiom_parts n.axiom) ≤ 500000 → more ≡ axioms ++ n ∷ []
+    → AreInLimit more
+one_more axioms more n h counts parts e =
+    subst AreInLimit (sym e)
+    (All-push (λ m. IsTrue (axiom_has_counts_within 100 m.axiom) × (length (axiom_parts m.axiom) ≤ 500000)) axioms n h
+    (counts, parts))

@@ -17,7 +17,8 @@ use Rattle.search_trace.specs.Trail.{some_facts}
 use Rattle.search_trace.specs.Alternatives.{HasShape, IsPut}
 use Rattle.search_trace.proofs.ByShape.{rules_by_shape}
 
-get-map : {A B : Type 0} → (f : A → B) (xs : List A) (k : ℕ) (v : A) → slice_get xs k ≡ Some v → slice_get (map f xs) k ≡ Some (f v)
+get-map : {A B : Type 0} → (f : A → B) (xs : List A) (k : ℕ) (v : A) → slice_get xs k ≡ Some v
+    → slice_get (map f xs) k ≡ Some (f v)
 get-map f [] k v h = cc
 get-map f (x ∷ xs) zero v h = ap (λ (o : Option _). mapped f o) h
   where
@@ -30,14 +31,17 @@ same_has : (x : ℕ) (c d : Concept) → c ≡ d → IsAmong (Has x c ∷ []) (H
 same_has x c d e = subst (λ (u : Concept). IsAmong (Has x c ∷ []) (Has x u ∷ [])) e (λ p h. h)
 
 module _ (q : Question) (table : List Shape) (is : IsTable table) where
-  pub alternative_put : (b : Branch) → HasShape table b → (n : ℕ) (f : Fact ℕ) → IsAlternative table b n f → (k : ℕ) → n ≡ k + 1 → IsPut q table b k f
+  pub alternative_put : (b : Branch) → HasShape table b → (n : ℕ) (f : Fact ℕ) → IsAlternative table b n f → (k : ℕ)
+      → n ≡ k + 1 → IsPut q table b k f
   alternative_put b' listed n' f' (of_union x c j d parts sh get) k e =
       let same : j ≡ k = omega arith in
       record {
         rule = _;
         is_rule = (rules_by_shape q table is).by_or x c parts listed sh;
         added = more_facts (Has x (tree_of table d) ∷ []);
-        is_child = get-map (λ p. more_facts (Has x (tree_of table p) ∷ [])) parts k d (subst (λ (i : ℕ). slice_get parts i ≡ Some d) same get);
+        is_child =
+            get-map (λ p. more_facts (Has x (tree_of table p) ∷ [])) parts k d
+            (subst (λ (i : ℕ). slice_get parts i ≡ Some d) same get);
         puts = some_facts (Has x (tree_of table d) ∷ []) (Has x d ∷ []) refl (λ p h. h);
       }
   alternative_put b' listed n' f' (of_filler y c) k e =
@@ -46,7 +50,10 @@ module _ (q : Question) (table : List Shape) (is : IsTable table) where
         rule = _;
         is_rule = (rules_by_shape q table is).by_choose y c listed;
         added = more_facts (Has y (tree_of table c) ∷ []);
-        is_child = ap (slice_get (more_facts (Has y (tree_of table c) ∷ []) ∷ more_facts (Has y (negated_form (tree_of table c)) ∷ []) ∷ [])) same;
+        is_child =
+            ap (slice_get
+            (more_facts (Has y (tree_of table c) ∷ []) ∷ more_facts (Has y (negated_form (tree_of table c)) ∷ []) ∷ []))
+            same;
         puts = some_facts (Has y (tree_of table c) ∷ []) (Has y c ∷ []) refl (λ p h. h);
       }
   alternative_put b' listed n' f' (of_complement y c d other) k e =
@@ -55,12 +62,29 @@ module _ (q : Question) (table : List Shape) (is : IsTable table) where
         rule = _;
         is_rule = (rules_by_shape q table is).by_choose y c listed;
         added = more_facts (Has y (negated_form (tree_of table c)) ∷ []);
-        is_child = ap (slice_get (more_facts (Has y (tree_of table c) ∷ []) ∷ more_facts (Has y (negated_form (tree_of table c)) ∷ []) ∷ [])) same;
-        puts = some_facts (Has y (negated_form (tree_of table c)) ∷ []) (Has y d ∷ []) refl (same_has y (tree_of table d) (negated_form (tree_of table c)) other.negates);
+        is_child =
+            ap (slice_get
+            (more_facts (Has y (tree_of table c) ∷ []) ∷ more_facts (Has y (negated_form (tree_of table c)) ∷ []) ∷ []))
+            same;
+        puts =
+            some_facts (Has y (negated_form (tree_of table c)) ∷ []) (Has y d ∷ []) refl
+            (same_has y (tree_of table d) (negated_form (tree_of table c)) other.negates);
       }
   alternative_put b' listed n' f' (of_joining y z) k e =
       let same : k ≡ 0 = omega arith in
-      record { rule = _; is_rule = refl; added = more_facts (Same y z ∷ []); is_child = ap (slice_get (more_facts (Same y z ∷ []) ∷ more_facts (Apart y z ∷ []) ∷ [])) same; puts = some_facts (Same y z ∷ []) (Same y z ∷ []) refl (λ p h. h) }
+      record {
+        rule = _;
+        is_rule = refl;
+        added = more_facts (Same y z ∷ []);
+        is_child = ap (slice_get (more_facts (Same y z ∷ []) ∷ more_facts (Apart y z ∷ []) ∷ [])) same;
+        puts = some_facts (Same y z ∷ []) (Same y z ∷ []) refl (λ p h. h);
+      }
   alternative_put b' listed n' f' (of_parting y z) k e =
       let same : k ≡ 1 = omega arith in
-      record { rule = _; is_rule = refl; added = more_facts (Apart y z ∷ []); is_child = ap (slice_get (more_facts (Same y z ∷ []) ∷ more_facts (Apart y z ∷ []) ∷ [])) same; puts = some_facts (Apart y z ∷ []) (Apart y z ∷ []) refl (λ p h. h) }
+      record {
+        rule = _;
+        is_rule = refl;
+        added = more_facts (Apart y z ∷ []);
+        is_child = ap (slice_get (more_facts (Same y z ∷ []) ∷ more_facts (Apart y z ∷ []) ∷ [])) same;
+        puts = some_facts (Apart y z ∷ []) (Apart y z ∷ []) refl (λ p h. h);
+      }

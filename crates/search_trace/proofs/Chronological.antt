@@ -1,5 +1,6 @@
 -- A search that keeps no marks.
-use Rattle.std.proofs.Common.{◌≡◌, ℕ, ◌<◌, eqb, true, false, List, [], ◌∷◌, ◌++◌, map, Option, Some, None, refl, ap, ◌∙◌, sym}
+use Rattle.std.proofs.Common.{◌≡◌, ℕ, ◌<◌, eqb, true, false, List, [], ◌∷◌, ◌++◌, map, Option, Some, None, refl, ap}
+use Rattle.std.proofs.Common.{◌∙◌, sym}
 use Rattle.std.specs.List.{list_any, list_all}
 use Rattle.std.specs.FinSet as sets
 use Rattle.std.proofs.lemmas.Bool.{and_from, or_right}
@@ -32,10 +33,14 @@ items_after u (Says f ∷ is) = ap (λ (fs : List (Fact ℕ)). f ∷ fs) (items_
 items_after u (Mark c ∷ is) = items_after (sets.insert u c.line) is
 
 insert_part : (u : NumberSet) (n : ℕ) → sets.is_subset u (sets.insert u n) ≡ true
-insert_part u n = sets.contains-is_subset nat_cmp_total u (sets.insert u n) (λ q is. contains_insert u n q ∙ or_right (eqb q n) (sets.contains u q) is)
+insert_part u n =
+    sets.contains-is_subset nat_cmp_total u (sets.insert u n)
+    (λ q is. contains_insert u n q ∙ or_right (eqb q n) (sets.contains u q) is)
 
 part_on : (s t v : NumberSet) → sets.is_subset s t ≡ true → sets.is_subset t v ≡ true → sets.is_subset s v ≡ true
-part_on s t v h g = sets.contains-is_subset nat_cmp_total s v (λ q is. sets.is_subset-contains nat_cmp_total t v g q (sets.is_subset-contains nat_cmp_total s t h q is))
+part_on s t v h g =
+    sets.contains-is_subset nat_cmp_total s v
+    (λ q is. sets.is_subset-contains nat_cmp_total t v g q (sets.is_subset-contains nat_cmp_total s t h q is))
 
 part_itself : (s : NumberSet) → sets.is_subset s s ≡ true
 part_itself s = sets.contains-is_subset nat_cmp_total s s (λ q is. is)
@@ -43,21 +48,26 @@ part_itself s = sets.contains-is_subset nat_cmp_total s s (λ q is. is)
 pub choices_rise : (u : NumberSet) (is : List Item) → sets.is_subset u (choices_after u is) ≡ true
 choices_rise u [] = part_itself u
 choices_rise u (Says f ∷ is) = choices_rise u is
-choices_rise u (Mark c ∷ is) = part_on u (sets.insert u c.line) (choices_after (sets.insert u c.line) is) (insert_part u c.line) (choices_rise (sets.insert u c.line) is)
+choices_rise u (Mark c ∷ is) =
+    part_on u (sets.insert u c.line) (choices_after (sets.insert u c.line) is) (insert_part u c.line)
+    (choices_rise (sets.insert u c.line) is)
 
 pub all_within_choices : (u : NumberSet) (is : List Item) → AllWithin (choices_after u is) (facts_after u is)
 all_within_choices u [] = refl
 all_within_choices u (Says f ∷ is) =
     let m : Marked (Fact ℕ) = marked u f in
-    and_from (is_within (choices_after u is) m) (list_all (is_within (choices_after u is)) (facts_after u is)) (choices_rise u is) (all_within_choices u is)
+    and_from (is_within (choices_after u is) m) (list_all (is_within (choices_after u is)) (facts_after u is))
+    (choices_rise u is) (all_within_choices u is)
 all_within_choices u (Mark c ∷ is) = all_within_choices (sets.insert u c.line) is
 
-pub choices-append : (u : NumberSet) (is js : List Item) → choices_after u (is ++ js) ≡ choices_after (choices_after u is) js
+pub choices-append : (u : NumberSet) (is js : List Item)
+    → choices_after u (is ++ js) ≡ choices_after (choices_after u is) js
 choices-append u [] js = refl
 choices-append u (Says f ∷ is) js = choices-append u is js
 choices-append u (Mark c ∷ is) js = choices-append (sets.insert u c.line) is js
 
-pub facts-append : (u : NumberSet) (is js : List Item) → facts_after u (is ++ js) ≡ facts_after u is ++ facts_after (choices_after u is) js
+pub facts-append : (u : NumberSet) (is js : List Item)
+    → facts_after u (is ++ js) ≡ facts_after u is ++ facts_after (choices_after u is) js
 facts-append u [] js = refl
 facts-append u (Says f ∷ is) js = ap (λ (ms : List MarkedFact). marked u f ∷ ms) (facts-append u is js)
 facts-append u (Mark c ∷ is) js = facts-append (sets.insert u c.line) is js
@@ -68,16 +78,30 @@ facts-says u (f ∷ fs) = ap (λ (ms : List MarkedFact). marked u f ∷ ms) (fac
 
 -- ---- a line whose premises hold in the state
 
-by_all_of : (q : Question) (table : List Shape) (u : NumberSet) (ms : List MarkedFact) (line : Line) → AllWithin u ms → ((x : ℕ) → x < node_count_from q.first (items ms) → list_any (λ y. eqb y x) (items (nodes_of q.first ms)) ≡ true)
-    → (r : Option Rule) → rule_of q (concept_in table) line ≡ r → (kids : List Known) → children_by q (known_by q.first table (items ms)) r ≡ Some kids → HoldsByAll q table u ms line
+by_all_of : (q : Question) (table : List Shape) (u : NumberSet) (ms : List MarkedFact) (line : Line) → AllWithin u ms
+    → ((x : ℕ) → x < node_count_from q.first (items ms) → list_any (λ y. eqb y x) (items (nodes_of q.first ms)) ≡ true)
+    → (r : Option Rule) → rule_of q (concept_in table) line ≡ r → (kids : List Known)
+    → children_by q (known_by q.first table (items ms)) r ≡ Some kids → HoldsByAll q table u ms line
 by_all_of q table u ms line all full None e kids h = cc
 by_all_of q table u ms line all full (Some r) e kids h =
     let k = known_by q.first table (items ms) in
-    let a = when_some (list_all (holds q.theory k) r.premises) (when (list_all (is_new k) r.children) (Some (map (with_added k) r.children))) kids h in
-    record { rule = r; is_rule = e; premises = premises_stay q.theory k (trail_within q.first table u ms) (whole_part q.first table u ms all full) r.premises a.0 }
+    let a =
+    when_some (list_all (holds q.theory k) r.premises)
+    (when (list_all (is_new k) r.children) (Some (map (with_added k) r.children))) kids h in
+    record {
+      rule = r;
+      is_rule = e;
+      premises =
+          premises_stay q.theory k (trail_within q.first table u ms) (whole_part q.first table u ms all full) r.premises
+          a.0;
+    }
 
-pub holds_by_all : (q : Question) (table : List Shape) (u : NumberSet) (ms : List MarkedFact) (line : Line) → AllWithin u ms
-    → ((x : ℕ) → x < node_count_from q.first (items ms) → list_any (λ y. eqb y x) (items (nodes_of q.first ms)) ≡ true) → is_start line ≡ false
-    → (kids : List Known) → children_of q (concept_in table) (known_by q.first table (items ms)) line ≡ Some kids → HoldsByAll q table u ms line
+pub holds_by_all : (q : Question) (table : List Shape) (u : NumberSet) (ms : List MarkedFact) (line : Line)
+    → AllWithin u ms
+    → ((x : ℕ) → x < node_count_from q.first (items ms) → list_any (λ y. eqb y x) (items (nodes_of q.first ms)) ≡ true)
+    → is_start line ≡ false
+    → (kids : List Known) → children_of q (concept_in table) (known_by q.first table (items ms)) line ≡ Some kids
+    → HoldsByAll q table u ms line
 holds_by_all q table u ms line all full no_start kids h =
-    by_all_of q table u ms line all full (rule_of q (concept_in table) line) refl kids (sym (rules_say q (concept_in table) (known_by q.first table (items ms)) line no_start) ∙ h)
+    by_all_of q table u ms line all full (rule_of q (concept_in table) line) refl kids
+    (sym (rules_say q (concept_in table) (known_by q.first table (items ms)) line no_start) ∙ h)

@@ -7,7 +7,8 @@ use Rattle.lane_sieve.proofs.Bits.{contains_insert}
 use Rattle.std.specs.FinSet as sets
 use Rattle.calculus_specs.specs.Concept.{name, intersection, union, parts_of}
 use Rattle.calculus_specs.specs.Shape.{Shape}
-use Rattle.calculus_specs.specs.Shape.Shape.{top as top_shape, name as name_shape, not_name, intersection as and_shape, union as or_shape}
+use Rattle.calculus_specs.specs.Shape.Shape.{top as top_shape, name as name_shape, not_name, intersection as and_shape}
+use Rattle.calculus_specs.specs.Shape.Shape.{union as or_shape}
 use Rattle.calculus_specs.specs.Rows.{Theory}
 use Rattle.calculus_specs.specs.Rules.{Question, on_any}
 use Rattle.calculus_specs.specs.Line.{Line}
@@ -21,7 +22,9 @@ nothing = record { parts = []; below = λ r s. eqb r s; is_transitive = λ t. fa
 
 -- 1 is a, 2 is b, 3 is c, 4 is b or c, 5 is a and 4, 6 is not a
 abbrev table : List Shape
-table = top_shape ∷ name_shape 0 ∷ name_shape 1 ∷ name_shape 2 ∷ or_shape (2 ∷ 3 ∷ []) ∷ and_shape (1 ∷ 4 ∷ []) ∷ not_name 0 ∷ []
+table =
+    top_shape ∷ name_shape 0 ∷ name_shape 1 ∷ name_shape 2 ∷ or_shape (2 ∷ 3 ∷ []) ∷ and_shape (1 ∷ 4 ∷ []) ∷ not_name 0
+    ∷ []
 
 -- what is in a and in b or c is in a
 abbrev asked : Question
@@ -60,5 +63,7 @@ pub all_is_closed : leaves (step_of asked table) (begin ∷ []) (noted 1 (and_li
 all_is_closed = simp (none_in_none, sets.contains-empty nat_cmp 2) refl
 
 -- a clash that says that it rests on no mark, where it rests on that of the union, has no premises that hold
-pub marks_are_tested : leaves (step_of asked table) (begin ∷ []) (noted 1 (and_line 0 5) ∷ noted 2 (or_line 0 4) ∷ noted 3 (clash_line 0 2) ∷ []) ≡ None
+pub marks_are_tested : leaves (step_of asked table) (begin ∷ [])
+    (noted 1 (and_line 0 5) ∷ noted 2 (or_line 0 4) ∷ noted 3 (clash_line 0 2) ∷ [])
+    ≡ None
 marks_are_tested = simp (none_in_none, two_not_in_none) refl

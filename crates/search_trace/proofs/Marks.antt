@@ -17,7 +17,8 @@ union_one s m =
     sets.same_set nat_cmp_total sets.nat_cmp-IsAntisymmetric (sets.union s (sets.insert sets.empty m)) (sets.insert s m)
     (λ k.
     let one : sets.contains (sets.insert (sets.empty {R = nat_cmp}) m) k ≡ (eq_by_cmp nat_cmp k m || false) =
-    sets.contains-insert nat_cmp_total sets.empty m k ∙ ap (λ (b : Bool). eq_by_cmp nat_cmp k m || b) (sets.contains-empty nat_cmp k) in
+    sets.contains-insert nat_cmp_total sets.empty m k
+    ∙ ap (λ (b : Bool). eq_by_cmp nat_cmp k m || b) (sets.contains-empty nat_cmp k) in
     sets.contains-union nat_cmp_total s (sets.insert sets.empty m) k
     ∙ ap (λ (b : Bool). sets.contains s k || b) one
     ∙ or_or (sets.contains s k) (eq_by_cmp nat_cmp k m)

@@ -5,9 +5,12 @@ use Rattle.calculus_specs.specs.Rows.{Part, Theory, part_at, are_name_positions}
 use Rattle.calculus_specs.specs.Rows.Part.{inclusion, range}
 use Rattle.calculus_specs.specs.declared.facts.Fact.{Fact}
 use Rattle.calculus_specs.specs.Line.{Line}
-use Rattle.calculus_specs.specs.Line.Line.{start_line, and_line, or_line, all_line, carry_line, row_line, range_line, some_line, least_line, choose_line, pair_line, bottom_line, clash_line, most_line, fact_line, differ_line}
+use Rattle.calculus_specs.specs.Line.Line.{start_line, and_line, or_line, all_line, carry_line, row_line, range_line}
+use Rattle.calculus_specs.specs.Line.Line.{some_line, least_line, choose_line, pair_line, bottom_line, clash_line}
+use Rattle.calculus_specs.specs.Line.Line.{most_line, fact_line, differ_line}
 use Rattle.calculus_specs.specs.Rules.{Question, when}
-use Rattle.search_trace.specs.Premises.{Added, Rule, and_rule, all_rule, carry_rule, row_rule, range_rule, some_rule, least_rule, fact_rule, rule_of, is_single}
+use Rattle.search_trace.specs.Premises.{Added, Rule, and_rule, all_rule, carry_rule, row_rule, range_rule, some_rule}
+use Rattle.search_trace.specs.Premises.{least_rule, fact_rule, rule_of, is_single}
 
 pub when_some : {A : Type 0} → (b : Bool) (o : Option A) (v : A) → when b o ≡ Some v → (b ≡ true) × (o ≡ Some v)
 when_some true o v h = (refl, h)
@@ -53,7 +56,8 @@ fact_one : (o : Option (Fact Concept)) → HasOneChild (fact_rule o)
 fact_one None = tt
 fact_one (Some f) = (_, refl)
 
-pub has_one : (q : Question) (concept : ℕ → Option Concept) (line : Line) → is_single line ≡ true → HasOneChild (rule_of q concept line)
+pub has_one : (q : Question) (concept : ℕ → Option Concept) (line : Line) → is_single line ≡ true
+    → HasOneChild (rule_of q concept line)
 has_one q concept start_line h = tt
 has_one q concept (and_line x c) h = and_one x (concept c)
 has_one q concept (or_line x c) h = cc

@@ -1,5 +1,6 @@
 -- What lines and going back make of a trace.
-use Rattle.std.proofs.Common.{◌≡◌, ℕ, ◌&&◌, not, Bool, true, false, cond, eqb, suc, List, [], ◌∷◌, ◌++◌, length, take, drop, map, refl, ap, ◌∙◌, sym, subst, arith, inl, inr}
+use Rattle.std.proofs.Common.{◌≡◌, ℕ, ◌&&◌, not, Bool, true, false, cond, eqb, suc, List, [], ◌∷◌, ◌++◌, length, take}
+use Rattle.std.proofs.Common.{drop, map, refl, ap, ◌∙◌, sym, subst, arith, inl, inr}
 use Rattle.std.specs.FinSet as sets
 use Rattle.std.proofs.lemmas.Bool.{cases_Bool, eqb-true, eqb-false}
 use Rattle.lane_sieve.specs.Sets.{NumberSet}
@@ -8,10 +9,13 @@ use Rattle.calculus_specs.specs.Rules.{Question}
 use Rattle.search_trace.specs.Premises.{Added, is_branching, is_clash, is_single}
 use Rattle.search_trace.specs.Noted.{marked, marks_given, Noted, NotedLine, strip}
 use Rattle.search_trace.specs.Trail.{MarkedFact}
-use Rattle.search_trace.specs.Places.{Place, IsTraced, IsClosing, opened_place, place_marks, without_place, turned_place}
-use Rattle.search_trace.proofs.Places.{traced_line, traced_branching, traced_clash, closing_stripped, closing_whole, closing_turned, closing_ended}
+use Rattle.search_trace.specs.Places.{Place, IsTraced, IsClosing, opened_place, place_marks, without_place}
+use Rattle.search_trace.specs.Places.{turned_place}
+use Rattle.search_trace.proofs.Places.{traced_line, traced_branching, traced_clash, closing_stripped, closing_whole}
+use Rattle.search_trace.proofs.Places.{closing_turned, closing_ended}
 use Rattle.search_trace.specs.declared.opens.OpenBranching.{OpenBranching}
-use Rattle.search_trace.specs.Trace.{TraceLists, next_line, whole_marks, without, GoneBack, gone_back, turned_latest, at_next, turn_of}
+use Rattle.search_trace.specs.Trace.{TraceLists, next_line, whole_marks, without, GoneBack, gone_back, turned_latest}
+use Rattle.search_trace.specs.Trace.{at_next, turn_of}
 use Rattle.search_trace.specs.Laws.{AreAt, IsTracedAt, IsClosingAt, LinesAreTraced, IsLeft, GoesBack}
 use Rattle.search_trace.proofs.Going.{back_whole, back_turns, back_out}
 
@@ -43,28 +47,42 @@ count_turned n u [] = refl
 count_turned n u (o ∷ os) = refl
 
 given_single : (l : NotedLine) → is_single l.line ≡ true → marks_given l ≡ l.marks
-given_single l single = ap (λ (b : Bool). cond b (sets.insert l.marks l.number) l.marks) (not_branching (is_branching l.line) (is_clash l.line) single)
+given_single l single =
+    ap (λ (b : Bool). cond b (sets.insert l.marks l.number) l.marks)
+    (not_branching (is_branching l.line) (is_clash l.line) single)
 
 given_branching : (l : NotedLine) → is_branching l.line ≡ true → marks_given l ≡ sets.insert l.marks l.number
 given_branching l branches = ap (λ (b : Bool). cond b (sets.insert l.marks l.number) l.marks) branches
 
 module _ (q : Question) (table : List Shape) (start : Noted) where
-  pub goes_on : (t : TraceLists) (ps : List Place) (ms : List MarkedFact) → IsTracedAt q table start t ps ms → LinesAreTraced q table start t ps ms
+  pub goes_on : (t : TraceLists) (ps : List Place) (ms : List MarkedFact) → IsTracedAt q table start t ps ms
+      → LinesAreTraced q table start t ps ms
   goes_on t ps ms h = record {
     single = λ line marks r a new holds one single puts.
         let l = next_line t line marks in
         record {
           are_at = h.are_at;
-          traced = subst (λ (u : NumberSet). IsTraced q table start (t.lines ++ l ∷ []) ps (ms ++ map (marked u) new)) (given_single l single) (traced_line q table start t.lines ps ms h.traced l r a new holds one single puts);
+          traced =
+              subst (λ (u : NumberSet). IsTraced q table start (t.lines ++ l ∷ []) ps (ms ++ map (marked u) new))
+              (given_single l single)
+              (traced_line q table start t.lines ps ms h.traced l r a new holds one single puts);
         };
     branching = λ line marks r a rest new holds one branches puts.
         let l = next_line t line marks in
         record {
-          are_at = (record { mark = refl; at = refl; child = refl; gathered = refl; marks = refl; left = refl }, h.are_at);
-          traced = subst (λ (u : NumberSet). IsTraced q table start (t.lines ++ l ∷ []) (opened_place t.lines ms l rest ∷ ps) (ms ++ map (marked u) new)) (given_branching l branches)
+          are_at =
+              (record { mark = refl; at = refl; child = refl; gathered = refl; marks = refl; left = refl }, h.are_at);
+          traced =
+              subst (λ (u : NumberSet). IsTraced q table start (t.lines ++ l ∷ []) (opened_place t.lines ms l rest ∷ ps)
+              (ms ++ map (marked u) new))
+              (given_branching l branches)
               (traced_branching q table start t.lines ps ms h.traced l r a rest new holds one branches puts);
         };
-    clash = λ line marks r holds none. record { are_at = h.are_at; closing = traced_clash q table start t.lines ps ms h.traced (next_line t line marks) r holds none };
+    clash =
+        λ line marks r holds none. record {
+          are_at = h.are_at;
+          closing = traced_clash q table start t.lines ps ms h.traced (next_line t line marks) r holds none;
+        };
   }
 
   -- ---- going back
@@ -79,9 +97,17 @@ module _ (q : Question) (table : List Shape) (start : Noted) where
     can_turn : CanTurn g.opens
 
   over : (p : Place) (ps : List Place) (g : GoneBack) → Leads ps g → Leads (p ∷ ps) g
-  over p ps g h = record { passed = p ∷ h.passed; left = h.left; places_are = ap (λ (qs : List Place). p ∷ qs) h.places_are; are_at = h.are_at; closing = h.closing; can_turn = h.can_turn }
+  over p ps g h = record {
+    passed = p ∷ h.passed;
+    left = h.left;
+    places_are = ap (λ (qs : List Place). p ∷ qs) h.places_are;
+    are_at = h.are_at;
+    closing = h.closing;
+    can_turn = h.can_turn;
+  }
 
-  leads : (os : List OpenBranching) (ls : List NotedLine) (u : NumberSet) (ps : List Place) → AreAt os ps → IsClosing q table start ls ps u → Leads ps (gone_back ls os u)
+  leads : (os : List OpenBranching) (ls : List NotedLine) (u : NumberSet) (ps : List Place) → AreAt os ps
+      → IsClosing q table start ls ps u → Leads ps (gone_back ls os u)
   leads [] ls u [] at c = record { passed = []; left = []; places_are = refl; are_at = tt; closing = c; can_turn = tt }
   leads [] ls u (p ∷ ps) at c = absurd at
   leads (o ∷ os) ls u [] at c = absurd at
@@ -91,21 +117,31 @@ module _ (q : Question) (table : List Shape) (start : Noted) where
         | inl has ↦ elim (cases_Bool (eqb o.left 0)) [
           | inl none ↦
               let none' : o.left ≡ 0 = eqb-true o.left 0 none in
-              let same : place_marks p u ≡ whole_marks o u = λ i. sets.union (sets.union (is.gathered i) u) (is.marks i) in
-              let closed = subst (IsClosing q table start ls ps) same (closing_whole q table start ls p ps u c (none_left p.rest (is.left ∙ none'))) in
-              subst (Leads (p ∷ ps)) (sym (back_whole ls o os u has none')) (over p ps (gone_back ls os (whole_marks o u)) (leads os ls (whole_marks o u) ps at.1 closed))
+              let same : place_marks p u ≡ whole_marks o u =
+              λ i. sets.union (sets.union (is.gathered i) u) (is.marks i) in
+              let closed =
+              subst (IsClosing q table start ls ps) same
+              (closing_whole q table start ls p ps u c (none_left p.rest (is.left ∙ none'))) in
+              subst (Leads (p ∷ ps)) (sym (back_whole ls o os u has none'))
+              (over p ps (gone_back ls os (whole_marks o u)) (leads os ls (whole_marks o u) ps at.1 closed))
           | inr some ↦
               let some' : ¬ (o.left ≡ 0) = eqb-false o.left 0 some in
-              subst (Leads (p ∷ ps)) (sym (back_turns ls o os u has some')) (record { passed = []; left = p ∷ ps; places_are = refl; are_at = at; closing = c; can_turn = some' })
+              subst (Leads (p ∷ ps)) (sym (back_turns ls o os u has some'))
+              (record { passed = []; left = p ∷ ps; places_are = refl; are_at = at; closing = c; can_turn = some' })
         ]
         | inr has_not ↦
-            let same : without_place p ls ≡ without o ls = λ i. take (is.at i) ls ++ strip (is.mark i) (drop (is.child i) ls) in
-            let closed = subst (λ (ks : List NotedLine). IsClosing q table start ks ps u) same (closing_stripped q table start ls p ps u c (ap (sets.contains u) is.mark ∙ has_not)) in
-            subst (Leads (p ∷ ps)) (sym (back_out ls o os u has_not)) (over p ps (gone_back (without o ls) os u) (leads os (without o ls) u ps at.1 closed))
+            let same : without_place p ls ≡ without o ls =
+            λ i. take (is.at i) ls ++ strip (is.mark i) (drop (is.child i) ls) in
+            let closed =
+            subst (λ (ks : List NotedLine). IsClosing q table start ks ps u) same
+            (closing_stripped q table start ls p ps u c (ap (sets.contains u) is.mark ∙ has_not)) in
+            subst (Leads (p ∷ ps)) (sym (back_out ls o os u has_not))
+            (over p ps (gone_back (without o ls) os u) (leads os (without o ls) u ps at.1 closed))
       ]
 
   -- the latest that is left turns, or the lines close everything
-  lands : (next : ℕ) (ls : List NotedLine) (os : List OpenBranching) (u : NumberSet) (left : List Place) → AreAt os left → IsClosing q table start ls left u → CanTurn os
+  lands : (next : ℕ) (ls : List NotedLine) (os : List OpenBranching) (u : NumberSet) (left : List Place) → AreAt os left
+      → IsClosing q table start ls left u → CanTurn os
       → IsLeft q table start (at_next next (record { lines = ls; opens = os; used = u })) u left (turn_of os)
   lands next ls [] u [] at c can = closing_ended q table start ls u c
   lands next ls [] u (p ∷ older) at c can = absurd at
@@ -118,12 +154,26 @@ module _ (q : Question) (table : List Shape) (start : Noted) where
         marks_are = sym given;
         has_next = next_of p.rest o.left is.left can;
         traced = λ a rest new e puts. record {
-          are_at = (record { mark = is.mark; at = is.at; child = refl; gathered = ap (λ (g : NumberSet). sets.union g u) is.gathered; marks = is.marks; left = omega (arith, is.left, ap length e) }, at.1);
-          traced = subst (λ (v : NumberSet). IsTraced q table start ls (turned_place p ls u rest ∷ older) (p.facts ++ map (marked v) new)) given (closing_turned q table start ls p older u a rest new c e puts);
+          are_at = (
+            record {
+              mark = is.mark;
+              at = is.at;
+              child = refl;
+              gathered = ap (λ (g : NumberSet). sets.union g u) is.gathered;
+              marks = is.marks;
+              left = omega (arith, is.left, ap length e);
+            },
+            at.1,
+          );
+          traced =
+              subst (λ (v : NumberSet). IsTraced q table start ls (turned_place p ls u rest ∷ older)
+              (p.facts ++ map (marked v) new))
+              given (closing_turned q table start ls p older u a rest new c e puts);
         };
       }
 
-  pub goes_back : (t : TraceLists) (ps : List Place) (u : NumberSet) → IsClosingAt q table start t ps u → GoesBack q table start t ps u
+  pub goes_back : (t : TraceLists) (ps : List Place) (u : NumberSet) → IsClosingAt q table start t ps u
+      → GoesBack q table start t ps u
   goes_back t ps u h =
       let g = gone_back t.lines t.opens u in
       let l = leads t.opens t.lines u ps h.are_at h.closing in

@@ -32,4 +32,5 @@ pub record IsPut (q : Question) (table : List Shape) (b : Branch) (k : ℕ) (f :
   pub puts : Puts q.first table added (f ∷ [])
 
 abbrev pub AlternativesArePut : Type 0
-AlternativesArePut = (q : Question) (table : List Shape) → IsTable table → (b : Branch) → HasShape table b → (k : ℕ) (f : Fact ℕ) → IsAlternative table b (k + 1) f → IsPut q table b k f
+AlternativesArePut = (q : Question) (table : List Shape) → IsTable table → (b : Branch) → HasShape table b
+    → (k : ℕ) (f : Fact ℕ) → IsAlternative table b (k + 1) f → IsPut q table b k f

@@ -32,7 +32,8 @@ abbrev pub marked_facts : List Item → List MarkedFact
 marked_facts is = facts_after sets.empty is
 
 -- a rule whose premises hold by all facts of the trail
-pub record HoldsByAll (q : Question) (table : List Shape) (u : NumberSet) (ms : List MarkedFact) (line : Line) : Type 0 where
+pub record HoldsByAll (q : Question) (table : List Shape) (u : NumberSet) (ms : List MarkedFact) (line : Line) :
+    Type 0 where
   pub rule : Rule
   pub is_rule : rule_of q (concept_in table) line ≡ Some rule
   pub premises : list_all (holds q.theory (trail_within q.first table u ms)) rule.premises ≡ true

@@ -30,7 +30,15 @@ lefts (f ∷ fs) = f.left ++ lefts fs
 
 -- once the open child is closed by these lines, the next one is open
 abbrev pub turned : {S L : Type 0} → Frame S L → List L → S → List S → Frame S L
-turned f lines k ks = record { before = f.before; at = f.at; branching = f.branching; done = f.done ++ f.kid ∷ []; closed = f.closed ++ lines; kid = k; left = ks }
+turned f lines k ks = record {
+  before = f.before;
+  at = f.at;
+  branching = f.branching;
+  done = f.done ++ f.kid ∷ [];
+  closed = f.closed ++ lines;
+  kid = k;
+  left = ks;
+}
 
 -- and where none is left, these lines close the child in which the branching stands
 abbrev pub whole : {S L : Type 0} → Frame S L → List L → List L

@@ -1,5 +1,6 @@
 -- Going back over open branchings, which are kept with the latest last.
-use Rattle.std.specs.Prelude.{◌≡◌, ℕ, ◌≤◌, ◌==◌, ◌&&◌, not, if◌then◌else◌, Bool, true, false, List, [], ◌∷◌, ◌++◌, take, drop, filter, length, reverse, map}
+use Rattle.std.specs.Prelude.{◌≡◌, ℕ, ◌≤◌, ◌==◌, ◌&&◌, not, if◌then◌else◌, Bool, true, false, List, [], ◌∷◌, ◌++◌, take}
+use Rattle.std.specs.Prelude.{drop, filter, length, reverse, map}
 use Rattle.std.specs.FinSet as sets
 use Rattle.lane_sieve.specs.Sets.{NumberSet}
 use Rattle.search_trace.specs.declared.lines.TraceLine.{TraceLine}
@@ -17,7 +18,8 @@ pub data Passes (o : OpenBranching) (ls : List TraceLine) (u : NumberSet) : List
 
 -- the latest branching, if there is one, is to turn
 abbrev pub Halts : List OpenBranching → NumberSet → Type 0
-Halts os u = (older : List OpenBranching) (o : OpenBranching) → os ≡ older ++ o ∷ [] → (sets.contains u o.mark ≡ true) × (¬ (o.left ≡ 0))
+Halts os u = (older : List OpenBranching) (o : OpenBranching) → os ≡ older ++ o ∷ []
+    → (sets.contains u o.mark ≡ true) × (¬ (o.left ≡ 0))
 
 -- the branching is taken off the open ones, and does not turn
 pub record IsTaken (opens less : List OpenBranching) (u : NumberSet) (o : OpenBranching) : Type 0 where
@@ -33,7 +35,8 @@ abbrev pub reached : List TraceLine → List OpenBranching → NumberSet → Gon
 reached ls os u = record { lines = map noted ls; opens = reverse os; used = u }
 
 -- what the loop keeps
-pub record IsGoing (ls : List TraceLine) (os : List OpenBranching) (u : NumberSet) (now : List TraceLine) (left : List OpenBranching) (v : NumberSet) : Type 0 where
+pub record IsGoing (ls : List TraceLine) (os : List OpenBranching) (u : NumberSet) (now : List TraceLine)
+    (left : List OpenBranching) (v : NumberSet) : Type 0 where
   pub placed : ArePlaced (length now) (reverse left)
   pub same : going now left v ≡ going ls os u
 

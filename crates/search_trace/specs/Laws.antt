@@ -19,7 +19,8 @@ use Rattle.search_trace.specs.Places.{Place, IsTraced, IsClosing, opened_place, 
 use Rattle.search_trace.specs.declared.opens.OpenBranching.{OpenBranching}
 use Rattle.search_trace.specs.declared.opens.Back.{Back}
 use Rattle.search_trace.specs.declared.opens.Back.TheVariants.{Turned, Closed}
-use Rattle.search_trace.specs.Trace.{TraceLists, begun, lines_in, next_line, with_line, with_branching, gone_back, turned_back, answer_of}
+use Rattle.search_trace.specs.Trace.{TraceLists, begun, lines_in, next_line, with_line, with_branching, gone_back}
+use Rattle.search_trace.specs.Trace.{turned_back, answer_of}
 
 -- the branching stands at this place
 pub record IsAt (o : OpenBranching) (p : Place) : Type 0 where
@@ -51,16 +52,23 @@ module _ (q : Question) (table : List Shape) (start : Noted) where
   -- what a line more makes of it
   pub record LinesAreTraced (t : TraceLists) (ps : List Place) (ms : List MarkedFact) : Type 0 where
     -- one with one child, of which the search puts some facts on its trail
-    pub single : (line : Line) (marks : NumberSet) (r : Rule) (a : Added) (new : List (Fact ℕ)) → RuleHolds q table ms (next_line t line marks) r → r.children ≡ a ∷ [] → is_single line ≡ true → Puts q.first table a new
+    pub single : (line : Line) (marks : NumberSet) (r : Rule) (a : Added) (new : List (Fact ℕ))
+        → RuleHolds q table ms (next_line t line marks) r → r.children ≡ a ∷ [] → is_single line ≡ true
+        → Puts q.first table a new
         → IsTracedAt (with_line t line marks) ps (ms ++ map (marked marks) new)
     -- one that branches, at its first alternative
-    pub branching : (line : Line) (marks : NumberSet) (r : Rule) (a : Added) (rest : List Added) (new : List (Fact ℕ)) → RuleHolds q table ms (next_line t line marks) r → r.children ≡ a ∷ rest → is_branching line ≡ true → Puts q.first table a new
-        → IsTracedAt (with_branching t line marks (length rest)) (opened_place t.lines ms (next_line t line marks) rest ∷ ps) (ms ++ map (marked (sets.insert marks t.next)) new)
+    pub branching : (line : Line) (marks : NumberSet) (r : Rule) (a : Added) (rest : List Added) (new : List (Fact ℕ))
+        → RuleHolds q table ms (next_line t line marks) r → r.children ≡ a ∷ rest → is_branching line ≡ true
+        → Puts q.first table a new
+        → IsTracedAt (with_branching t line marks (length rest))
+        (opened_place t.lines ms (next_line t line marks) rest ∷ ps) (ms ++ map (marked (sets.insert marks t.next)) new)
     -- a clash
-    pub clash : (line : Line) (marks : NumberSet) (r : Rule) → RuleHolds q table ms (next_line t line marks) r → r.children ≡ [] → IsClosingAt (with_line t line marks) ps marks
+    pub clash : (line : Line) (marks : NumberSet) (r : Rule) → RuleHolds q table ms (next_line t line marks) r
+        → r.children ≡ [] → IsClosingAt (with_line t line marks) ps marks
 
   -- the branching of this place, which is the latest that is left, is at its next alternative
-  pub record IsTurnedAt (after : TraceLists) (used : NumberSet) (p : Place) (older : List Place) (mark : ℕ) (marks : NumberSet) : Type 0 where
+  pub record IsTurnedAt (after : TraceLists) (used : NumberSet) (p : Place) (older : List Place) (mark : ℕ)
+      (marks : NumberSet) : Type 0 where
     pub mark_is : mark ≡ p.mark
     pub marks_are : marks ≡ sets.insert p.marks p.mark
     pub has_next : (a : Added) × (rest : List Added) × (p.rest ≡ a ∷ rest)
@@ -84,15 +92,21 @@ module _ (q : Question) (table : List Shape) (start : Noted) where
 
 -- a search that begins has a trace
 abbrev pub TracesBegin : Type 0
-TracesBegin = (q : Question) (table : List Shape) (sub_number not_sup_number : ℕ) → tree_of table sub_number ≡ normal_form q.sub → tree_of table not_sup_number ≡ negated_form q.sup
-    → IsTracedAt q table (start_of q) begun [] (marked sets.empty (Has q.at sub_number) ∷ marked sets.empty (Has q.at not_sup_number) ∷ [])
+TracesBegin = (q : Question) (table : List Shape) (sub_number not_sup_number : ℕ)
+    → tree_of table sub_number ≡ normal_form q.sub → tree_of table not_sup_number ≡ negated_form q.sup
+    → IsTracedAt q table (start_of q) begun []
+    (marked sets.empty (Has q.at sub_number) ∷ marked sets.empty (Has q.at not_sup_number) ∷ [])
 
 abbrev pub TracesGoOn : Type 0
-TracesGoOn = (q : Question) (table : List Shape) (start : Noted) (t : TraceLists) (ps : List Place) (ms : List MarkedFact) → IsTracedAt q table start t ps ms → LinesAreTraced q table start t ps ms
+TracesGoOn = (q : Question) (table : List Shape) (start : Noted) (t : TraceLists) (ps : List Place)
+    (ms : List MarkedFact)
+    → IsTracedAt q table start t ps ms → LinesAreTraced q table start t ps ms
 
 abbrev pub TracesGoBack : Type 0
-TracesGoBack = (q : Question) (table : List Shape) (start : Noted) (t : TraceLists) (ps : List Place) (u : NumberSet) → IsClosingAt q table start t ps u → GoesBack q table start t ps u
+TracesGoBack = (q : Question) (table : List Shape) (start : Noted) (t : TraceLists) (ps : List Place) (u : NumberSet)
+    → IsClosingAt q table start t ps u → GoesBack q table start t ps u
 
 -- going back leaves no line but lines that were there
 abbrev pub GoingBackKeepsKinds : Type 0
-GoingBackKeepsKinds = (p : Line → Bool) (t : TraceLists) (u : NumberSet) → list_all p (lines_in t) ≡ true → list_all p (lines_in (turned_back t u)) ≡ true
+GoingBackKeepsKinds = (p : Line → Bool) (t : TraceLists) (u : NumberSet) → list_all p (lines_in t) ≡ true
+    → list_all p (lines_in (turned_back t u)) ≡ true

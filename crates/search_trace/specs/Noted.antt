@@ -8,7 +8,8 @@ use Rattle.calculus_specs.specs.declared.facts.Fact.{Fact}
 use Rattle.calculus_specs.specs.State.{fresh_facts}
 use Rattle.calculus_specs.specs.Line.{Line}
 use Rattle.calculus_specs.specs.Rules.{Question, Known, asked_facts, when}
-use Rattle.search_trace.specs.Premises.{Added, more_facts, more_nodes, Rule, rule_of, holds, is_new, is_branching, is_single}
+use Rattle.search_trace.specs.Premises.{Added, more_facts, more_nodes, Rule, rule_of, holds, is_new, is_branching}
+use Rattle.search_trace.specs.Premises.{is_single}
 
 -- a thing that rests on marks
 pub record Marked (A : Type 0) : Type 0 where
@@ -44,7 +45,10 @@ known_within u k = record { nodes = within u k.nodes; facts = within u k.facts }
 
 abbrev pub noted_added : NumberSet → Noted → Added → Noted
 noted_added u k (more_facts fs) = record { nodes = k.nodes; facts = k.facts ++ map (marked u) fs }
-noted_added u k (more_nodes x s e y n) = record { nodes = k.nodes ++ map (marked u) (range_with_len y n); facts = k.facts ++ map (marked u) (fresh_facts x s e y n) }
+noted_added u k (more_nodes x s e y n) = record {
+  nodes = k.nodes ++ map (marked u) (range_with_len y n);
+  facts = k.facts ++ map (marked u) (fresh_facts x s e y n);
+}
 
 -- a line of the trace, with its number, which names its mark if it branches, and the marks that its premises rest on
 pub record NotedLine : Type 0 where
@@ -60,13 +64,15 @@ module _ (q : Question) (concept : ℕ → Option Concept) where
   abbrev pub noted_by : Noted → NotedLine → Option Rule → Option (List Noted)
   noted_by k l None = None
   noted_by k l (Some r) =
-      when (list_all (holds q.theory (known_within l.marks k)) r.premises) (when (list_all (is_new (known k)) r.children) (Some (map (noted_added (marks_given l) k) r.children)))
+      when (list_all (holds q.theory (known_within l.marks k)) r.premises)
+      (when (list_all (is_new (known k)) r.children) (Some (map (noted_added (marks_given l) k) r.children)))
 
   -- the children of a line: its premises hold by what rests on its marks alone, and its new nodes are not known at all
   abbrev pub noted_children : Noted → NotedLine → Option (List Noted)
   noted_children k l = noted_by k l (rule_of q concept l.line)
 
--- the branch of `start`: the first nodes, of which the one in question is in `sub` and not in `sup`; it rests on no mark
+-- the branch of `start`: the first nodes, of which the one in question is in `sub` and not in `sup`; it rests on no
+-- mark
 abbrev pub noted_start : ℕ → ℕ → Concept → Concept → Noted
 noted_start first at sub sup = record {
   nodes = map (marked sets.empty) (range_with_len 0 first);

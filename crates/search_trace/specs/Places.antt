@@ -41,11 +41,27 @@ ArePlaces (b ∷ bs) (p ∷ ps) = IsPlaceOf bs b p × ArePlaces bs ps
 
 -- the place of a branching that is opened behind these lines
 abbrev pub opened_place : List NotedLine → List MarkedFact → NotedLine → List Added → Place
-opened_place lines ms l rest = record { mark = l.number; at = length lines; child = length lines + 1; gathered = sets.empty; marks = l.marks; facts = ms; rest = rest }
+opened_place lines ms l rest = record {
+  mark = l.number;
+  at = length lines;
+  child = length lines + 1;
+  gathered = sets.empty;
+  marks = l.marks;
+  facts = ms;
+  rest = rest;
+}
 
 -- the place of a branching that turns to its next alternative, behind these lines
 abbrev pub turned_place : Place → List NotedLine → NumberSet → List Added → Place
-turned_place p lines u rest = record { mark = p.mark; at = p.at; child = length lines; gathered = sets.union p.gathered u; marks = p.marks; facts = p.facts; rest = rest }
+turned_place p lines u rest = record {
+  mark = p.mark;
+  at = p.at;
+  child = length lines;
+  gathered = sets.union p.gathered u;
+  marks = p.marks;
+  facts = p.facts;
+  rest = rest;
+}
 
 -- the marks on which the closing of a whole branching rests
 abbrev pub place_marks : Place → NumberSet → NumberSet

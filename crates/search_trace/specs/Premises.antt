@@ -1,7 +1,9 @@
 -- What a rule line asks of a branch, fact by fact, and what each of its children adds, whatever the branch.
-use Rattle.std.specs.Prelude.{ℕ, ◌+◌, ◌^◌, ◌==◌, nat_le, ◌&&◌, not, Bool, true, false, List, [], ◌∷◌, ◌++◌, map, length, Option, None, Some}
+use Rattle.std.specs.Prelude.{ℕ, ◌+◌, ◌^◌, ◌==◌, nat_le, ◌&&◌, not, Bool, true, false, List, [], ◌∷◌, ◌++◌, map, length}
+use Rattle.std.specs.Prelude.{Option, None, Some}
 use Rattle.std.specs.List.{list_all}
-use Rattle.calculus_specs.specs.Concept.{Concept, bottom, name, complement, intersection, union, some_of, all_of, at_least, at_most, part_list}
+use Rattle.calculus_specs.specs.Concept.{Concept, bottom, name, complement, intersection, union, some_of, all_of}
+use Rattle.calculus_specs.specs.Concept.{at_least, at_most, part_list}
 use Rattle.calculus_specs.specs.Normal.{negated_form}
 use Rattle.calculus_specs.specs.Rows.{Part, Theory, part_at, conjunct_at, are_name_positions, row_concept}
 use Rattle.calculus_specs.specs.Rows.Part.{inclusion, range}
@@ -10,7 +12,9 @@ use Rattle.calculus_specs.specs.declared.facts.Fact.TheVariants.{Has, Apart, Sam
 use Rattle.calculus_specs.specs.Joins.{rep}
 use Rattle.calculus_specs.specs.State.{has_tree, has_edge, are_apart}
 use Rattle.calculus_specs.specs.Line.{Line}
-use Rattle.calculus_specs.specs.Line.Line.{start_line, and_line, or_line, all_line, carry_line, row_line, range_line, some_line, least_line, choose_line, pair_line, bottom_line, clash_line, most_line, fact_line, differ_line}
+use Rattle.calculus_specs.specs.Line.Line.{start_line, and_line, or_line, all_line, carry_line, row_line, range_line}
+use Rattle.calculus_specs.specs.Line.Line.{some_line, least_line, choose_line, pair_line, bottom_line, clash_line}
+use Rattle.calculus_specs.specs.Line.Line.{most_line, fact_line, differ_line}
 use Rattle.calculus_specs.specs.Rules.{Question, Known, knows, knows_some_from, with_facts, with_nodes, when}
 
 -- ---- premises
@@ -53,11 +57,17 @@ pub record Rule : Type 0 where
   pub children : List Added
 
 abbrev pub and_rule : ℕ → Option Concept → Option Rule
-and_rule x (Some (intersection cs)) = Some (record { premises = is_node x ∷ has_concept x (intersection cs) ∷ []; children = more_facts (map (Has x) (part_list cs)) ∷ [] })
+and_rule x (Some (intersection cs)) = Some (record {
+  premises = is_node x ∷ has_concept x (intersection cs) ∷ [];
+  children = more_facts (map (Has x) (part_list cs)) ∷ [];
+})
 and_rule x _ = None
 
 abbrev pub or_rule : ℕ → Option Concept → Option Rule
-or_rule x (Some (union cs)) = Some (record { premises = is_node x ∷ has_concept x (union cs) ∷ []; children = map (λ d. more_facts (Has x d ∷ [])) (part_list cs) })
+or_rule x (Some (union cs)) = Some (record {
+  premises = is_node x ∷ has_concept x (union cs) ∷ [];
+  children = map (λ d. more_facts (Has x d ∷ [])) (part_list cs);
+})
 or_rule x _ = None
 
 abbrev pub all_rule : ℕ → ℕ → Option Concept → Option Rule
@@ -82,23 +92,30 @@ row_rule x positions (Some (inclusion cs d)) = when (are_name_positions cs posit
 row_rule x positions _ = None
 
 abbrev pub range_rule : ℕ → ℕ → Option Part → Option Rule
-range_rule x y (Some (range s d)) = Some (record { premises = is_node x ∷ is_node y ∷ has_edge_below s x y ∷ []; children = more_facts (Has y d ∷ []) ∷ [] })
+range_rule x y (Some (range s d)) = Some
+    (record { premises = is_node x ∷ is_node y ∷ has_edge_below s x y ∷ []; children = more_facts (Has y d ∷ []) ∷ [] })
 range_rule x y _ = None
 
 abbrev pub some_rule : ℕ → ℕ → Option Concept → Option Rule
-some_rule x y (Some (some_of s e)) = Some (record { premises = is_node x ∷ has_concept x (some_of s e) ∷ []; children = more_nodes x s e y 1 ∷ [] })
+some_rule x y (Some (some_of s e)) =
+    Some (record { premises = is_node x ∷ has_concept x (some_of s e) ∷ []; children = more_nodes x s e y 1 ∷ [] })
 some_rule x y _ = None
 
 abbrev pub least_rule : ℕ → ℕ → Option Concept → Option Rule
-least_rule x y (Some (at_least n s e)) = when (nat_le (y + n) (2 ^ 32)) (Some (record { premises = is_node x ∷ has_concept x (at_least n s e) ∷ []; children = more_nodes x s e y n ∷ [] }))
+least_rule x y (Some (at_least n s e)) = when (nat_le (y + n) (2 ^ 32))
+    (Some (record { premises = is_node x ∷ has_concept x (at_least n s e) ∷ []; children = more_nodes x s e y n ∷ [] }))
 least_rule x y _ = None
 
 abbrev pub choose_rule : ℕ → Option Concept → Option Rule
-choose_rule y (Some c) = Some (record { premises = is_node y ∷ []; children = more_facts (Has y c ∷ []) ∷ more_facts (Has y (negated_form c) ∷ []) ∷ [] })
+choose_rule y (Some c) = Some (record {
+  premises = is_node y ∷ [];
+  children = more_facts (Has y c ∷ []) ∷ more_facts (Has y (negated_form c) ∷ []) ∷ [];
+})
 choose_rule y None = None
 
 abbrev pub clash_rule : ℕ → Option Concept → Option Rule
-clash_rule x (Some (name a)) = Some (record { premises = is_node x ∷ has_concept x (name a) ∷ has_concept x (complement (name a)) ∷ []; children = [] })
+clash_rule x (Some (name a)) = Some
+    (record { premises = is_node x ∷ has_concept x (name a) ∷ has_concept x (complement (name a)) ∷ []; children = [] })
 clash_rule x _ = None
 
 -- y is a known node at the end of an edge below s from x, and has e
@@ -134,17 +151,23 @@ rule_of q concept (range_line x y a) = range_rule x y (part_at q.theory a 1)
 rule_of q concept (some_line x y c) = some_rule x y (concept c)
 rule_of q concept (least_line x y c) = least_rule x y (concept c)
 rule_of q concept (choose_line y c) = choose_rule y (concept c)
-rule_of q concept (pair_line y z) = Some (record { premises = is_node y ∷ is_node z ∷ []; children = more_facts (Same y z ∷ []) ∷ more_facts (Apart y z ∷ []) ∷ [] })
+rule_of q concept (pair_line y z) = Some (record {
+  premises = is_node y ∷ is_node z ∷ [];
+  children = more_facts (Same y z ∷ []) ∷ more_facts (Apart y z ∷ []) ∷ [];
+})
 rule_of q concept (bottom_line x) = Some (record { premises = is_node x ∷ has_concept x bottom ∷ []; children = [] })
 rule_of q concept (clash_line x c) = clash_rule x (concept c)
 rule_of q concept (most_line x c ys) = most_rule x ys (concept c)
 rule_of q concept (fact_line a p) = fact_rule (q.fact_of a p)
-rule_of q concept (differ_line y z) = Some (record { premises = is_node y ∷ is_node z ∷ is_apart y z ∷ is_one y z ∷ []; children = [] })
+rule_of q concept (differ_line y z) =
+    Some (record { premises = is_node y ∷ is_node z ∷ is_apart y z ∷ is_one y z ∷ []; children = [] })
 
 -- the children that a rule gives to a branch
 abbrev pub children_by : Question → Known → Option Rule → Option (List Known)
 children_by q k None = None
-children_by q k (Some r) = when (list_all (holds q.theory k) r.premises) (when (list_all (is_new k) r.children) (Some (map (with_added k) r.children)))
+children_by q k (Some r) =
+    when (list_all (holds q.theory k) r.premises)
+    (when (list_all (is_new k) r.children) (Some (map (with_added k) r.children)))
 
 -- ---- kinds of lines
 

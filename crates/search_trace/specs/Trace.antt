@@ -1,5 +1,6 @@
 -- What a trace keeps of a search: its lines, each with the marks that it rests on, and the branchings that are open.
-use Rattle.std.specs.Prelude.{ℕ, ◌+◌, ◌-◌, ◌==◌, ◌≤◌, Bool, true, false, List, [], ◌∷◌, ◌++◌, length, take, drop, map, if◌then◌else◌}
+use Rattle.std.specs.Prelude.{ℕ, ◌+◌, ◌-◌, ◌==◌, ◌≤◌, Bool, true, false, List, [], ◌∷◌, ◌++◌, length, take, drop, map}
+use Rattle.std.specs.Prelude.{if◌then◌else◌}
 use Rattle.std.specs.FinSet as sets
 use Rattle.lane_sieve.specs.Sets.{NumberSet}
 use Rattle.calculus_specs.specs.Line.{Line}
@@ -42,10 +43,18 @@ with_line t line marks = record { next = t.next + 1; lines = t.lines ++ next_lin
 
 -- the branching that a line opens: at its first alternative, with as many left
 abbrev pub opened : TraceLists → NumberSet → ℕ → OpenBranching
-opened t marks left = record { mark = t.next; at = length t.lines; child = length t.lines + 1; left = left; marks = marks; gathered = sets.empty }
+opened t marks left = record {
+  mark = t.next;
+  at = length t.lines;
+  child = length t.lines + 1;
+  left = left;
+  marks = marks;
+  gathered = sets.empty;
+}
 
 abbrev pub with_branching : TraceLists → Line → NumberSet → ℕ → TraceLists
-with_branching t line marks left = record { next = t.next + 1; lines = t.lines ++ next_line t line marks ∷ []; opens = opened t marks left ∷ t.opens }
+with_branching t line marks left =
+    record { next = t.next + 1; lines = t.lines ++ next_line t line marks ∷ []; opens = opened t marks left ∷ t.opens }
 
 -- ---- going back from a child that is closed
 
@@ -69,12 +78,20 @@ pub record GoneBack : Type 0 where
 abbrev pub gone_back : List NotedLine → List OpenBranching → NumberSet → GoneBack
 gone_back ls [] u = record { lines = ls; opens = []; used = u }
 gone_back ls (o ∷ os) u =
-    if sets.contains u o.mark then (if o.left == 0 then gone_back ls os (whole_marks o u) else record { lines = ls; opens = o ∷ os; used = u })
+    if sets.contains u o.mark
+    then (if o.left == 0 then gone_back ls os (whole_marks o u) else record { lines = ls; opens = o ∷ os; used = u })
     else gone_back (without o ls) os u
 
 -- the branching at its next alternative, which begins behind n lines
 abbrev pub turned : ℕ → NumberSet → OpenBranching → OpenBranching
-turned n u o = record { mark = o.mark; at = o.at; child = n; left = o.left - 1; marks = o.marks; gathered = sets.union o.gathered u }
+turned n u o = record {
+  mark = o.mark;
+  at = o.at;
+  child = n;
+  left = o.left - 1;
+  marks = o.marks;
+  gathered = sets.union o.gathered u;
+}
 
 abbrev pub turned_latest : ℕ → NumberSet → List OpenBranching → List OpenBranching
 turned_latest n u [] = []

@@ -40,7 +40,8 @@ nodes_of first ms = map (marked sets.empty) (range_with_len 0 first) ++ ends_of 
 
 -- what the facts make known that rest on marks of a set alone
 abbrev pub trail_within : ℕ → List Shape → NumberSet → List MarkedFact → Known
-trail_within first table u ms = record { nodes = within u (nodes_of first ms); facts = read_facts (tree_of table) (within u ms) }
+trail_within first table u ms =
+    record { nodes = within u (nodes_of first ms); facts = read_facts (tree_of table) (within u ms) }
 
 -- the branch has all that the trail has, with the same marks, and no node more; the nodes of the trail are all below
 -- their count
@@ -48,7 +49,8 @@ pub record Covers (first : ℕ) (table : List Shape) (ms : List MarkedFact) (k :
   pub nodes : IsAmong (nodes_of first ms) k.nodes
   pub facts : IsAmong (map (read_marked table) ms) k.facts
   pub no_more : (x : ℕ) → knows (known k) x ≡ true → x < node_count_from first (items ms)
-  pub no_less : (x : ℕ) → x < node_count_from first (items ms) → list_any (λ y. y == x) (items (nodes_of first ms)) ≡ true
+  pub no_less : (x : ℕ) → x < node_count_from first (items ms)
+      → list_any (λ y. y == x) (items (nodes_of first ms)) ≡ true
 
 -- whether the nodes that are added are the next ones
 abbrev pub is_next : ℕ → List MarkedFact → Added → Bool
@@ -56,7 +58,8 @@ is_next first ms (more_facts fs) = true
 is_next first ms (more_nodes x s e y n) = y == node_count_from first (items ms)
 
 -- the rule of a line has its premises by facts that rest on the line's marks alone, and the next nodes are its new ones
-pub record RuleHolds (q : Question) (table : List Shape) (ms : List MarkedFact) (l : NotedLine) (r : Rule) : Type 0 where
+pub record RuleHolds (q : Question) (table : List Shape) (ms : List MarkedFact) (l : NotedLine) (r : Rule) :
+    Type 0 where
   pub is_rule : rule_of q (concept_in table) l.line ≡ Some r
   pub premises : list_all (holds q.theory (trail_within q.first table l.marks ms)) r.premises ≡ true
   pub are_next : list_all (is_next q.first ms) r.children ≡ true
@@ -70,7 +73,8 @@ makes_no_node first (Same x y) = true
 
 -- what a search puts on its trail for a child of a line: some of the facts that it adds, or the facts of its new nodes
 pub data Puts (first : ℕ) (table : List Shape) : Added → List (Fact ℕ) → Type 0 where
-  some_facts : (fs : List (Fact Concept)) (new : List (Fact ℕ)) → list_all (makes_no_node first) new ≡ true → IsAmong (read_facts (tree_of table) new) fs → Puts first table (more_facts fs) new
+  some_facts : (fs : List (Fact Concept)) (new : List (Fact ℕ)) → list_all (makes_no_node first) new ≡ true
+      → IsAmong (read_facts (tree_of table) new) fs → Puts first table (more_facts fs) new
   all_nodes : (x s c y n : ℕ) → Puts first table (more_nodes x s (tree_of table c) y n) (fresh_facts x s c y n)
 
 -- ---- which marks a rule rests on

@@ -1,6 +1,10 @@
 //! How the trace of a search closes: rule lines with the marks that they rest on, and what may be taken out of them.
 ghost use Rattle.search_trace.specs.Alternatives.{AlternativesArePut};
-ghost use Rattle.search_trace.specs.ClosingLaws.{RulesSayChildren, PremisesStay, StrippedLinesClose, StepsAreTraced, ClosingGoesBack, ClosingEnds, NumbersTakeOut, StartIsTraced, ClosedTracesRefute, RulesFollowShapes, MoreMarksHold, GroundedFactsKnow, TrailsRestOnChoices, LinesHoldByAll, NamedPartsServe};
+ghost use Rattle.search_trace.specs.ClosingLaws.{RulesSayChildren, PremisesStay, StrippedLinesClose, StepsAreTraced};
+ghost use Rattle.search_trace.specs.ClosingLaws.{ClosingGoesBack, ClosingEnds, NumbersTakeOut, StartIsTraced};
+ghost use Rattle.search_trace.specs.ClosingLaws.{ClosedTracesRefute, RulesFollowShapes, MoreMarksHold};
+ghost use Rattle.search_trace.specs.ClosingLaws.{GroundedFactsKnow, TrailsRestOnChoices, LinesHoldByAll};
+ghost use Rattle.search_trace.specs.ClosingLaws.{NamedPartsServe};
 
 /// What a line asks of a branch is a list of facts, and what it adds is the same in every branch.
 pub fn rules_say_children()

@@ -1,10 +1,12 @@
 // The open branchings of a trace, and going back over them.
-ghost use Rattle.std.specs.Prelude.{◌≡◌, ◌≤◌, ◌<◌, ◌-◌, ◌++◌, length, reverse, IfOk, OnOk, OnErr, IfSome, IsNone, true, false, List, ◌∷◌, []};
+ghost use Rattle.std.specs.Prelude.{◌≡◌, ◌≤◌, ◌<◌, ◌-◌, ◌++◌, length, reverse, IfOk, OnOk, OnErr, IfSome, IsNone, true};
+ghost use Rattle.std.specs.Prelude.{false, List, ◌∷◌, []};
 ghost use Rattle.std.specs.Bool.{MatchBool};
 ghost use Rattle.std.specs.FinSet as set;
 ghost use Rattle.search_trace.specs.declared.opens.OpenBranching.{OpenBranching};
 ghost use Rattle.search_trace.specs.Trace.{ArePlaced, whole_marks, turned, turned_latest, turn_of};
-ghost use Rattle.search_trace.specs.Going.{IsPlaced, Passes, Halts, IsTaken, going, reached, turns, turns_at, passed_marks};
+ghost use Rattle.search_trace.specs.Going.{IsPlaced, Passes, Halts, IsTaken, going, reached, turns, turns_at};
+ghost use Rattle.search_trace.specs.Going.{passed_marks};
 
 use crate::lines::{TraceLine, take_out};
 use crate::{Deps, NoMemory};
@@ -48,7 +50,8 @@ pub(crate) fn go_over(
     used: Deps,
 ) -> Result<Deps, NoMemory>
     requires { ArePlaced (length lines.old.items) (reverse opens.old.items) }
-    ensures goes { IfOk result (λ u. going lines.old.items opens.old.items used ≡ reached lines.new.items opens.new.items u) }
+    ensures goes { IfOk result
+        (λ u. going lines.old.items opens.old.items used ≡ reached lines.new.items opens.new.items u) }
     ensures halts { IfOk result (λ u. Halts opens.new.items u) }
     ensures placed { ArePlaced (length lines.new.items) (reverse opens.new.items) }
 {
@@ -72,7 +75,9 @@ fn take_latest(opens: &mut Vec<OpenBranching>, used: &Deps) -> Option<OpenBranch
 
 // Whether the latest open branching is to turn, or there is none.
 fn is_to_turn(opens: &[OpenBranching], used: &Deps) -> bool
-    ensures cases { MatchBool result (Halts opens.now used.now) ((older : List OpenBranching) (o : OpenBranching) → opens.now ≡ older ++ o ∷ [] → set.contains used.now o.mark ≡ true → o.left ≡ 0) }
+    ensures cases { MatchBool result (Halts opens.now used.now)
+        ((older : List OpenBranching) (o : OpenBranching) → opens.now ≡ older ++ o ∷ []
+        → set.contains used.now o.mark ≡ true → o.left ≡ 0) }
     ensures one { result ≡ false → 0 < length opens.now }
 {
     match opens.last() {

@@ -1,5 +1,6 @@
 -- What is noted.
-use Rattle.std.proofs.Common.{◌≡◌, ℕ, zero, suc, ◌+◌, ◌<◌, ◌≤◌, ◌&&◌, ◌||◌, eqb, Bool, true, false, List, [], ◌∷◌, drop, Some, refl, ap, ◌∙◌, sym, subst, arith, inl, inr, eq-eqb}
+use Rattle.std.proofs.Common.{◌≡◌, ℕ, zero, suc, ◌+◌, ◌<◌, ◌≤◌, ◌&&◌, ◌||◌, eqb, Bool, true, false, List, [], ◌∷◌, drop}
+use Rattle.std.proofs.Common.{Some, refl, ap, ◌∙◌, sym, subst, arith, inl, inr, eq-eqb}
 use Rattle.std.specs.List.{list_any, slice_get}
 use Rattle.std.specs.Prelude.{◌==◌}
 use Rattle.std.proofs.lemmas.Bool.{cases_Bool, eqb-true, false_from_ne_true}
@@ -10,7 +11,8 @@ use Rattle.axiom_sets.specs.Sets.{Limited}
 use Rattle.tableau_specs.specs.declared.Item.{Item}
 use Rattle.tableau_specs.specs.declared.Item.TheVariants.{Fact as Says, Mark}
 use Rattle.tableau_specs.specs.Items.{facts_of}
-use Rattle.seen_concepts.specs.Seen.{SeenSets, holds, class_of, union_parts, is_one, is_complement, has_complement, gives_class, gives_complement, HasGained, HasNoted}
+use Rattle.seen_concepts.specs.Seen.{SeenSets, holds, class_of, union_parts, is_one, is_complement, has_complement}
+use Rattle.seen_concepts.specs.Seen.{gives_class, gives_complement, HasGained, HasNoted}
 
 -- ---- one set
 
@@ -23,7 +25,8 @@ no_room limit class a b high lt = elim (cases_Bool (eqb class a)) [
 
 module _ (old new : Limited) where
   pub gains_same : (p q : ℕ → Bool) → ((a : ℕ) → p a ≡ q a) → HasGained p old new → HasGained q old new
-  gains_same p q same h = record { limit = h.limit; held = λ a lt. h.held a lt ∙ ap (λ (b : Bool). b || holds old a) (same a) }
+  gains_same p q same h =
+      record { limit = h.limit; held = λ a lt. h.held a lt ∙ ap (λ (b : Bool). b || holds old a) (same a) }
 
   pub gains_none : (p : ℕ → Bool) → ((a : ℕ) → p a ≡ false) → new ≡ old → HasGained p old new
   gains_none p none is = record {
@@ -34,14 +37,16 @@ module _ (old new : Limited) where
 -- ---- one concept
 
 module _ (at : ℕ) (table : List Shape) (node concept : ℕ) (old mid new : SeenSets)
-    (complement : HasGained (λ a. is_complement table a concept) old.complements mid.complements) (same : mid.at_node ≡ old.at_node) where
+    (complement : HasGained (λ a. is_complement table a concept) old.complements mid.complements)
+    (same : mid.at_node ≡ old.at_node) where
   or_false : (b : Bool) → (b || false) ≡ b
   or_false true = refl
   or_false false = refl
 
   -- at the node in question
   pub noted_there : node ≡ at → HasGained (λ a. is_one a (class_of (shape_of table concept))) mid.at_node new.at_node
-      → HasGained (λ a. has_complement table a (union_parts (shape_of table concept))) mid.complements new.complements → HasNoted at table (Has node concept ∷ []) old new
+      → HasGained (λ a. has_complement table a (union_parts (shape_of table concept))) mid.complements new.complements
+      → HasNoted at table (Has node concept ∷ []) old new
   noted_there there class parts =
       let is_there : (node == at) ≡ true = eq-eqb node at there in
       record {
@@ -50,7 +55,9 @@ module _ (at : ℕ) (table : List Shape) (node concept : ℕ) (old mid new : See
           held = λ a lt.
               class.held a (omega (arith, lt, ap (λ (s : Limited). s.limit) same))
               ∙ ap (λ (s : Limited). is_one a (class_of (shape_of table concept)) || holds s a) same
-              ∙ ap (λ (b : Bool). b || holds old.at_node a) (sym (or_false (gives_class at table a (Has node concept)) ∙ ap (λ (b : Bool). b && is_one a (class_of (shape_of table concept))) is_there));
+              ∙ ap (λ (b : Bool). b || holds old.at_node a)
+              (sym (or_false (gives_class at table a (Has node concept))
+              ∙ ap (λ (b : Bool). b && is_one a (class_of (shape_of table concept))) is_there));
         };
         complements = record {
           limit = parts.limit ∙ complement.limit;
@@ -60,7 +67,9 @@ module _ (at : ℕ) (table : List Shape) (node concept : ℕ) (old mid new : See
               parts.held a (omega (arith, lt, complement.limit))
               ∙ ap (λ (b : Bool). p || b) (complement.held a lt)
               ∙ turned p q (holds old.complements a)
-              ∙ ap (λ (b : Bool). b || holds old.complements a) (sym (or_false (gives_complement at table a (Has node concept)) ∙ ap (λ (b : Bool). q || (b && p)) is_there));
+              ∙ ap (λ (b : Bool). b || holds old.complements a)
+              (sym
+              (or_false (gives_complement at table a (Has node concept)) ∙ ap (λ (b : Bool). q || (b && p)) is_there));
         };
       }
     where
@@ -75,17 +84,24 @@ module _ (at : ℕ) (table : List Shape) (node concept : ℕ) (old mid new : See
   noted_elsewhere other is =
       let not_there : (node == at) ≡ false = false_from_ne_true (node == at) (λ h. other (eqb-true node at h)) in
       subst (λ (s : SeenSets). HasNoted at table (Has node concept ∷ []) old s) (sym is) (record {
-        at_node = gains_none old.at_node mid.at_node _ (λ a. or_false (gives_class at table a (Has node concept)) ∙ ap (λ (b : Bool). b && is_one a (class_of (shape_of table concept))) not_there) same;
+        at_node =
+            gains_none old.at_node mid.at_node _
+            (λ a. or_false (gives_class at table a (Has node concept))
+            ∙ ap (λ (b : Bool). b && is_one a (class_of (shape_of table concept))) not_there)
+            same;
         complements = gains_same old.complements mid.complements _ _
             (λ a.
             let p = has_complement table a (union_parts (shape_of table concept)) in
             let q = is_complement table a concept in
-            sym (or_false (gives_complement at table a (Has node concept)) ∙ ap (λ (b : Bool). q || (b && p)) not_there ∙ or_false q))
+            sym (or_false (gives_complement at table a (Has node concept)) ∙ ap (λ (b : Bool). q || (b && p)) not_there
+            ∙ or_false q))
             complement;
       })
 
 -- facts that have to do with no class
-pub nothing_noted : (at : ℕ) (table : List Shape) (fs : List (Fact ℕ)) (s : SeenSets) → ((a : ℕ) → list_any (gives_class at table a) fs ≡ false) → ((a : ℕ) → list_any (gives_complement at table a) fs ≡ false) → HasNoted at table fs s s
+pub nothing_noted : (at : ℕ) (table : List Shape) (fs : List (Fact ℕ)) (s : SeenSets)
+    → ((a : ℕ) → list_any (gives_class at table a) fs ≡ false)
+    → ((a : ℕ) → list_any (gives_complement at table a) fs ≡ false) → HasNoted at table fs s s
 nothing_noted at table fs s class complement = record {
   at_node = gains_none s.at_node s.at_node _ class refl;
   complements = gains_none s.complements s.complements _ complement refl;
@@ -98,15 +114,19 @@ drop_at [] n x h = absurd (cc)
 drop_at (y ∷ ys) zero x h = (let e : y ≡ x = cc in ap (λ z. z ∷ ys) e)
 drop_at (y ∷ ys) (suc n) x h = drop_at ys n x h
 
-one_more : (p : Fact ℕ → Bool) (items : List Item) (place : ℕ) (item : Item) (all held held' start : Bool) → slice_get items place ≡ Some item → held' ≡ (list_any p (facts_of (item ∷ [])) || held)
-    → (list_any p (facts_of (drop place items)) || held) ≡ (all || start) → (list_any p (facts_of (drop (place + 1) items)) || held') ≡ (all || start)
+one_more : (p : Fact ℕ → Bool) (items : List Item) (place : ℕ) (item : Item) (all held held' start : Bool)
+    → slice_get items place ≡ Some item → held' ≡ (list_any p (facts_of (item ∷ [])) || held)
+    → (list_any p (facts_of (drop place items)) || held) ≡ (all || start)
+    → (list_any p (facts_of (drop (place + 1) items)) || held') ≡ (all || start)
 one_more p items place item all held held' start read noted so_far =
     let next : place + 1 ≡ suc place = omega arith in
     ap (λ (k : ℕ). list_any p (facts_of (drop k items)) || held') next
     ∙ ap (λ (b : Bool). list_any p (facts_of (drop (suc place) items)) || b) noted
     ∙ turned (list_any p (facts_of (drop (suc place) items))) (list_any p (facts_of (item ∷ []))) held
-    ∙ (let split : list_any p (facts_of (drop place items)) ≡ (list_any p (facts_of (item ∷ [])) || list_any p (facts_of (drop (suc place) items))) =
-    ap (λ (is : List Item). list_any p (facts_of is)) (drop_at items place item read) ∙ first item (drop (suc place) items) in
+    ∙ (let split : list_any p (facts_of (drop place items))
+    ≡ (list_any p (facts_of (item ∷ [])) || list_any p (facts_of (drop (suc place) items))) =
+    ap (λ (is : List Item). list_any p (facts_of is)) (drop_at items place item read)
+    ∙ first item (drop (suc place) items) in
     ap (λ (b : Bool). b || held) (sym split))
     ∙ so_far
   where
@@ -116,16 +136,21 @@ one_more p items place item all held held' start read noted so_far =
     turned false true c = refl
     turned false false c = refl
 
-    first : (i : Item) (is : List Item) → list_any p (facts_of (i ∷ is)) ≡ (list_any p (facts_of (i ∷ [])) || list_any p (facts_of is))
-    first (Says f) is = elim (p f) as (λ b. (b || list_any p (facts_of is)) ≡ ((b || false) || list_any p (facts_of is))) [ true ↦ refl | false ↦ refl ]
+    first : (i : Item) (is : List Item)
+        → list_any p (facts_of (i ∷ is)) ≡ (list_any p (facts_of (i ∷ [])) || list_any p (facts_of is))
+    first (Says f) is = elim (p f) as
+        (λ b. (b || list_any p (facts_of is)) ≡ ((b || false) || list_any p (facts_of is)))
+        [ true ↦ refl | false ↦ refl ]
     first (Mark c) is = refl
 
 -- the concepts up to a place are put into a set
 pub record IsPutting (table : List Shape) (concepts : List ℕ) (place : ℕ) (old now : Limited) : Type 0 where
   pub limit : now.limit ≡ old.limit
-  pub held : (a : ℕ) → a < old.limit → (has_complement table a (drop place concepts) || holds now a) ≡ (has_complement table a concepts || holds old a)
+  pub held : (a : ℕ) → a < old.limit
+      → (has_complement table a (drop place concepts) || holds now a) ≡ (has_complement table a concepts || holds old a)
 
-pub puts_next : (table : List Shape) (concepts : List ℕ) (place concept : ℕ) (old now next : Limited) → slice_get concepts place ≡ Some concept → IsPutting table concepts place old now
+pub puts_next : (table : List Shape) (concepts : List ℕ) (place concept : ℕ) (old now next : Limited)
+    → slice_get concepts place ≡ Some concept → IsPutting table concepts place old now
     → HasGained (λ a. is_complement table a concept) now next → IsPutting table concepts (place + 1) old next
 puts_next table concepts place concept old now next read before gained = record {
   limit = gained.limit ∙ before.limit;
@@ -148,12 +173,16 @@ puts_next table concepts place concept old now next read before gained = record 
 -- how far one set is noted, up to a place
 pub record IsNoting (test : ℕ → Fact ℕ → Bool) (items : List Item) (from place : ℕ) (old now : Limited) : Type 0 where
   pub limit : now.limit ≡ old.limit
-  pub held : (a : ℕ) → a < old.limit → (list_any (test a) (facts_of (drop place items)) || holds now a) ≡ (list_any (test a) (facts_of (drop from items)) || holds old a)
+  pub held : (a : ℕ) → a < old.limit
+      → (list_any (test a) (facts_of (drop place items)) || holds now a)
+      ≡ (list_any (test a) (facts_of (drop from items)) || holds old a)
 
-pub notes_one : (test : ℕ → Fact ℕ → Bool) (items : List Item) (from place : ℕ) (item : Item) (old now next : Limited) → slice_get items place ≡ Some item → IsNoting test items from place old now
+pub notes_one : (test : ℕ → Fact ℕ → Bool) (items : List Item) (from place : ℕ) (item : Item) (old now next : Limited)
+    → slice_get items place ≡ Some item → IsNoting test items from place old now
     → HasGained (λ a. list_any (test a) (facts_of (item ∷ []))) now next → IsNoting test items from (place + 1) old next
 notes_one test items from place item old now next read before gained = record {
   limit = gained.limit ∙ before.limit;
   held = λ a lt.
-      one_more (test a) items place item (list_any (test a) (facts_of (drop from items))) (holds now a) (holds next a) (holds old a) read (gained.held a (omega (arith, lt, before.limit))) (before.held a lt);
+      one_more (test a) items place item (list_any (test a) (facts_of (drop from items))) (holds now a) (holds next a)
+      (holds old a) read (gained.held a (omega (arith, lt, before.limit))) (before.held a lt);
 }

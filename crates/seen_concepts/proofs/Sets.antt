@@ -15,5 +15,7 @@ shifted m n = elim (cases_Bool (eqb (m + 1) (n + 1))) [
   ]
 ]
 
-pub holds-insert : (limit : ℕ) (s : Limited) (number c : ℕ) → holds (record { limit = limit; members = set.insert s.members (number + 1) }) c ≡ (eqb number c || holds s c)
-holds-insert limit s number c = contains_insert s.members (number + 1) (c + 1) ∙ ap (λ (b : Bool). b || holds s c) (shifted c number)
+pub holds-insert : (limit : ℕ) (s : Limited) (number c : ℕ)
+    → holds (record { limit = limit; members = set.insert s.members (number + 1) }) c ≡ (eqb number c || holds s c)
+holds-insert limit s number c =
+    contains_insert s.members (number + 1) (c + 1) ∙ ap (λ (b : Bool). b || holds s c) (shifted c number)

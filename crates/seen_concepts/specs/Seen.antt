@@ -4,7 +4,8 @@ use Rattle.std.specs.List.{list_any}
 use Rattle.std.specs.FinSet as set
 use Rattle.axiom_sets.specs.Sets.{Limited}
 use Rattle.calculus_specs.specs.Shape.{Shape, shape_of}
-use Rattle.calculus_specs.specs.Shape.Shape.{top, bottom, name, not_name, intersection, union, some_of, all_of, at_least, at_most}
+use Rattle.calculus_specs.specs.Shape.Shape.{top, bottom, name, not_name, intersection, union, some_of, all_of}
+use Rattle.calculus_specs.specs.Shape.Shape.{at_least, at_most}
 use Rattle.calculus_specs.specs.declared.facts.Fact.{Fact}
 use Rattle.calculus_specs.specs.declared.facts.Fact.TheVariants.{Has, Edge, Apart, Same}
 use Rattle.tableau_specs.specs.declared.Item.{Item}
@@ -94,7 +95,8 @@ gives_class at table a (Same y z) = false
 
 -- whether the fact gives a node the complement of class a, or the node `at` a union of which that is a part
 abbrev pub gives_complement : ℕ → List Shape → ℕ → Fact ℕ → Bool
-gives_complement at table a (Has x c) = is_complement table a c || (x == at && has_complement table a (union_parts (shape_of table c)))
+gives_complement at table a (Has x c) =
+    is_complement table a c || (x == at && has_complement table a (union_parts (shape_of table c)))
 gives_complement at table a (Edge r x y) = false
 gives_complement at table a (Apart y z) = false
 gives_complement at table a (Same y z) = false
@@ -114,7 +116,8 @@ pub record HasNoted (at : ℕ) (table : List Shape) (fs : List (Fact ℕ)) (old 
 -- the sets are those of the run, where the node `at` is the one in question, no more and no less, as far as they reach
 pub record AreSeenIn (at : ℕ) (table : List Shape) (run : List (List Item)) (s : SeenSets) : Type 0 where
   pub at_node : (a : ℕ) → a < s.at_node.limit → holds s.at_node a ≡ was_ever (gives_class at table a) run
-  pub complements : (a : ℕ) → a < s.complements.limit → holds s.complements a ≡ was_ever (gives_complement at table a) run
+  pub complements : (a : ℕ) → a < s.complements.limit
+      → holds s.complements a ≡ was_ever (gives_complement at table a) run
 
 -- whether the run has had to do with class a
 abbrev pub has_seen : SeenSets → ℕ → Bool

@@ -4,7 +4,8 @@ ghost use Rattle.calculus_specs.specs.declared.facts.Fact.TheVariants.{Has};
 ghost use Rattle.calculus_specs.specs.Shape.{shape_of};
 ghost use Rattle.tableau_specs.specs.Items.{facts_of};
 ghost use Rattle.completion_tree.specs.Trail.{items_of};
-ghost use Rattle.seen_concepts.specs.Seen.{holds, nothing_seen, class_of, complement_of, union_parts, is_one, is_complement, has_complement};
+ghost use Rattle.seen_concepts.specs.Seen.{holds, nothing_seen, class_of, complement_of, union_parts, is_one};
+ghost use Rattle.seen_concepts.specs.Seen.{is_complement, has_complement};
 ghost use Rattle.seen_concepts.specs.Seen.{has_seen, HasGained, HasNoted};
 
 use crate::NoMemory;
@@ -64,7 +65,8 @@ impl SeenClasses {
         from: u32,
     )
         requires { from ≤ length tree.now.entries }
-        ensures { HasNoted at (R.context rules.now).table (facts_of (drop from (items_of tree.now.entries))) self.old self.new }
+        ensures { HasNoted at (R.context rules.now).table (facts_of (drop from (items_of tree.now.entries))) self.old
+            self.new }
     {
         for place in from..tree.len() {
             self.note_item(rules, tree.item(place), at);
@@ -95,7 +97,8 @@ impl SeenClasses {
 
     // Notes a concept that is the complement of a class.
     fn note_complement<R: Rules>(&mut self, rules: &R, concept: u32)
-        ensures complements { HasGained (λ a. is_complement (R.context rules.now).table a concept) self.old.complements self.new.complements }
+        ensures complements { HasGained (λ a. is_complement (R.context rules.now).table a concept) self.old.complements
+            self.new.complements }
         ensures at_node { self.new.at_node ≡ self.old.at_node }
     {
         put_complement(&mut self.complements, rules, concept);
@@ -103,8 +106,12 @@ impl SeenClasses {
 
     // Notes what a concept of the node in question is besides: a class, or a union.
     fn note_at_node<R: Rules>(&mut self, rules: &R, concept: u32)
-        ensures at_node { HasGained (λ a. is_one a (class_of (shape_of (R.context rules.now).table concept))) self.old.at_node self.new.at_node }
-        ensures complements { HasGained (λ a. has_complement (R.context rules.now).table a (union_parts (shape_of (R.context rules.now).table concept))) self.old.complements self.new.complements }
+        ensures at_node { HasGained (λ a. is_one a (class_of (shape_of (R.context rules.now).table concept)))
+            self.old.at_node self.new.at_node }
+        ensures complements { HasGained
+            (λ a. has_complement (R.context rules.now).table a
+            (union_parts (shape_of (R.context rules.now).table concept)))
+            self.old.complements self.new.complements }
     {
         put_if(&mut self.at_node, class_of(rules, concept));
         put_complements(&mut self.complements, rules, parts_of(rules, concept));
@@ -117,7 +124,8 @@ impl SeenClasses {
     /// Out of memory.
     pub fn others(&self, alloc: Global) -> Result<AxiomSet, NoMemory>
         ensures limit { IfOk result (λ s. s.limit ≡ self.now.at_node.limit) }
-        ensures exact { IfOk result (λ s. (a : ℕ) → a < self.now.at_node.limit → holds s a ≡ not (has_seen self.now a)) }
+        ensures exact { IfOk result
+            (λ s. (a : ℕ) → a < self.now.at_node.limit → holds s a ≡ not (has_seen self.now a)) }
     {
         let mut classes = AxiomSet::full(alloc, self.at_node.limit())?;
         classes.take_all(&self.at_node);

@@ -1,5 +1,6 @@
 -- Sets that are dropped, and one that is put.
-use Rattle.std.proofs.Common.{◌≡◌, ℕ, ◌+◌, ◌-◌, ◌<◌, ◌≤◌, ◌++◌, ◌∷◌, [], ◌⊎◌, List, length, get_or, sym, ap, ◌∙◌, subst, arith, inl, inr, length-append}
+use Rattle.std.proofs.Common.{◌≡◌, ℕ, ◌+◌, ◌-◌, ◌<◌, ◌≤◌, ◌++◌, ◌∷◌, [], ◌⊎◌, List, length, get_or, sym, ap, ◌∙◌, subst}
+use Rattle.std.proofs.Common.{arith, inl, inr, length-append}
 use Rattle.std.specs.List.{Contains, All, remove}
 use Rattle.std.proofs.lemmas.Bool.{cases_eq, cases_lt}
 use Rattle.std.proofs.lemmas.List.{get_or_default, get_or_append_left, get_or_push}
@@ -26,7 +27,9 @@ module _ (xs : List Limited) (q : ℕ) (lt : q < length xs) where
   shorter = length-remove xs q lt
 
   -- where a place of the shorter list was
-  place_before : (k : ℕ) (d : Limited) → k < length (remove xs q) → (j : ℕ) × (j < length xs) × (get_or (remove xs q) k d ≡ get_or xs j d) × ((k < q) × (j ≡ k) ⊎ (q ≤ k) × (j ≡ k + 1))
+  place_before : (k : ℕ) (d : Limited) → k < length (remove xs q)
+      → (j : ℕ) × (j < length xs) × (get_or (remove xs q) k d ≡ get_or xs j d)
+      × ((k < q) × (j ≡ k) ⊎ (q ≤ k) × (j ≡ k + 1))
   place_before k d low =
       elim (cases_lt k q) [
         | inl below ↦ (k, omega (arith, shorter), get_or-remove_below xs q d k below lt, inl (below, omega arith))
@@ -44,7 +47,11 @@ module _ (xs : List Limited) (q : ℕ) (lt : q < length xs) where
           | inl below ↦ inr (at.0, omega (arith, shorter), get_or-remove_below xs q x at.0 below lt ∙ at.2)
           | inr above ↦
               let e : (at.0 - 1) + 1 ≡ at.0 = omega arith in
-              inr (at.0 - 1, omega (arith, shorter, at.1), get_or-remove_above xs q x (at.0 - 1) (omega arith) lt ∙ ap (λ (n : ℕ). get_or xs n x) e ∙ at.2)
+              inr (
+                at.0 - 1,
+                omega (arith, shorter, at.1),
+                get_or-remove_above xs q x (at.0 - 1) (omega arith) lt ∙ ap (λ (n : ℕ). get_or xs n x) e ∙ at.2,
+              )
         ]
       ]
 
@@ -53,13 +60,17 @@ module _ (xs : List Limited) (q : ℕ) (lt : q < length xs) where
       let i' = place_before i d i_lt in
       let j' = place_before j d j_lt in
       let differ : ¬ (i'.0 ≡ j'.0) = λ e. elim i'.3 [
-        | inl a ↦ elim j'.3 [ inl b ↦ ne (omega (arith, a.1, b.1, e)) | inr b ↦ absurd (omega (arith, a.0, a.1, b.0, b.1, e)) ]
-        | inr a ↦ elim j'.3 [ inl b ↦ absurd (omega (arith, a.0, a.1, b.0, b.1, e)) | inr b ↦ ne (omega (arith, a.1, b.1, e)) ]
+        | inl a ↦ elim j'.3
+            [ inl b ↦ ne (omega (arith, a.1, b.1, e)) | inr b ↦ absurd (omega (arith, a.0, a.1, b.0, b.1, e)) ]
+        | inr a ↦ elim j'.3
+            [ inl b ↦ absurd (omega (arith, a.0, a.1, b.0, b.1, e)) | inr b ↦ ne (omega (arith, a.1, b.1, e)) ]
       ] in
       apart i'.0 j'.0 d i'.1 j'.1 differ
-      (subst (λ (y : Limited). Outranks kind (get_or xs i'.0 d).members y.members) j'.2 (subst (λ (y : Limited). Outranks kind y.members (get_or (remove xs q) j d).members) i'.2 outranks))
+      (subst (λ (y : Limited). Outranks kind (get_or xs i'.0 d).members y.members) j'.2
+      (subst (λ (y : Limited). Outranks kind y.members (get_or (remove xs q) j d).members) i'.2 outranks))
 
-  removed_each : (P : Limited → Type 0) → ((i : ℕ) (d : Limited) → i < length xs → P (get_or xs i d)) → (i : ℕ) (d : Limited) → i < length (remove xs q) → P (get_or (remove xs q) i d)
+  removed_each : (P : Limited → Type 0) → ((i : ℕ) (d : Limited) → i < length xs → P (get_or xs i d))
+      → (i : ℕ) (d : Limited) → i < length (remove xs q) → P (get_or (remove xs q) i d)
   removed_each P each i d low = let before = place_before i d low in subst P (sym before.2) (each before.0 d before.1)
 
 -- ---- a list from whose end up to a place the outranked sets were dropped
@@ -72,11 +83,20 @@ pub record IsSwept (kind : Kind) (s : Limited) (old now : List Limited) (place :
   pub beside : (i : ℕ) (d : Limited) → place ≤ i → i < length now → ¬ Outranks kind s.members (get_or now i d).members
   pub apart : AreApart kind old → AreApart kind now
 
-pub swept_none : (kind : Kind) (s : Limited) (old : List Limited) (place : ℕ) → place ≡ length old → All (λ (x : Limited). x.limit ≡ s.limit) old → IsSwept kind s old old place
+pub swept_none : (kind : Kind) (s : Limited) (old : List Limited) (place : ℕ) → place ≡ length old
+    → All (λ (x : Limited). x.limit ≡ s.limit) old → IsSwept kind s old old place
 swept_none kind s old place e limits =
-    record { within = omega arith; limits = limits; from = λ x at. at; kept = λ x at. inr at; beside = λ i d le lt. absurd (omega arith); apart = λ h. h }
+    record {
+      within = omega arith;
+      limits = limits;
+      from = λ x at. at;
+      kept = λ x at. inr at;
+      beside = λ i d le lt. absurd (omega arith);
+      apart = λ h. h;
+    }
 
-module _ (kind : Kind) (s : Limited) (old now : List Limited) (place q : ℕ) (next : place ≡ q + 1) (swept : IsSwept kind s old now place) (read : Limited) (is : read ≡ get_or now q read) where
+module _ (kind : Kind) (s : Limited) (old now : List Limited) (place q : ℕ) (next : place ≡ q + 1)
+    (swept : IsSwept kind s old now place) (read : Limited) (is : read ≡ get_or now q read) where
   q_lt : q < length now
   q_lt = omega (arith, swept.within)
 
@@ -89,12 +109,15 @@ module _ (kind : Kind) (s : Limited) (old now : List Limited) (place q : ℕ) (n
         kept = λ x at. elim (swept.kept x at) [
           | inl yes' ↦ inl yes'
           | inr in_now ↦ elim (removed_kept now q q_lt x in_now) [
-            | inl e ↦ inl (subst (λ (y : Limited). Outranks kind s.members y.members) (is ∙ get_or_default now q read x q_lt ∙ e) outranks)
+            | inl e ↦
+                inl (subst (λ (y : Limited). Outranks kind s.members y.members)
+                (is ∙ get_or_default now q read x q_lt ∙ e) outranks)
             | inr left ↦ inr left
           ]
         ];
         beside = λ i d le lt out.
-            swept.beside (i + 1) d (omega arith) (omega (arith, shorter now q q_lt)) (subst (λ (y : Limited). Outranks kind s.members y.members) (get_or-remove_above now q d i le q_lt) out);
+            swept.beside (i + 1) d (omega arith) (omega (arith, shorter now q q_lt))
+            (subst (λ (y : Limited). Outranks kind s.members y.members) (get_or-remove_above now q d i le q_lt) out);
         apart = λ h. removed_apart now q q_lt kind (swept.apart h);
       }
 
@@ -106,21 +129,33 @@ module _ (kind : Kind) (s : Limited) (old now : List Limited) (place q : ℕ) (n
         from = swept.from;
         kept = swept.kept;
         beside = λ i d le lt out. elim (cases_eq i q) [
-          | inl e ↦ stays (subst (λ (y : Limited). Outranks kind s.members y.members) (ap (λ (n : ℕ). get_or now n d) e ∙ get_or_default now q d read q_lt ∙ sym is) out)
+          | inl e ↦
+              stays (subst (λ (y : Limited). Outranks kind s.members y.members)
+              (ap (λ (n : ℕ). get_or now n d) e ∙ get_or_default now q d read q_lt ∙ sym is) out)
           | inr ne ↦ swept.beside i d (omega arith) lt out
         ];
         apart = swept.apart;
       }
 
-pub swept_all : (kind : Kind) (s : Limited) (old now : List Limited) (place : ℕ) → place ≡ 0 → IsSwept kind s old now place → IsDropped kind s old now
-swept_all kind s old now place e swept = record { from = swept.from; kept = swept.kept; beside = λ i d lt. swept.beside i d (omega arith) lt; apart = swept.apart }
+pub swept_all : (kind : Kind) (s : Limited) (old now : List Limited) (place : ℕ) → place ≡ 0
+    → IsSwept kind s old now place → IsDropped kind s old now
+swept_all kind s old now place e swept = record {
+  from = swept.from;
+  kept = swept.kept;
+  beside = λ i d lt. swept.beside i d (omega arith) lt;
+  apart = swept.apart;
+}
 
 -- ---- one set is put
 
-pub limits_same : (s : Limited) (old new : List Limited) → new ≡ old → All (λ (x : Limited). x.limit ≡ s.limit) old → All (λ (x : Limited). x.limit ≡ s.limit) new
-limits_same s old new e limits = subst (λ (xs : List Limited). All (λ (x : Limited). x.limit ≡ s.limit) xs) (sym e) limits
+pub limits_same : (s : Limited) (old new : List Limited) → new ≡ old → All (λ (x : Limited). x.limit ≡ s.limit) old
+    → All (λ (x : Limited). x.limit ≡ s.limit) new
+limits_same s old new e limits =
+    subst (λ (xs : List Limited). All (λ (x : Limited). x.limit ≡ s.limit) xs) (sym e) limits
 
-pub limits_new : (kind : Kind) (s : Limited) (old left new : List Limited) → All (λ (x : Limited). x.limit ≡ s.limit) old → IsDropped kind s old left → new ≡ left ++ s ∷ [] → All (λ (x : Limited). x.limit ≡ s.limit) new
+pub limits_new : (kind : Kind) (s : Limited) (old left new : List Limited)
+    → All (λ (x : Limited). x.limit ≡ s.limit) old → IsDropped kind s old left → new ≡ left ++ s ∷ []
+    → All (λ (x : Limited). x.limit ≡ s.limit) new
 limits_new kind s old left new limits dropped e =
     limits_same s (left ++ s ∷ []) new e (λ k d lt. elim (cases_lt k (length left)) [
       | inl low ↦
@@ -134,11 +169,14 @@ pub with_above : (kind : Kind) (s : Limited) (old : List Limited) → HasAbove k
 with_above kind s old above all kept =
     record {
       from = λ x at. Contains-append_left all (s ∷ []) x (kept.from x at);
-      above = λ x at. elim (Contains-push_cases all s x at) [ inl before ↦ kept.above x before | inr e ↦ subst (λ (y : Limited). HasAbove kind old y) e above ];
+      above =
+          λ x at. elim (Contains-push_cases all s x at)
+          [ inl before ↦ kept.above x before | inr e ↦ subst (λ (y : Limited). HasAbove kind old y) e above ];
       apart = kept.apart;
     }
 
-pub with_new : (kind : Kind) (s : Limited) (old left new : List Limited) → ¬ HasAbove kind old s → IsDropped kind s old left → new ≡ left ++ s ∷ [] → KeepsWith kind s old new
+pub with_new : (kind : Kind) (s : Limited) (old left new : List Limited) → ¬ HasAbove kind old s
+    → IsDropped kind s old left → new ≡ left ++ s ∷ [] → KeepsWith kind s old new
 with_new kind s old left new none dropped e all kept =
     let more = left ++ s ∷ [] in
     let long : length more ≡ length left + 1 = length-append left (s ∷ []) in
@@ -155,27 +193,36 @@ with_new kind s old left new none dropped e all kept =
               | inl out ↦ (s, Contains-push left s, outranks_on kind s.members t.0.members x.members out t.2)
               | inr stays ↦ (t.0, Contains-append_left left (s ∷ []) t.0 stays, t.2)
             ]
-        | inr same ↦ (s, Contains-push left s, subst (λ (y : Limited). Outranks kind s.members y.members) same (outranks_self kind s.members))
+        | inr same ↦ (
+          s,
+          Contains-push left s,
+          subst (λ (y : Limited). Outranks kind s.members y.members) same (outranks_self kind s.members),
+        )
       ];
       apart = λ i j d i_lt j_lt ne out. elim (cases_lt i (length left)) [
         | inl i_low ↦ elim (cases_lt j (length left)) [
           | inl j_low ↦
               dropped.apart kept.apart i j d i_low j_low ne
-              (subst (λ (y : Limited). Outranks kind (get_or left i d).members y.members) (get_or_append_left left (s ∷ []) d j j_low)
-              (subst (λ (y : Limited). Outranks kind y.members (get_or more j d).members) (get_or_append_left left (s ∷ []) d i i_low) out))
+              (subst (λ (y : Limited). Outranks kind (get_or left i d).members y.members)
+              (get_or_append_left left (s ∷ []) d j j_low)
+              (subst (λ (y : Limited). Outranks kind y.members (get_or more j d).members)
+              (get_or_append_left left (s ∷ []) d i i_low) out))
           | inr j_high ↦
               none (
                 get_or left i d,
                 dropped.from (get_or left i d) (Contains-get_or left i d i_low),
-                subst (λ (y : Limited). Outranks kind (get_or left i d).members y.members) (get_or_push left s d j (omega (arith, long)))
-                    (subst (λ (y : Limited). Outranks kind y.members (get_or more j d).members) (get_or_append_left left (s ∷ []) d i i_low) out),
+                subst (λ (y : Limited). Outranks kind (get_or left i d).members y.members)
+                    (get_or_push left s d j (omega (arith, long)))
+                    (subst (λ (y : Limited). Outranks kind y.members (get_or more j d).members)
+                    (get_or_append_left left (s ∷ []) d i i_low) out),
               )
         ]
         | inr i_high ↦ elim (cases_lt j (length left)) [
           | inl j_low ↦
               dropped.beside j d j_low
               (subst (λ (y : Limited). Outranks kind s.members y.members) (get_or_append_left left (s ∷ []) d j j_low)
-              (subst (λ (y : Limited). Outranks kind y.members (get_or more j d).members) (get_or_push left s d i (omega (arith, long))) out))
+              (subst (λ (y : Limited). Outranks kind y.members (get_or more j d).members)
+              (get_or_push left s d i (omega (arith, long))) out))
           | inr j_high ↦ ne (omega (arith, long))
         ]
       ];

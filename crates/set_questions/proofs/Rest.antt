@@ -15,7 +15,8 @@ pub numbers_within : (n k : ℕ) → set.contains (numbers_to n) k ≡ true → 
 unfolding numbers_to
 numbers_within zero k h = absurd (true≢false (sym h ∙ set.contains-empty _ k))
 numbers_within (suc n) k h =
-    elim (or_cases (eqb k (n + 1)) (set.contains (numbers_to n) k) (sym (contains_insert (numbers_to n) (n + 1) k) ∙ h)) [
+    elim
+    (or_cases (eqb k (n + 1)) (set.contains (numbers_to n) k) (sym (contains_insert (numbers_to n) (n + 1) k) ∙ h)) [
       | inl e ↦ let same : k ≡ n + 1 = eqb-true k (n + 1) e in (omega arith, omega arith)
       | inr old ↦ let both = numbers_within n k old in (both.0, omega (arith, both.1))
     ]
@@ -23,8 +24,10 @@ numbers_within (suc n) k h =
 numbers_are : (n k : ℕ) → set.contains (numbers_to n) k ≡ (nat_le 1 k && nat_le k n)
 numbers_are n k =
     same_truth _ _ (λ h. let both = numbers_within n k h in rw (le-leb 1 k both.0, le-leb k n both.1) refl)
-    (λ h. let both = and_parts (nat_le 1 k) (nat_le k n) h in in_numbers_to n k (leb-true 1 k both.0) (leb-true k n both.1))
+    (λ h.
+    let both = and_parts (nat_le 1 k) (nat_le k n) h in in_numbers_to n k (leb-true 1 k both.0) (leb-true k n both.1))
 
 -- a full set has just these numbers
 pub full_is : (n : ℕ) (full : NumberSet) → IsFull n full → full ≡ numbers_to n
-full_is n full all = set.same_set nat_cmp_total set.nat_cmp-IsAntisymmetric full (numbers_to n) (λ k. all k ∙ sym (numbers_are n k))
+full_is n full all =
+    set.same_set nat_cmp_total set.nat_cmp-IsAntisymmetric full (numbers_to n) (λ k. all k ∙ sym (numbers_are n k))

@@ -8,7 +8,8 @@ use Rattle.set_questions.specs.declared.entail.Reply.TheVariants.{Yes, No, Spent
 
 -- an answer about the asked set, where `m` is what the object means afterwards
 abbrev pub Answers : Meaning → Limited → Reply → Type 0
-Answers m asked (Yes part) = (part.limit ≡ asked.limit) × IsPart part.members asked.members × m.holds part.members × m.shown_yes part.members
+Answers m asked (Yes part) = (part.limit ≡ asked.limit) × IsPart part.members asked.members × m.holds part.members
+    × m.shown_yes part.members
 Answers m asked No = (¬ m.holds asked.members) × m.shown_no asked.members
 Answers m asked Spent = m.left ≡ 0
 

@@ -21,7 +21,8 @@ Outranks Maximal s t = IsPart t s
 
 -- none outranks another
 abbrev pub AreApart : Kind → List Limited → Type 0
-AreApart kind kept = (i j : ℕ) (d : Limited) → i < length kept → j < length kept → ¬ (i ≡ j) → ¬ Outranks kind (slice_index_or kept i d).members (slice_index_or kept j d).members
+AreApart kind kept = (i j : ℕ) (d : Limited) → i < length kept → j < length kept → ¬ (i ≡ j)
+    → ¬ Outranks kind (slice_index_or kept i d).members (slice_index_or kept j d).members
 
 -- some listed set outranks s
 abbrev pub HasAbove : Kind → List Limited → Limited → Type 0

@@ -1,5 +1,6 @@
 -- A source and a sink in memory: what they keep, and what a call answers and leaves.
-use Rattle.std.specs.Prelude.{ℕ, ◌+◌, ◌-◌, ◌^◌, min, List, [], length, take, drop, ◌++◌, Bool, nat_eq, nat_lt, nat_le, ◌&&◌, ◌||◌, if◌then◌else◌}
+use Rattle.std.specs.Prelude.{ℕ, ◌+◌, ◌-◌, ◌^◌, min, List, [], length, take, drop, ◌++◌, Bool, nat_eq, nat_lt, nat_le}
+use Rattle.std.specs.Prelude.{◌&&◌, ◌||◌, if◌then◌else◌}
 use Rattle.std.specs.List.{list_any}
 use Rattle.shq_io.specs.Causes.{one_more}
 
@@ -79,4 +80,5 @@ tells s = nat_le s.count s.room
 
 -- what it is after a piece more
 abbrev pub after_taking : SureState → List ℕ → SureState
-after_taking s piece = record s { kept = take s.room (s.kept ++ piece); count = min (s.count + length piece) (2 ^ 64 - 1) }
+after_taking s piece =
+    record s { kept = take s.room (s.kept ++ piece); count = min (s.count + length piece) (2 ^ 64 - 1) }

@@ -12,9 +12,13 @@ use Rattle.shq_meaning.proofs.Members.{member_passes}
 
 pub empty_class_has_no_member : (c : Concept) (a : ℕ) (q : Query) → Entails (Member c a ∷ SubClassOf c bottom ∷ []) q
 empty_class_has_no_member c a q i some placed met x inside =
-    let asserted : holds i c (i.individual a) ≡ true = member_passes (meets i) (Member c a ∷ SubClassOf c bottom ∷ []) met (Member c a) (0, omega arith, refl) in
-    let included : all_below i.size (λ y. implies (holds i c y) false) ≡ true = member_passes (meets i) (Member c a ∷ SubClassOf c bottom ∷ []) met (SubClassOf c bottom) (1, omega arith, refl) in
-    let broken : all_below i.size (λ y. implies (holds i c y) false) ≡ false = all_below-false i.size (λ y. implies (holds i c y) false) (i.individual a) (placed a) (ap (λ b. implies b false) asserted) in
+    let asserted : holds i c (i.individual a) ≡ true =
+    member_passes (meets i) (Member c a ∷ SubClassOf c bottom ∷ []) met (Member c a) (0, omega arith, refl) in
+    let included : all_below i.size (λ y. implies (holds i c y) false) ≡ true =
+    member_passes (meets i) (Member c a ∷ SubClassOf c bottom ∷ []) met (SubClassOf c bottom) (1, omega arith, refl) in
+    let broken : all_below i.size (λ y. implies (holds i c y) false) ≡ false =
+    all_below-false i.size (λ y. implies (holds i c y) false) (i.individual a) (placed a)
+    (ap (λ b. implies b false) asserted) in
     let clash : true ≡ false = sym included ∙ broken in
     absurd (cc clash)
 

@@ -10,12 +10,14 @@ use Rattle.shq_meaning.specs.Examples.{is_in}
 -- what follows from some axioms follows from more
 abbrev pub EntailmentIsMonotone : Type 0
 EntailmentIsMonotone =
-    (few many : List Axiom) (q : Query) → ((a : Axiom) → Contains few a → Contains many a) → Entails few q → Entails many q
+    (few many : List Axiom) (q : Query) → ((a : Axiom) → Contains few a → Contains many a) → Entails few q
+    → Entails many q
 
 -- where an interpretation meets the axioms, and some element of it is a counter-example, the query does not follow
 abbrev pub CounterModelsRefute : Type 0
 CounterModelsRefute =
-    (i : Interpretation) (as_ : List Axiom) (q : Query) (x : ℕ) → 1 ≤ i.size → PlacesIndividuals i → IsTrue (meets_all i as_) → x < i.size → IsTrue (refutes_at i q x) → Entails as_ q → ⊥
+    (i : Interpretation) (as_ : List Axiom) (q : Query) (x : ℕ) → 1 ≤ i.size → PlacesIndividuals i
+    → IsTrue (meets_all i as_) → x < i.size → IsTrue (refutes_at i q x) → Entails as_ q → ⊥
 
 -- an individual of a class that has no element leaves no model, since each individual is an element: every query
 -- follows

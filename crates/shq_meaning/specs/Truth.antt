@@ -1,10 +1,14 @@
 -- What class expressions, axioms and queries mean in a finite interpretation: OWL 2 Direct Semantics (Second Edition),
 -- section 2, over the numbers below a size as the domain.
-use Rattle.std.specs.Prelude.{ℕ, ◌<◌, ◌≤◌, Bool, true, false, not, ◌&&◌, ◌||◌, eqb, leb, nat_le, count_by, IsTrue, IsFalse, List, [], ◌∷◌, slice_index}
+use Rattle.std.specs.Prelude.{ℕ, ◌<◌, ◌≤◌, Bool, true, false, not, ◌&&◌, ◌||◌, eqb, leb, nat_le, count_by, IsTrue}
+use Rattle.std.specs.Prelude.{IsFalse, List, [], ◌∷◌, slice_index}
 use Rattle.std.specs.List.{list_all}
-use Rattle.shq_terms.specs.Concept.{Concept, top, bottom, name, complement, intersection, union, some_of, all_of, at_least, at_most, exactly, Parts, no_parts, part, parts_of}
+use Rattle.shq_terms.specs.Concept.{Concept, top, bottom, name, complement, intersection, union, some_of, all_of}
+use Rattle.shq_terms.specs.Concept.{at_least, at_most, exactly, Parts, no_parts, part, parts_of}
 use Rattle.shq_terms.specs.declared.axioms.Axiom.{Axiom}
-use Rattle.shq_terms.specs.declared.axioms.Axiom.TheVariants.{SubClassOf, EquivalentClasses, DisjointClasses, DisjointUnion, SubRole, EquivalentRoles, Domain, Range, Functional, Transitive, Member, Pair, SameAll, Different}
+use Rattle.shq_terms.specs.declared.axioms.Axiom.TheVariants.{SubClassOf, EquivalentClasses, DisjointClasses}
+use Rattle.shq_terms.specs.declared.axioms.Axiom.TheVariants.{DisjointUnion, SubRole, EquivalentRoles, Domain, Range}
+use Rattle.shq_terms.specs.declared.axioms.Axiom.TheVariants.{Functional, Transitive, Member, Pair, SameAll, Different}
 use Rattle.shq_terms.specs.declared.axioms.On.{On}
 use Rattle.shq_terms.specs.declared.axioms.On.TheVariants.{Any, Individual}
 use Rattle.shq_terms.specs.declared.axioms.Query.{Query}
@@ -98,13 +102,17 @@ abbrev pub meets : Interpretation → Axiom → Bool
 meets i (SubClassOf c d) = all_below i.size (λ x. implies (holds i c x) (holds i d x))
 meets i (EquivalentClasses cs) = all_below i.size (λ x. all_same i cs x)
 meets i (DisjointClasses cs) = all_below i.size (λ x. none_twice i cs x)
-meets i (DisjointUnion a cs) = all_below i.size (λ x. same (holds i a x) (hold_any i (parts_of cs) x) && none_twice i cs x)
+meets i (DisjointUnion a cs) =
+    all_below i.size (λ x. same (holds i a x) (hold_any i (parts_of cs) x) && none_twice i cs x)
 meets i (SubRole r s) = included i r s
 meets i (EquivalentRoles rs) = roles_equal i rs
 meets i (Domain r c) = all_below i.size (λ x. implies (nat_le 1 (out_degree i r x)) (holds i c x))
 meets i (Range r c) = all_below i.size (λ x. each_successor i r (holds i c) x)
 meets i (Functional r) = all_below i.size (λ x. nat_le (out_degree i r x) 1)
-meets i (Transitive r) = all_below i.size (λ x. all_below i.size (λ y. implies (i.in_role r x y) (all_below i.size (λ z. implies (i.in_role r y z) (i.in_role r x z)))))
+meets i (Transitive r) =
+    all_below i.size
+    (λ x. all_below i.size
+    (λ y. implies (i.in_role r x y) (all_below i.size (λ z. implies (i.in_role r y z) (i.in_role r x z)))))
 meets i (Member c a) = holds i c (i.individual a)
 meets i (Pair r a b) = i.in_role r (i.individual a) (i.individual b)
 meets i (SameAll as_) = are_same i as_
@@ -127,4 +135,5 @@ refutes_at i q x = is_asked_at i q.on x && (holds i q.sub x && not (holds i q.su
 -- axioms, no element is a counter-example to the query
 abbrev pub Entails : List Axiom → Query → Type 0
 Entails as_ q =
-    (i : Interpretation) → 1 ≤ i.size → PlacesIndividuals i → IsTrue (meets_all i as_) → (x : ℕ) → x < i.size → IsFalse (refutes_at i q x)
+    (i : Interpretation) → 1 ≤ i.size → PlacesIndividuals i → IsTrue (meets_all i as_) → (x : ℕ) → x < i.size
+    → IsFalse (refutes_at i q x)

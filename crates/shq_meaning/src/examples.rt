@@ -3,7 +3,8 @@ ghost use Rattle.std.specs.Prelude.{IsTrue, IsFalse, [], ◌∷◌};
 ghost use Rattle.shq_terms.specs.Concept.{top, name, complement, some_of, all_of, at_most, exactly};
 ghost use Rattle.shq_terms.specs.declared.axioms.Axiom.TheVariants as axioms;
 ghost use Rattle.shq_meaning.specs.Truth.{holds, meets, refutes_at};
-ghost use Rattle.shq_meaning.specs.Examples.{complete, path, two_successors, split, split_twice, others, is_nothing, is_in};
+ghost use Rattle.shq_meaning.specs.Examples.{complete, path, two_successors, split, split_twice, others, is_nothing};
+ghost use Rattle.shq_meaning.specs.Examples.{is_in};
 
 /// Each clause is an example of its own: an axiom that an interpretation meets or breaks, or an element that is in a
 /// class expression or outside.

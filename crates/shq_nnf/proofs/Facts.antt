@@ -6,7 +6,9 @@ use Rattle.std.proofs.lemmas.List.Folds.{list_all-append, list_all-map}
 use Rattle.std.proofs.Math.Bool.{and-true}
 use Rattle.shq_meaning.specs.Concept.{Concept}
 use Rattle.shq_meaning.specs.Axiom.{Axiom}
-use Rattle.shq_meaning.specs.Axiom.TheVariants.{SubClassOf, EquivalentClasses, DisjointClasses, DisjointUnion, SubRole, EquivalentRoles, Domain, Range, Functional, Transitive, Member, Pair, SameAll, Different}
+use Rattle.shq_meaning.specs.Axiom.TheVariants.{SubClassOf, EquivalentClasses, DisjointClasses, DisjointUnion, SubRole}
+use Rattle.shq_meaning.specs.Axiom.TheVariants.{EquivalentRoles, Domain, Range, Functional, Transitive, Member, Pair}
+use Rattle.shq_meaning.specs.Axiom.TheVariants.{SameAll, Different}
 use Rattle.shq_meaning.specs.Truth.{Interpretation, holds, are_same, differs_from_all, are_different, meets}
 use Rattle.calculus_specs.specs.Normal.{normal_form}
 use Rattle.calculus_specs.specs.declared.facts.Fact.{Fact}
@@ -30,7 +32,8 @@ module _ (i : Interpretation) where
 
   -- each is the same as the next exactly where each is the same as the first
   next_by : (a b : ℕ) (bs : List ℕ) (same : Bool) → eqb (at b) (at a) ≡ same
-      → (eqb (at a) (at b) && list_all (λ c. eqb (at c) (at b)) bs) ≡ (eqb (at b) (at a) && list_all (λ c. eqb (at c) (at a)) bs)
+      → (eqb (at a) (at b) && list_all (λ c. eqb (at c) (at b)) bs)
+      ≡ (eqb (at b) (at a) && list_all (λ c. eqb (at c) (at a)) bs)
   next_by a b bs true is =
       ap (λ (t : Bool). t && list_all (λ c. eqb (at c) (at b)) bs) (equal_back (at a) (at b))
       ∙ ap (λ (n : ℕ). eqb (at b) (at a) && list_all (λ c. eqb (at c) n) bs) (eqb-true (at b) (at a) is)
@@ -40,7 +43,8 @@ module _ (i : Interpretation) where
 
   same_as_first : (a : ℕ) (as_ : List ℕ) → list_all is_so (same_facts (a ∷ as_)) ≡ list_all (λ b. eqb (at b) (at a)) as_
   same_as_first a [] = refl
-  same_as_first a (b ∷ bs) = ap (λ (t : Bool). eqb (at a) (at b) && t) (same_as_first b bs) ∙ next_by a b bs (eqb (at b) (at a)) refl
+  same_as_first a (b ∷ bs) =
+      ap (λ (t : Bool). eqb (at a) (at b) && t) (same_as_first b bs) ∙ next_by a b bs (eqb (at b) (at a)) refl
 
   same_met : (as_ : List ℕ) → are_same i as_ ≡ list_all is_so (same_facts as_)
   same_met [] = refl

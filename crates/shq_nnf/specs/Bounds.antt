@@ -1,7 +1,8 @@
 -- Normal forms of a class expression and its complement by one word, and what those of cardinalities use.
 use Rattle.std.specs.Prelude.{ℕ, zero, suc, Bool, true, false, List, [], ◌∷◌, map}
 use Rattle.shq_meaning.specs.Concept.{Concept, some_of, all_of}
-use Rattle.calculus_specs.specs.Normal.{and_of, or_of, least_form, fewer_form, most_form, more_form, normal_form, negated_form}
+use Rattle.calculus_specs.specs.Normal.{and_of, or_of, least_form, fewer_form, most_form, more_form, normal_form}
+use Rattle.calculus_specs.specs.Normal.{negated_form}
 use Rattle.calculus_specs.specs.Shape.{Shape}
 use Rattle.calculus_specs.specs.Tree.{tree_of}
 use Rattle.shq_nnf.specs.Numbers.{IsNumber}
@@ -54,7 +55,8 @@ bounded_form bound negated n r c = bound_form bound negated n r (normal_form c) 
 -- the number stands for it in the later table, over numbers of the earlier one for the filler and the filler's
 -- complement
 abbrev pub IsBounded : List Shape → List Shape → Bound → Bool → ℕ → ℕ → ℕ → ℕ → ℕ → Type 0
-IsBounded earlier later bound negated n r c not_c number = IsNumber later number (bound_form bound negated n r (tree_of earlier c) (tree_of earlier not_c))
+IsBounded earlier later bound negated n r c not_c number =
+    IsNumber later number (bound_form bound negated n r (tree_of earlier c) (tree_of earlier not_c))
 
 -- whether the normal form of the filler matters there
 abbrev pub uses_plain : Bound → Bool → ℕ → Bool

@@ -1,6 +1,7 @@
 -- The cardinalities that a class expression names.
 use Rattle.std.specs.Prelude.{ℕ, Bool, true, ◌&&◌, nat_le}
-use Rattle.shq_meaning.specs.Concept.{Concept, top, bottom, name, complement, intersection, union, some_of, all_of, at_least, at_most, exactly, Parts, no_parts, part}
+use Rattle.shq_meaning.specs.Concept.{Concept, top, bottom, name, complement, intersection, union, some_of, all_of}
+use Rattle.shq_meaning.specs.Concept.{at_least, at_most, exactly, Parts, no_parts, part}
 
 -- whether each is at most a limit
 abbrev mutual

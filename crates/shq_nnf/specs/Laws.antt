@@ -16,12 +16,14 @@ use Rattle.shq_nnf.specs.Meeting.{meets_parts, is_true, is_role_axiom, is_assert
 -- in each finite interpretation, at each element, the normal form of a class expression has its truth, and the normal
 -- form of its complement the opposite truth
 abbrev pub NormalFormsKeepTruth : Type 0
-NormalFormsKeepTruth = (i : Interpretation) (c : Concept) (x : ℕ) → (holds i (normal_form c) x ≡ holds i c x) × (holds i (negated_form c) x ≡ not (holds i c x))
+NormalFormsKeepTruth = (i : Interpretation) (c : Concept) (x : ℕ)
+    → (holds i (normal_form c) x ≡ holds i c x) × (holds i (negated_form c) x ≡ not (holds i c x))
 
 -- each finite interpretation meets an axiom that is neither of roles alone nor an assertion exactly where it meets all
 -- of its parts
 abbrev pub AxiomsAreTheirParts : Type 0
-AxiomsAreTheirParts = (i : Interpretation) (a : Axiom) → is_role_axiom a ≡ false → is_assertion a ≡ false → meets i a ≡ meets_parts i (axiom_parts a)
+AxiomsAreTheirParts = (i : Interpretation) (a : Axiom) → is_role_axiom a ≡ false → is_assertion a ≡ false
+    → meets i a ≡ meets_parts i (axiom_parts a)
 
 -- and it meets an assertion exactly where all facts of it are true of its individuals
 abbrev pub AssertionsAreTheirFacts : Type 0
@@ -38,4 +40,5 @@ IndividualsBearOnAssertionsAlone = (i : Interpretation) (place : ℕ → ℕ)
 
 -- what a number of a table stands for is its own normal form
 abbrev pub NumbersAreNormal : Type 0
-NumbersAreNormal = (table : List Shape) → IsTable table → (n : ℕ) → n < length table → normal_form (tree_of table n) ≡ tree_of table n
+NumbersAreNormal = (table : List Shape) → IsTable table → (n : ℕ) → n < length table
+    → normal_form (tree_of table n) ≡ tree_of table n

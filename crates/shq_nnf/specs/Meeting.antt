@@ -2,7 +2,9 @@
 use Rattle.std.specs.Prelude.{ℕ, Bool, true, false, not, eqb, List}
 use Rattle.std.specs.List.{list_all}
 use Rattle.shq_meaning.specs.Axiom.{Axiom}
-use Rattle.shq_meaning.specs.Axiom.TheVariants.{SubClassOf, EquivalentClasses, DisjointClasses, DisjointUnion, SubRole, EquivalentRoles, Domain, Range, Functional, Transitive, Member, Pair, SameAll, Different}
+use Rattle.shq_meaning.specs.Axiom.TheVariants.{SubClassOf, EquivalentClasses, DisjointClasses, DisjointUnion, SubRole}
+use Rattle.shq_meaning.specs.Axiom.TheVariants.{EquivalentRoles, Domain, Range, Functional, Transitive, Member, Pair}
+use Rattle.shq_meaning.specs.Axiom.TheVariants.{SameAll, Different}
 use Rattle.shq_meaning.specs.Concept.{Concept}
 use Rattle.calculus_specs.specs.Rows.{Part, inclusion, range}
 use Rattle.calculus_specs.specs.declared.facts.Fact.{Fact}

@@ -2,7 +2,8 @@
 use Rattle.std.specs.Prelude.{List}
 use Rattle.shq_meaning.specs.Concept.{Concept}
 use Rattle.calculus_specs.specs.Tree.{tree_over, trees_of}
-use Rattle.calculus_specs.specs.Shape.{Shape, top, bottom, name, not_name, intersection, union, some_of, all_of, at_least, at_most}
+use Rattle.calculus_specs.specs.Shape.{Shape, top, bottom, name, not_name, intersection, union, some_of, all_of}
+use Rattle.calculus_specs.specs.Shape.{at_least, at_most}
 use Rattle.shq_nnf.specs.declared.shapes.OwnedShape.{OwnedShape}
 use Rattle.shq_nnf.specs.declared.shapes.OwnedShape.TheVariants as K
 use Rattle.shq_nnf.specs.declared.shapes.Shape.{Shape as Shown}

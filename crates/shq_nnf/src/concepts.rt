@@ -1,5 +1,6 @@
 // The table itself: what it holds, and how a shape is put into it.
-ghost use Rattle.std.specs.Prelude.{◌≡◌, ℕ, ◌+◌, ◌<◌, ◌≤◌, [], ◌∷◌, ◌++◌, IsTrue, IfOk, OnOk, OnErr, MatchOption, length, take};
+ghost use Rattle.std.specs.Prelude.{◌≡◌, ℕ, ◌+◌, ◌<◌, ◌≤◌, [], ◌∷◌, ◌++◌, IsTrue, IfOk, OnOk, OnErr, MatchOption};
+ghost use Rattle.std.specs.Prelude.{length, take};
 ghost use Rattle.calculus_specs.specs.Shape.{shape_of, has_parts_below, is_normal, IsTable};
 ghost use Rattle.calculus_specs.specs.Shape.Shape.{top as plain_top};
 ghost use Rattle.shq_nnf.specs.Shapes.{form_of, form_of_owned, concept_of};

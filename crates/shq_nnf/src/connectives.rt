@@ -5,7 +5,9 @@ ghost use Rattle.calculus_specs.specs.Shape.{shape_of};
 ghost use Rattle.calculus_specs.specs.Normal.{and_of, or_of};
 ghost use Rattle.shq_nnf.specs.Numbers.{Extends, IsNumber, trees_at};
 ghost use Rattle.shq_nnf.specs.Bounds.{joined_form};
-ghost use Rattle.shq_nnf.specs.Opened.{is_top_shape, is_bottom_shape, conjunct_numbers_at, disjunct_numbers_at, conjunct_numbers, disjunct_numbers, is_open_conjunct, is_open_disjunct, open_intersection, open_union};
+ghost use Rattle.shq_nnf.specs.Opened.{is_top_shape, is_bottom_shape, conjunct_numbers_at, disjunct_numbers_at};
+ghost use Rattle.shq_nnf.specs.Opened.{conjunct_numbers, disjunct_numbers, is_open_conjunct, is_open_disjunct};
+ghost use Rattle.shq_nnf.specs.Opened.{open_intersection, open_union};
 
 use crate::shapes::Shape;
 use crate::{Concepts, NoMemory};

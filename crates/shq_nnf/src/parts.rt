@@ -5,7 +5,9 @@ ghost use Rattle.calculus_specs.specs.Rows.{conjuncts_in, inclusion_of, range_of
 ghost use Rattle.calculus_specs.specs.Tree.{tree_of};
 ghost use Rattle.shq_nnf.specs.Counts.{has_counts_within, have_counts_within};
 ghost use Rattle.shq_nnf.specs.Numbers.{Extends, IsNumber, AreNumbers};
-ghost use Rattle.shq_nnf.specs.Parts.{StandsForPart, covering, signed_inclusion, inclusion_at, disjoint_pair, disjoint_parts, equivalent_parts, union_parts, part_in, axiom_parts, axiom_has_counts_within};
+ghost use Rattle.shq_nnf.specs.Parts.{StandsForPart, covering, signed_inclusion, inclusion_at, disjoint_pair};
+ghost use Rattle.shq_nnf.specs.Parts.{disjoint_parts, equivalent_parts, union_parts, part_in, axiom_parts};
+ghost use Rattle.shq_nnf.specs.Parts.{axiom_has_counts_within};
 
 use crate::shapes::Shape;
 use crate::{Concepts, NoMemory};

@@ -19,20 +19,31 @@ use Rattle.shq_oracle.specs.declared.tested.Tested.{Tested}
 use Rattle.shq_oracle.specs.Decided.{AddsShown, EndsTest, IsTested}
 
 -- one entry more, and what was shown took its steps
-pub adds_shown : (o : Listed) (s : Limited) (q : Query) (fuel : ℕ) (before after : List Entry) (t : Tested) (found : Result Shown NoMemory) → IsAxiomSet o s → IsTested o s q fuel t → IfOk found (λ v. v.outcome ≡ t.outcome)
-    → IfOk found (λ v. IfSome v.apart (IsAbout o s q.sub)) → IfOk found (λ v. IfSome v.apart (λ a. a.steps ≡ t.steps)) → IfOk found (λ v. after ≡ before ++ Test s q t.steps t.ended ∷ [])
+pub adds_shown : (o : Listed) (s : Limited) (q : Query) (fuel : ℕ) (before after : List Entry) (t : Tested)
+    (found : Result Shown NoMemory)
+    → IsAxiomSet o s → IsTested o s q fuel t → IfOk found (λ v. v.outcome ≡ t.outcome)
+    → IfOk found (λ v. IfSome v.apart (IsAbout o s q.sub)) → IfOk found (λ v. IfSome v.apart (λ a. a.steps ≡ t.steps))
+    → IfOk found (λ v. after ≡ before ++ Test s q t.steps t.ended ∷ [])
     → IfOk found (AddsShown o s q before after)
 adds_shown o s q fuel before after t (Ok v) of_axioms tested outcome about counted log =
-    let test : EndsTest o s q fuel v.outcome t.steps t.ended = subst (λ (u : Outcome). EndsTest o s q fuel u t.steps t.ended) (sym outcome) tested.test in
+    let test : EndsTest o s q fuel v.outcome t.steps t.ended =
+    subst (λ (u : Outcome). EndsTest o s q fuel u t.steps t.ended) (sym outcome) tested.test in
     record {
-      test = record { steps = t.steps; ended = t.ended; is_log = log; matches = test.matches; honest = (of_axioms, test.honest) };
+      test = record {
+        steps = t.steps;
+        ended = t.ended;
+        is_log = log;
+        matches = test.matches;
+        honest = (of_axioms, test.honest);
+      };
       about = about;
       counted = counted;
     }
 adds_shown o s q fuel before after t (Err e) of_axioms tested outcome about counted log = tt
 
 -- where a search has shown it of a class, the steps that are left decide
-pub may_note_shown : (l : OracleLists) (a : ApartLists) (class steps left : ℕ) → sets.contains a.classes.members (class + 1) ≡ true → steps ≡ a.steps → left + spent_of l.log ≡ l.budget
+pub may_note_shown : (l : OracleLists) (a : ApartLists) (class steps left : ℕ)
+    → sets.contains a.classes.members (class + 1) ≡ true → steps ≡ a.steps → left + spent_of l.log ≡ l.budget
     → (leb steps left ≡ true ↔ MayNote l a class)
 may_note_shown l a class steps left shown counted rest = (
   λ h. record { is_shown = shown; fits = omega (arith, leb-true steps left h, counted, rest) },
@@ -40,5 +51,6 @@ may_note_shown l a class steps left shown counted rest = (
 )
 
 -- and else it may not be noted
-pub may_not_note : (l : OracleLists) (a : ApartLists) (class : ℕ) → sets.contains a.classes.members (class + 1) ≡ false → (false ≡ true ↔ MayNote l a class)
+pub may_not_note : (l : OracleLists) (a : ApartLists) (class : ℕ) → sets.contains a.classes.members (class + 1) ≡ false
+    → (false ≡ true ↔ MayNote l a class)
 may_not_note l a class hidden = (λ h. absurd (cc h), λ m. sym hidden ∙ m.is_shown)

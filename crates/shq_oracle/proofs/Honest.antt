@@ -1,5 +1,6 @@
 -- What a search that ends says is honest.
-use Rattle.std.proofs.Common.{◌≡◌, ℕ, zero, suc, ◌+◌, ◌≤◌, List, [], ◌∷◌, ◌++◌, length, take, Some, ap, sym, subst, ◌∙◌, arith, inl, inr}
+use Rattle.std.proofs.Common.{◌≡◌, ℕ, zero, suc, ◌+◌, ◌≤◌, List, [], ◌∷◌, ◌++◌, length, take, Some, ap, sym, subst, ◌∙◌}
+use Rattle.std.proofs.Common.{arith, inl, inr}
 use Rattle.std.specs.Prelude.{slice_get, Option, None, Result, Ok, Err, IfOk, IfSome}
 use Rattle.shq_terms.specs.declared.axioms.On.TheVariants.{Any}
 use Rattle.shq_terms.specs.Concept.{name}
@@ -33,24 +34,40 @@ use Rattle.shq_oracle.specs.ApartLists.{AreApart}
 use Rattle.shq_oracle.specs.Decided.{IsProof, IsFound, IsFoundBy, IsTested, IsTestedBy, EndsTest, MayGoOn, HasEnded}
 
 -- one item more
-pub taken_one : {X : Type 0} (xs : List X) (n : ℕ) (x : X) → slice_get xs n ≡ Some x → take (n + 1) xs ≡ take n xs ++ x ∷ []
+pub taken_one : {X : Type 0} (xs : List X) (n : ℕ) (x : X) → slice_get xs n ≡ Some x
+    → take (n + 1) xs ≡ take n xs ++ x ∷ []
 taken_one [] n x e = cc
 taken_one (y ∷ ys) zero x e = let k : y ≡ x = cc in ap (λ z. z ∷ []) k
-taken_one (y ∷ ys) (suc n) x e = let k : suc n + 1 ≡ suc (n + 1) = omega arith in ap (λ m. take m (y ∷ ys)) k ∙ ap (λ zs. y ∷ zs) (taken_one ys n x e)
+taken_one (y ∷ ys) (suc n) x e =
+    let k : suc n + 1 ≡ suc (n + 1) = omega arith in
+    ap (λ m. take m (y ∷ ys)) k ∙ ap (λ zs. y ∷ zs) (taken_one ys n x e)
 
 module _ (s : SearchState) (reached : IsReachedBy s) where
   -- a saturated search found that the query does not follow
-  pub honest_no : IsInLimit s.rules.ontology s.query → IsAtModel s → IsHonestNo s.rules.ontology s.rules.set s.query s.steps
+  pub honest_no : IsInLimit s.rules.ontology s.query → IsAtModel s
+      → IsHonestNo s.rules.ontology s.rules.set s.query s.steps
   honest_no limit m = record {
-    follows_not = saturated_does_not_entail s.rules.ontology (member_list s.rules.set) s.query s.rules.table (context_of s).rows s.steps (trail_of s) limit reached m.is_saturated;
-    cost = record { table = s.rules.table; rows = (context_of s).rows; trail = trail_of s; reached = reached; ends = inl m.is_saturated };
+    follows_not =
+        saturated_does_not_entail s.rules.ontology (member_list s.rules.set) s.query s.rules.table (context_of s).rows
+        s.steps (trail_of s) limit reached m.is_saturated;
+    cost = record {
+      table = s.rules.table;
+      rows = (context_of s).rows;
+      trail = trail_of s;
+      reached = reached;
+      ends = inl m.is_saturated;
+    };
   }
 
   -- a closed search found that it does, by the axioms that the refutation names
-  pub honest_yes : (r : RefutationLists) → IsAxiomSet s.rules.ontology s.rules.set → IsAtRefutation r s → IsHonestYes s.rules.ontology s.rules.set s.query s.steps r.axioms
+  pub honest_yes : (r : RefutationLists) → IsAxiomSet s.rules.ontology s.rules.set → IsAtRefutation r s
+      → IsHonestYes s.rules.ontology s.rules.set s.query s.steps r.axioms
   honest_yes r is_set c =
-      let named : IsAxiomSet s.rules.ontology r.axioms = record { limit_is = c.refutes.limit; within = c.refutes.writable.within } in
-      let follows : FollowsIn s.rules.ontology r.axioms s.query = entailed (length s.rules.ontology.individuals) s.rules.ontology.axioms (member_list r.axioms) s.query r.shapes r.lines c.refutes.refutes in
+      let named : IsAxiomSet s.rules.ontology r.axioms =
+      record { limit_is = c.refutes.limit; within = c.refutes.writable.within } in
+      let follows : FollowsIn s.rules.ontology r.axioms s.query =
+      entailed (length s.rules.ontology.individuals) s.rules.ontology.axioms (member_list r.axioms) s.query r.shapes
+      r.lines c.refutes.refutes in
       record {
         of_axioms = named;
         part = c.refutes.named;
@@ -60,7 +77,8 @@ module _ (s : SearchState) (reached : IsReachedBy s) where
           rows = (context_of s).rows;
           trail = trail_of s;
           reached = reached;
-          ends = inr (c.has_clash, more s.rules.ontology r.axioms s.rules.set s.query named is_set c.refutes.named follows);
+          ends = inr
+              (c.has_clash, more s.rules.ontology r.axioms s.rules.set s.query named is_set c.refutes.named follows);
         };
       }
 
@@ -73,35 +91,43 @@ module _ (s : SearchState) (reached : IsReachedBy s) where
   }
 
   -- a search that went on until its fuel was spent has one more step
-  pub honest_spent : MayGoOn s → GoesOn s.rules.ontology s.rules.set s.query s.steps (record { items = trail_of s; table = s.rules.table })
+  pub honest_spent : MayGoOn s
+      → GoesOn s.rules.ontology s.rules.set s.query s.steps (record { items = trail_of s; table = s.rules.table })
   honest_spent h = record { rows = (context_of s).rows; reached = reached; next = h.0; is_legal = h.1 }
 
   -- how a test ends by such a search, and that its steps are counted
   abbrev pub EndsSo : ℕ → Outcome → ℕ → TestEnd → Type 0
   EndsSo fuel v steps ended = EndsTest s.rules.ontology s.rules.set s.query fuel v steps ended
 
-  pub ends_yes : (r : RefutationLists) → IsAxiomSet s.rules.ontology s.rules.set → IsAtRefutation r s → (v u : Limited) → v ≡ r.axioms → u ≡ r.axioms → (k : ℕ) → k ≡ s.steps
+  pub ends_yes : (r : RefutationLists) → IsAxiomSet s.rules.ontology s.rules.set → IsAtRefutation r s → (v u : Limited)
+      → v ≡ r.axioms → u ≡ r.axioms → (k : ℕ) → k ≡ s.steps
       → (fuel : ℕ) → s.steps ≤ fuel → EndsSo fuel (Yes v) k (E.Yes u)
   ends_yes r is_set c v u d e k f fuel le =
-      let honest : IsHonestYes s.rules.ontology s.rules.set s.query k r.axioms = subst (λ (n : ℕ). IsHonestYes s.rules.ontology s.rules.set s.query n r.axioms) (sym f) (honest_yes r is_set c) in
+      let honest : IsHonestYes s.rules.ontology s.rules.set s.query k r.axioms =
+      subst (λ (n : ℕ). IsHonestYes s.rules.ontology s.rules.set s.query n r.axioms) (sym f) (honest_yes r is_set c) in
       record {
         matches = e ∙ sym d;
         honest = subst (λ (w : Limited). IsHonestYes s.rules.ontology s.rules.set s.query k w) (sym e) honest;
         fueled = omega (arith, f, le);
       }
 
-  pub ends_no : IsInLimit s.rules.ontology s.query → IsAtModel s → (k : ℕ) → k ≡ s.steps → (fuel : ℕ) → s.steps ≤ fuel → EndsSo fuel No k E.No
+  pub ends_no : IsInLimit s.rules.ontology s.query → IsAtModel s → (k : ℕ) → k ≡ s.steps → (fuel : ℕ) → s.steps ≤ fuel
+      → EndsSo fuel No k E.No
   ends_no limit m k f fuel le = record {
     matches = tt;
     honest = subst (λ (n : ℕ). IsHonestNo s.rules.ontology s.rules.set s.query n) (sym f) (honest_no limit m);
     fueled = omega (arith, f, le);
   }
 
-  pub ends_spent : MayGoOn s → (t : TrailLists) → t ≡ record { items = trail_of s; table = s.rules.table } → (k : ℕ) → k ≡ s.steps → (fuel : ℕ) → s.steps ≡ fuel
+  pub ends_spent : MayGoOn s → (t : TrailLists) → t ≡ record { items = trail_of s; table = s.rules.table } → (k : ℕ)
+      → k ≡ s.steps → (fuel : ℕ) → s.steps ≡ fuel
       → EndsSo fuel Undecided k (E.Spent t)
   ends_spent h t e k f fuel whole =
-      let honest : GoesOn s.rules.ontology s.rules.set s.query k (record { items = trail_of s; table = s.rules.table }) =
-      subst (λ (n : ℕ). GoesOn s.rules.ontology s.rules.set s.query n (record { items = trail_of s; table = s.rules.table })) (sym f) (honest_spent h) in
+      let honest :
+      GoesOn s.rules.ontology s.rules.set s.query k (record { items = trail_of s; table = s.rules.table }) =
+      subst
+      (λ (n : ℕ). GoesOn s.rules.ontology s.rules.set s.query n (record { items = trail_of s; table = s.rules.table }))
+      (sym f) (honest_spent h) in
       record {
         matches = tt;
         honest = subst (λ (v : TrailLists). GoesOn s.rules.ontology s.rules.set s.query k v) (sym e) honest;
@@ -111,20 +137,26 @@ module _ (s : SearchState) (reached : IsReachedBy s) where
 -- ---- further classes
 
 -- what is left out is shown where anything is
-pub if_shown : (s : SearchState) (found : Result (Option Limited) NoMemory) → IfOk found (ShowsApart s) → IfOk found (λ f. IfSome f (AreLeftOut s))
+pub if_shown : (s : SearchState) (found : Result (Option Limited) NoMemory) → IfOk found (ShowsApart s)
+    → IfOk found (λ f. IfSome f (AreLeftOut s))
 if_shown s (Ok None) h = tt
 if_shown s (Ok (Some classes)) h = h
 if_shown s (Err e) h = tt
 
 -- of each class that was left out the log may say so
-pub left_out : (s : SearchState) (k : ℕ) → k ≡ s.steps → (found : Option Limited) → IfSome found (AreLeftOut s) → IfSome found (AreApart s.rules.ontology s.rules.set s.query.sub k)
+pub left_out : (s : SearchState) (k : ℕ) → k ≡ s.steps → (found : Option Limited) → IfSome found (AreLeftOut s)
+    → IfSome found (AreApart s.rules.ontology s.rules.set s.query.sub k)
 left_out s k e None h = tt
 left_out s k e (Some classes) h = record {
   limit_is = h.limit_is;
   honest = λ a lt member.
       let shown = h.apart a lt member in
-      let honest : IsHonestNo s.rules.ontology s.rules.set (record { sub = s.query.sub; sup = name a; on = Any }) s.steps = record { follows_not = shown.follows_not; cost = shown.cost } in
-      subst (λ (n : ℕ). IsHonestNo s.rules.ontology s.rules.set (record { sub = s.query.sub; sup = name a; on = Any }) n) (sym e) honest;
+      let honest :
+      IsHonestNo s.rules.ontology s.rules.set (record { sub = s.query.sub; sup = name a; on = Any }) s.steps =
+      record { follows_not = shown.follows_not; cost = shown.cost } in
+      subst
+      (λ (n : ℕ). IsHonestNo s.rules.ontology s.rules.set (record { sub = s.query.sub; sup = name a; on = Any }) n)
+      (sym e) honest;
 }
 
 -- ---- for the rules and the query of the search
@@ -132,29 +164,37 @@ left_out s k e (Some classes) h = record {
 pub moved : (s : SearchState) (r : RuleLists) (q : Query) (fuel : ℕ) → s.rules ≡ r → s.query ≡ q
     → (found : Result Found NoMemory) → IfOk found (IsFoundBy s fuel) → IfOk found (IsFound r.ontology r.set q fuel)
 moved s r q fuel er eq (Ok f) h =
-    let m : IsFound r.ontology r.set s.query fuel f = subst (λ (v : RuleLists). IsFound v.ontology v.set s.query fuel f) er h in
+    let m : IsFound r.ontology r.set s.query fuel f =
+    subst (λ (v : RuleLists). IsFound v.ontology v.set s.query fuel f) er h in
     subst (λ (v : Query). IsFound r.ontology r.set v fuel f) eq m
 moved s r q fuel er eq (Err e) h = tt
 
 pub tested_moved : (s : SearchState) (r : RuleLists) (q : Query) (fuel : ℕ) → s.rules ≡ r → s.query ≡ q
-    → (tested : Result Tested NoMemory) → IfOk tested (IsTestedBy s fuel) → IfOk tested (IsTested r.ontology r.set q fuel)
+    → (tested : Result Tested NoMemory) → IfOk tested (IsTestedBy s fuel)
+    → IfOk tested (IsTested r.ontology r.set q fuel)
 tested_moved s r q fuel er eq (Ok t) h =
-    let m : IsTested r.ontology r.set s.query fuel t = subst (λ (v : RuleLists). IsTested v.ontology v.set s.query fuel t) er h in
+    let m : IsTested r.ontology r.set s.query fuel t =
+    subst (λ (v : RuleLists). IsTested v.ontology v.set s.query fuel t) er h in
     subst (λ (v : Query). IsTested r.ontology r.set v fuel t) eq m
 tested_moved s r q fuel er eq (Err e) h = tt
 
 -- how a search ended that began with no steps
-pub has_ended : (fuel : ℕ) (old new : SearchState) (e : End) → old.steps ≡ 0 → IsEnd fuel old new e → HasEnded fuel new e
+pub has_ended : (fuel : ℕ) (old new : SearchState) (e : End) → old.steps ≡ 0 → IsEnd fuel old new e
+    → HasEnded fuel new e
 has_ended fuel old new Saturated zero_steps (runs, at) = at
 has_ended fuel old new (Closed r) zero_steps (runs, at) = at
-has_ended fuel old new OutOfFuel zero_steps (runs, spent) = (omega (arith, zero_steps, spent.counted), (spent.next, spent.is_legal))
+has_ended fuel old new OutOfFuel zero_steps (runs, spent) =
+    (omega (arith, zero_steps, spent.counted), (spent.next, spent.is_legal))
 
 -- with so much fuel at least, or just so much
-pub within_fuel : {F : Type 0} (P : ℕ → F → Type 0) (steps fuel : ℕ) → steps ≤ fuel → (found : Result F NoMemory) → IfOk found (λ f. (n : ℕ) → steps ≤ n → P n f) → IfOk found (P fuel)
+pub within_fuel : {F : Type 0} (P : ℕ → F → Type 0) (steps fuel : ℕ) → steps ≤ fuel → (found : Result F NoMemory)
+    → IfOk found (λ f. (n : ℕ) → steps ≤ n → P n f) → IfOk found (P fuel)
 within_fuel P steps fuel le (Ok f) h = h fuel le
 within_fuel P steps fuel le (Err e) h = tt
 
-pub whole_fuel : {F : Type 0} (P : ℕ → F → Type 0) (s : SearchState) (fuel : ℕ) (e : End) → e ≡ OutOfFuel → HasEnded fuel s e → (found : Result F NoMemory) → IfOk found (λ f. (n : ℕ) → s.steps ≡ n → P n f)
+pub whole_fuel : {F : Type 0} (P : ℕ → F → Type 0) (s : SearchState) (fuel : ℕ) (e : End) → e ≡ OutOfFuel
+    → HasEnded fuel s e → (found : Result F NoMemory) → IfOk found (λ f. (n : ℕ) → s.steps ≡ n → P n f)
     → IfOk found (P fuel)
-whole_fuel P s fuel e is ended (Ok f) h = let k : HasEnded fuel s OutOfFuel = subst (HasEnded fuel s) is ended in h fuel k.0
+whole_fuel P s fuel e is ended (Ok f) h =
+    let k : HasEnded fuel s OutOfFuel = subst (HasEnded fuel s) is ended in h fuel k.0
 whole_fuel P s fuel e is ended (Err n) h = tt

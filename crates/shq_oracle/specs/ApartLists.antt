@@ -26,7 +26,8 @@ pub record ApartLists : Type 0 where
 -- decide
 pub record AreApart (o : Listed) (s : Limited) (sub : Concept) (steps : ℕ) (classes : Limited) : Type 0 where
   pub limit_is : classes.limit ≡ length o.classes
-  pub honest : (a : ℕ) → a < length o.classes → set.contains classes.members (a + 1) ≡ true → IsHonestNo o s (record { sub = sub; sup = name a; on = Any }) steps
+  pub honest : (a : ℕ) → a < length o.classes → set.contains classes.members (a + 1) ≡ true
+      → IsHonestNo o s (record { sub = sub; sup = name a; on = Any }) steps
 
 -- what is kept is so, of axioms of the ontology
 pub record IsKeptApart (a : ApartLists) : Type 0 where

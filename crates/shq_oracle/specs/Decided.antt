@@ -96,7 +96,8 @@ pub record AddsShown (o : Listed) (s : Limited) (q : Query) (before after : List
 
 -- the entry that the class expression is not part of the class was put last, and it is honest; or nothing has changed
 abbrev pub Notes : OracleLists → OracleLists → ApartLists → ℕ → Bool → Type 0
-Notes old new a class true = (new.log ≡ old.log ++ entry_of a class ∷ []) × IsHonestEntry old.ontology (entry_of a class)
+Notes old new a class true = (new.log ≡ old.log ++ entry_of a class ∷ [])
+    × IsHonestEntry old.ontology (entry_of a class)
 Notes old new a class false = new ≡ old
 
 -- where the budget is the outcome, nothing of it is left
@@ -123,7 +124,8 @@ IsFueled fuel steps No = steps ≤ fuel
 IsFueled fuel steps Undecided = steps ≡ fuel
 
 -- a search with so much fuel ended a test of the set and the query so, by so many steps
-pub record EndsTest (o : Listed) (s : Limited) (q : Query) (fuel : ℕ) (v : Outcome) (steps : ℕ) (ended : TestEnd) : Type 0 where
+pub record EndsTest (o : Listed) (s : Limited) (q : Query) (fuel : ℕ) (v : Outcome) (steps : ℕ) (ended : TestEnd) :
+    Type 0 where
   pub matches : EndsAs v ended
   pub honest : IsHonestEnd o s q steps ended
   pub fueled : IsFueled fuel steps v

@@ -32,9 +32,16 @@ impl<'a> Model for Apart<'a> {
 
     ghost coded = { Prim.hlevel (codes, concept_code, limited_code) };
 
-    ghost view = { λ a. record { ontology = a.ontology.now; set = a.set; sub = a.sub; steps = a.steps; classes = a.classes } };
+    ghost view = { λ a. record {
+      ontology = a.ontology.now;
+      set = a.set;
+      sub = a.sub;
+      steps = a.steps;
+      classes = a.classes;
+    } };
 
-    ghost invariant = { λ a. IsKeptApart (record { ontology = a.ontology.now; set = a.set; sub = a.sub; steps = a.steps; classes = a.classes }) };
+    ghost invariant = { λ a. IsKeptApart
+        (record { ontology = a.ontology.now; set = a.set; sub = a.sub; steps = a.steps; classes = a.classes }) };
 }
 
 impl<'a> Apart<'a> {
@@ -52,7 +59,14 @@ impl<'a> Apart<'a> {
     ) -> Result<Apart<'a>, NoMemory>
         requires of_axioms { IsAxiomSet ontology.now set.now }
         requires apart { AreApart ontology.now set.now sub.now steps classes }
-        ensures { IfOk result (λ a. a ≡ record { ontology = ontology.entry.now; set = set.now; sub = sub.now; steps = steps; classes = classes }) }
+        ensures { IfOk result (λ a. a
+            ≡ record {
+              ontology = ontology.entry.now;
+              set = set.now;
+              sub = sub.now;
+              steps = steps;
+              classes = classes;
+            }) }
     {
         let axioms = set.try_clone()?;
         let expression = sub.try_clone(alloc)?;

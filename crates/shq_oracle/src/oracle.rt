@@ -1,5 +1,6 @@
 // Questions whether queries follow, answered within a budget.
-ghost use Rattle.std.specs.Prelude.{◌≡◌, ◌↔◌, ◌+◌, ◌<◌, ◌≤◌, [], ◌∷◌, ◌++◌, true, false, length, IfOk, IfSome, OnOk, OnErr};
+ghost use Rattle.std.specs.Prelude.{◌≡◌, ◌↔◌, ◌+◌, ◌<◌, ◌≤◌, [], ◌∷◌, ◌++◌, true, false, length, IfOk, IfSome, OnOk};
+ghost use Rattle.std.specs.Prelude.{OnErr};
 ghost use Rattle.run_log.specs.declared.entry.Entry.TheVariants.{Test};
 ghost use Rattle.std.specs.List.{list_any};
 ghost use Rattle.axiom_sets.specs.Sets.{IsWithin};
@@ -259,7 +260,8 @@ impl<'a> Oracle<'a> {
         requires within { found.steps + spent_of self.old.log ≤ self.old.budget }
         requires small { self.old.budget ≤ u32.MAX }
         ensures answer { IfOk result (λ a. a ≡ found.answer) }
-        ensures entry { IfOk result (λ a. self.new.log ≡ self.old.log ++ Test set.now query.now found.steps found.ended ∷ []) }
+        ensures entry { IfOk result
+            (λ a. self.new.log ≡ self.old.log ++ Test set.now query.now found.steps found.ended ∷ []) }
         ensures same_ontology { self.new.ontology ≡ self.old.ontology }
         ensures same_budget { self.new.budget ≡ self.old.budget }
         ensures unchanged { OnErr result (self.new.log ≡ self.old.log) }
@@ -283,7 +285,8 @@ impl<'a> Oracle<'a> {
         requires within { tested.steps + spent_of self.old.log ≤ self.old.budget }
         requires small { self.old.budget ≤ u32.MAX }
         ensures outcome { IfOk result (λ v. v ≡ tested.outcome) }
-        ensures entry { IfOk result (λ v. self.new.log ≡ self.old.log ++ Test set.now query.now tested.steps tested.ended ∷ []) }
+        ensures entry { IfOk result
+            (λ v. self.new.log ≡ self.old.log ++ Test set.now query.now tested.steps tested.ended ∷ []) }
         ensures same_ontology { self.new.ontology ≡ self.old.ontology }
         ensures same_budget { self.new.budget ≡ self.old.budget }
         ensures unchanged { OnErr result (self.new.log ≡ self.old.log) }
@@ -312,7 +315,8 @@ impl<'a> Oracle<'a> {
         ensures outcome { IfOk result (λ s. s.outcome ≡ tested.outcome) }
         ensures about { IfOk result (λ s. IfSome s.apart (IsAbout self.old.ontology set.now query.now.sub)) }
         ensures counted { IfOk result (λ s. IfSome s.apart (λ a. a.steps ≡ tested.steps)) }
-        ensures entry { IfOk result (λ s. self.new.log ≡ self.old.log ++ Test set.now query.now tested.steps tested.ended ∷ []) }
+        ensures entry { IfOk result
+            (λ s. self.new.log ≡ self.old.log ++ Test set.now query.now tested.steps tested.ended ∷ []) }
         ensures same_ontology { self.new.ontology ≡ self.old.ontology }
         ensures same_budget { self.new.budget ≡ self.old.budget }
         ensures unchanged { OnErr result (self.new.log ≡ self.old.log) }

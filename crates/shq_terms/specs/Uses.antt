@@ -2,9 +2,12 @@
 -- each role number below the count of roles, and each number of an individual below the count of individuals.
 use Rattle.std.specs.Prelude.{ℕ, Bool, true, ◌&&◌, nat_lt, List, [], ◌∷◌}
 use Rattle.std.specs.List.{list_all}
-use Rattle.shq_base.specs.Concept.{Concept, top, bottom, name, complement, intersection, union, some_of, all_of, at_least, at_most, exactly, Parts, no_parts, part, parts_of}
+use Rattle.shq_base.specs.Concept.{Concept, top, bottom, name, complement, intersection, union, some_of, all_of}
+use Rattle.shq_base.specs.Concept.{at_least, at_most, exactly, Parts, no_parts, part, parts_of}
 use Rattle.shq_terms.specs.declared.axioms.Axiom.{Axiom}
-use Rattle.shq_terms.specs.declared.axioms.Axiom.TheVariants.{SubClassOf, EquivalentClasses, DisjointClasses, DisjointUnion, SubRole, EquivalentRoles, Domain, Range, Functional, Transitive, Member, Pair, SameAll, Different}
+use Rattle.shq_terms.specs.declared.axioms.Axiom.TheVariants.{SubClassOf, EquivalentClasses, DisjointClasses}
+use Rattle.shq_terms.specs.declared.axioms.Axiom.TheVariants.{DisjointUnion, SubRole, EquivalentRoles, Domain, Range}
+use Rattle.shq_terms.specs.declared.axioms.Axiom.TheVariants.{Functional, Transitive, Member, Pair, SameAll, Different}
 use Rattle.shq_terms.specs.declared.axioms.Numbered.{Numbered}
 
 abbrev mutual
@@ -27,10 +30,12 @@ abbrev mutual
 
 -- the axiom's names are listed
 abbrev pub axiom_uses_listed : ℕ → ℕ → ℕ → Axiom → Bool
-axiom_uses_listed classes roles individuals (SubClassOf c d) = uses_listed classes roles c && uses_listed classes roles d
+axiom_uses_listed classes roles individuals (SubClassOf c d) =
+    uses_listed classes roles c && uses_listed classes roles d
 axiom_uses_listed classes roles individuals (EquivalentClasses cs) = parts_use_listed classes roles (parts_of cs)
 axiom_uses_listed classes roles individuals (DisjointClasses cs) = parts_use_listed classes roles (parts_of cs)
-axiom_uses_listed classes roles individuals (DisjointUnion c cs) = uses_listed classes roles c && parts_use_listed classes roles (parts_of cs)
+axiom_uses_listed classes roles individuals (DisjointUnion c cs) =
+    uses_listed classes roles c && parts_use_listed classes roles (parts_of cs)
 axiom_uses_listed classes roles individuals (SubRole r s) = nat_lt r roles && nat_lt s roles
 axiom_uses_listed classes roles individuals (EquivalentRoles rs) = list_all (λ r. nat_lt r roles) rs
 axiom_uses_listed classes roles individuals (Domain r c) = nat_lt r roles && uses_listed classes roles c
@@ -38,11 +43,13 @@ axiom_uses_listed classes roles individuals (Range r c) = nat_lt r roles && uses
 axiom_uses_listed classes roles individuals (Functional r) = nat_lt r roles
 axiom_uses_listed classes roles individuals (Transitive r) = nat_lt r roles
 axiom_uses_listed classes roles individuals (Member c a) = uses_listed classes roles c && nat_lt a individuals
-axiom_uses_listed classes roles individuals (Pair r a b) = nat_lt r roles && (nat_lt a individuals && nat_lt b individuals)
+axiom_uses_listed classes roles individuals (Pair r a b) =
+    nat_lt r roles && (nat_lt a individuals && nat_lt b individuals)
 axiom_uses_listed classes roles individuals (SameAll as_) = list_all (λ a. nat_lt a individuals) as_
 axiom_uses_listed classes roles individuals (Different as_) = list_all (λ a. nat_lt a individuals) as_
 
 -- the names of all these axioms are listed
 abbrev pub all_use_listed : ℕ → ℕ → ℕ → List Numbered → Bool
 all_use_listed classes roles individuals [] = true
-all_use_listed classes roles individuals (a ∷ as_) = axiom_uses_listed classes roles individuals a.axiom && all_use_listed classes roles individuals as_
+all_use_listed classes roles individuals (a ∷ as_) =
+    axiom_uses_listed classes roles individuals a.axiom && all_use_listed classes roles individuals as_

@@ -1,5 +1,6 @@
 // Names, each once, which contracts see as the list of their bytes.
-ghost use Rattle.std.specs.Prelude.{◌≡◌, take, max, ◌<◌, ◌≤◌, ◌↔◌, Err, [], ◌∷◌, ◌++◌, OnOk, OnErr, IfOk, length, slice_get, slice_index_or, option_map, Some, None, position, map, string_bytes};
+ghost use Rattle.std.specs.Prelude.{◌≡◌, take, max, ◌<◌, ◌≤◌, ◌↔◌, Err, [], ◌∷◌, ◌++◌, OnOk, OnErr, IfOk, length};
+ghost use Rattle.std.specs.Prelude.{slice_get, slice_index_or, option_map, Some, None, position, map, string_bytes};
 ghost use Rattle.std.specs.Str.{bytes_eq};
 ghost use Rattle.shq_terms.specs.Names.{number_of, with_name, HasNoRoomFor};
 

@@ -1,5 +1,6 @@
 // The numbered axioms of a document, with the names of its classes, roles and individuals.
-ghost use Rattle.std.specs.Prelude.{◌≡◌, ◌<◌, ◌≤◌, ◌+◌, ◌-◌, ◌↔◌, [], IsTrue, OnOk, OnErr, IfOk, Err, length, slice_get, Some, position};
+ghost use Rattle.std.specs.Prelude.{◌≡◌, ◌<◌, ◌≤◌, ◌+◌, ◌-◌, ◌↔◌, [], IsTrue, OnOk, OnErr, IfOk, Err, length};
+ghost use Rattle.std.specs.Prelude.{slice_get, Some, position};
 ghost use Rattle.std.specs.Str.{bytes_eq};
 ghost use Rattle.shq_terms.specs.Names.{number_of, with_name, HasNoRoomFor};
 ghost use Rattle.shq_terms.specs.Uses.{axiom_uses_listed, all_use_listed};
@@ -47,9 +48,17 @@ impl Model for Ontology {
 
     ghost coded = { Prim.hlevel (codes, concept_code) };
 
-    ghost view = { λ o. record { axioms = o.axioms.items; classes = o.classes; roles = o.roles; individuals = o.individuals } };
+    ghost view = { λ o. record {
+      axioms = o.axioms.items;
+      classes = o.classes;
+      roles = o.roles;
+      individuals = o.individuals;
+    } };
 
-    ghost invariant = { λ o. (length o.axioms.items ≤ 20000) × (length o.classes ≤ 20000) × (length o.roles ≤ 1000) × (length o.individuals ≤ 20000) × (all_use_listed (length o.classes) (length o.roles) (length o.individuals) o.axioms.items ≡ true) × AreDistinct o.classes × AreDistinct o.roles × AreDistinct o.individuals };
+    ghost invariant = { λ o. (length o.axioms.items ≤ 20000) × (length o.classes ≤ 20000) × (length o.roles ≤ 1000)
+        × (length o.individuals ≤ 20000)
+        × (all_use_listed (length o.classes) (length o.roles) (length o.individuals) o.axioms.items ≡ true)
+        × AreDistinct o.classes × AreDistinct o.roles × AreDistinct o.individuals };
 }
 
 impl Ontology {
@@ -106,7 +115,9 @@ impl Ontology {
     pub fn axioms(&self) -> &[Numbered]
         ensures all { result.now ≡ self.now.axioms }
         ensures within { length self.now.axioms ≤ MAX_AXIOMS }
-        ensures listed { IsTrue (all_use_listed (length self.now.classes) (length self.now.roles) (length self.now.individuals) self.now.axioms) }
+        ensures listed { IsTrue
+            (all_use_listed (length self.now.classes) (length self.now.roles) (length self.now.individuals)
+            self.now.axioms) }
     {
         &self.axioms
     }
@@ -224,7 +235,8 @@ impl Ontology {
     /// `Full` exactly where the name is new and `MAX_INDIVIDUALS` names are listed; `NoMemory`.
     pub fn add_individual(&mut self, iri: &str) -> Result<u32, AddFault>
         ensures number { IfOk result (λ k. k ≡ number_of self.old.individuals iri.now) }
-        ensures added { OnOk result (self.new ≡ record self.old { individuals = with_name self.old.individuals iri.now }) }
+        ensures added { OnOk result
+            (self.new ≡ record self.old { individuals = with_name self.old.individuals iri.now }) }
         ensures within { length self.new.individuals ≤ MAX_INDIVIDUALS }
         ensures unchanged { OnErr result (self.new ≡ self.old) }
         ensures full { (result ≡ Err AddFault.Full) ↔ HasNoRoomFor MAX_INDIVIDUALS self.old.individuals iri.now }
@@ -239,7 +251,9 @@ impl Ontology {
     /// `Full` exactly where there are `MAX_AXIOMS` axioms; `NoMemory`. The axiom is dropped then.
     #[tactic(auto, using(crate::proofs::Uses::all_use_push))]
     pub fn add_axiom(&mut self, axiom: Axiom, line: u32) -> Result<u32, AddFault>
-        requires { IsTrue (axiom_uses_listed (length self.old.classes) (length self.old.roles) (length self.old.individuals) «axiom») }
+        requires { IsTrue
+            (axiom_uses_listed (length self.old.classes) (length self.old.roles) (length self.old.individuals)
+            «axiom») }
         ensures number { IfOk result (λ n. n ≡ length self.old.axioms + 1) }
         ensures added { OnOk result (self.new ≡ with_axiom self.old «axiom» line) }
         ensures unchanged { OnErr result (self.new ≡ self.old) }

@@ -134,7 +134,8 @@ impl Agenda {
         rules: &R,
     ) -> Result<Option<Step>, NoMemory>
         requires one_first { S.first state.now ≡ (R.context rules.now).first }
-        ensures { IfOk result (λ found. IfSome found (IsStep (R.context rules.now) (S.facts state.now) (R.files rules.now))) }
+        ensures { IfOk result
+            (λ found. IfSome found (IsStep (R.context rules.now) (S.facts state.now) (R.files rules.now))) }
     {
         let (place, giving) = first_giving(state, rules, self.cursors.given);
         self.cursors.given = place;
@@ -153,7 +154,8 @@ impl Agenda {
         rules: &R,
     ) -> Result<Option<Step>, NoMemory>
         requires one_first { S.first state.now ≡ (R.context rules.now).first }
-        ensures { IfOk result (λ found. IfSome found (IsStep (R.context rules.now) (S.facts state.now) (R.files rules.now))) }
+        ensures { IfOk result
+            (λ found. IfSome found (IsStep (R.context rules.now) (S.facts state.now) (R.files rules.now))) }
     {
         let (node, addition) = first_general(state, rules, self.cursors.general);
         self.cursors.general = node;
@@ -172,7 +174,8 @@ impl Agenda {
         rules: &R,
     ) -> Result<Option<Step>, NoMemory>
         requires one_first { S.first state.now ≡ (R.context rules.now).first }
-        ensures { IfOk result (λ found. IfSome found (IsStep (R.context rules.now) (S.facts state.now) (R.files rules.now))) }
+        ensures { IfOk result
+            (λ found. IfSome found (IsStep (R.context rules.now) (S.facts state.now) (R.files rules.now))) }
     {
         let (place, addition) = first_addition(tree, state, rules, self.cursors.additions);
         self.count_looks(self.cursors.additions, place);
@@ -192,7 +195,8 @@ impl Agenda {
         rules: &R,
     ) -> Result<Option<Step>, NoMemory>
         requires one_first { S.first state.now ≡ (R.context rules.now).first }
-        ensures { IfOk result (λ found. IfSome found (IsStep (R.context rules.now) (S.facts state.now) (R.files rules.now))) }
+        ensures { IfOk result
+            (λ found. IfSome found (IsStep (R.context rules.now) (S.facts state.now) (R.files rules.now))) }
     {
         let (place, forced) = first_forced(
             tree,
@@ -218,7 +222,8 @@ impl Agenda {
         rules: &R,
     ) -> Result<Option<Step>, NoMemory>
         requires one_first { S.first state.now ≡ (R.context rules.now).first }
-        ensures { IfOk result (λ found. IfSome found (IsStep (R.context rules.now) (S.facts state.now) (R.files rules.now))) }
+        ensures { IfOk result
+            (λ found. IfSome found (IsStep (R.context rules.now) (S.facts state.now) (R.files rules.now))) }
     {
         let (place, pair) = first_branching(
             heap,
@@ -248,7 +253,8 @@ impl Agenda {
         rules: &R,
     ) -> Result<Option<Step>, NoMemory>
         requires one_first { S.first state.now ≡ (R.context rules.now).first }
-        ensures { IfOk result (λ found. IfSome found (IsStep (R.context rules.now) (S.facts state.now) (R.files rules.now))) }
+        ensures { IfOk result
+            (λ found. IfSome found (IsStep (R.context rules.now) (S.facts state.now) (R.files rules.now))) }
     {
         let from = self.cursors.first_makings;
         let (place, making) = first_below_first(heap, tree, state, rules, from)?;
@@ -269,7 +275,8 @@ impl Agenda {
         rules: &R,
     ) -> Result<Option<Step>, NoMemory>
         requires one_first { S.first state.now ≡ (R.context rules.now).first }
-        ensures { IfOk result (λ found. IfSome found (IsStep (R.context rules.now) (S.facts state.now) (R.files rules.now))) }
+        ensures { IfOk result
+            (λ found. IfSome found (IsStep (R.context rules.now) (S.facts state.now) (R.files rules.now))) }
     {
         let (place, union) = first_branching(
             heap,
@@ -302,7 +309,8 @@ impl Agenda {
         rules: &R,
     ) -> Result<Option<Step>, NoMemory>
         requires one_first { S.first state.now ≡ (R.context rules.now).first }
-        ensures { IfOk result (λ found. IfSome found (IsStep (R.context rules.now) (S.facts state.now) (R.files rules.now))) }
+        ensures { IfOk result
+            (λ found. IfSome found (IsStep (R.context rules.now) (S.facts state.now) (R.files rules.now))) }
     {
         let (place, making) = first_making(
             heap,
@@ -329,7 +337,8 @@ impl Agenda {
         rules: &R,
     ) -> Result<Option<Step>, NoMemory>
         requires one_first { S.first state.now ≡ (R.context rules.now).first }
-        ensures { IfOk result (λ found. IfSome found (IsStep (R.context rules.now) (S.facts state.now) (R.files rules.now))) }
+        ensures { IfOk result
+            (λ found. IfSome found (IsStep (R.context rules.now) (S.facts state.now) (R.files rules.now))) }
     {
         let least = least_changed(tree, self.cursors.held.min(tree.len()));
         self.cursors.held = tree.len();
@@ -352,7 +361,8 @@ impl Agenda {
         rules: &R,
     ) -> Result<Option<Step>, NoMemory>
         requires one_first { S.first state.now ≡ (R.context rules.now).first }
-        ensures { IfOk result (λ found. IfSome found (IsStep (R.context rules.now) (S.facts state.now) (R.files rules.now))) }
+        ensures { IfOk result
+            (λ found. IfSome found (IsStep (R.context rules.now) (S.facts state.now) (R.files rules.now))) }
     {
         let (place, union) = first_branching(
             heap,
@@ -379,7 +389,8 @@ impl Agenda {
         rules: &R,
     ) -> Result<Option<Step>, NoMemory>
         requires one_first { S.first state.now ≡ (R.context rules.now).first }
-        ensures { IfOk result (λ found. IfSome found (IsStep (R.context rules.now) (S.facts state.now) (R.files rules.now))) }
+        ensures { IfOk result
+            (λ found. IfSome found (IsStep (R.context rules.now) (S.facts state.now) (R.files rules.now))) }
     {
         let (place, most) = first_branching(
             heap,

@@ -5,7 +5,8 @@ use Rattle.tableau_specs.specs.Items.{facts_of}
 use Rattle.tableau_specs.specs.Steps.{SearchContext, IsSaturated, HasPlainClash}
 use Rattle.step_finders.specs.Stepping.{NoStep}
 
-pub saturated : (w : SearchContext) (trail : List Item) → ¬ HasPlainClash w trail → NoStep w (facts_of trail) → IsSaturated w trail
+pub saturated : (w : SearchContext) (trail : List Item) → ¬ HasPlainClash w trail → NoStep w (facts_of trail)
+    → IsSaturated w trail
 saturated w trail none h = record {
   no_clash = none;
   no_add = h.no_add.no_add;

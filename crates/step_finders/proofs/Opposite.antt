@@ -3,7 +3,8 @@ use Rattle.std.proofs.Common.{◌≡◌, ℕ, ◌<◌, true, List, length, ap, �
 use Rattle.shq_terms.specs.Concept.{Concept, complement as not_concept, name as name_concept}
 use Rattle.calculus_specs.specs.Normal.{negated_form}
 use Rattle.calculus_specs.specs.Shape.{Shape, shape_of, IsTable}
-use Rattle.calculus_specs.specs.Shape.Shape.{top, bottom, name, not_name, intersection, union, some_of, all_of, at_least, at_most}
+use Rattle.calculus_specs.specs.Shape.Shape.{top, bottom, name, not_name, intersection, union, some_of, all_of}
+use Rattle.calculus_specs.specs.Shape.Shape.{at_least, at_most}
 use Rattle.calculus_specs.specs.Tree.{tree_of, trees_of, tree_over, IsComplement}
 use Rattle.calculus_specs.proofs.Unique.{tree_of_shape}
 use Rattle.tableau_specs.proofs.Listed.{listed}
@@ -13,7 +14,8 @@ use Rattle.tableau_specs.specs.Steps.{SearchContext}
 use Rattle.step_finders.specs.Choosing.{LacksComplement}
 use Rattle.step_finders.specs.Clashing.{HasBoth, NoneByShape}
 
-shape_of_not : (trees : List Concept) (sh : Shape) (a : ℕ) → tree_over trees sh ≡ not_concept (name_concept a) → sh ≡ not_name a
+shape_of_not : (trees : List Concept) (sh : Shape) (a : ℕ) → tree_over trees sh ≡ not_concept (name_concept a)
+    → sh ≡ not_name a
 shape_of_not trees (not_name b) a h = let e : b ≡ a = cc in ap (λ (k : ℕ). not_name k) e
 shape_of_not trees top a h = cc
 shape_of_not trees bottom a h = cc
@@ -59,23 +61,47 @@ module _ (table : List Shape) (good : IsTable table) where
 
   -- the complement of a class, and of its complement
   pub not_of_name : (d c a : ℕ) → shape_of table d ≡ name a → IsComplement table d c → shape_of table c ≡ not_name a
-  not_of_name d c a sh is = shape_of_not (trees_of table) (shape_of table c) a (sym (tree_is c is.listed) ∙ is.negates ∙ ap negated_form (tree_name d a sh))
+  not_of_name d c a sh is =
+      shape_of_not (trees_of table) (shape_of table c) a
+      (sym (tree_is c is.listed) ∙ is.negates ∙ ap negated_form (tree_name d a sh))
 
   pub name_of_not : (d c a : ℕ) → shape_of table d ≡ not_name a → IsComplement table d c → shape_of table c ≡ name a
-  name_of_not d c a sh is = shape_of_name (trees_of table) (shape_of table c) a (sym (tree_is c is.listed) ∙ is.negates ∙ ap negated_form (tree_not d a sh))
+  name_of_not d c a sh is =
+      shape_of_name (trees_of table) (shape_of table c) a
+      (sym (tree_is c is.listed) ∙ is.negates ∙ ap negated_form (tree_not d a sh))
 
-  pub complement_of_name : (d c a : ℕ) → shape_of table d ≡ name a → shape_of table c ≡ not_name a → IsComplement table d c
-  complement_of_name d c a sh th = record { listed = not_listed c a th; negates = tree_not c a th ∙ ap negated_form (sym (tree_name d a sh)) }
+  pub complement_of_name : (d c a : ℕ) → shape_of table d ≡ name a → shape_of table c ≡ not_name a
+      → IsComplement table d c
+  complement_of_name d c a sh th =
+      record { listed = not_listed c a th; negates = tree_not c a th ∙ ap negated_form (sym (tree_name d a sh)) }
 
-  pub complement_of_not : (d c a : ℕ) → shape_of table d ≡ not_name a → shape_of table c ≡ name a → IsComplement table d c
-  complement_of_not d c a sh th = record { listed = name_listed c a th; negates = tree_name c a th ∙ ap negated_form (sym (tree_not d a sh)) }
+  pub complement_of_not : (d c a : ℕ) → shape_of table d ≡ not_name a → shape_of table c ≡ name a
+      → IsComplement table d c
+  complement_of_not d c a sh th =
+      record { listed = name_listed c a th; negates = tree_name c a th ∙ ap negated_form (sym (tree_not d a sh)) }
 
 module _ (w : SearchContext) (good : IsTable w.table) (fs : List (Fact ℕ)) (x d a : ℕ) where
-  pub both_by_name : (c : ℕ) → x < node_count_from w.first fs → has fs x d ≡ true → shape_of w.table d ≡ name a → IsComplement w.table d c → has fs x c ≡ true → HasBoth w fs x d c
-  both_by_name c lt h sh is g = record { is_node = lt; class = a; holds = h; shape = sh; holds_other = g; shape_other = not_of_name w.table good d c a sh is }
+  pub both_by_name : (c : ℕ) → x < node_count_from w.first fs → has fs x d ≡ true → shape_of w.table d ≡ name a
+      → IsComplement w.table d c → has fs x c ≡ true → HasBoth w fs x d c
+  both_by_name c lt h sh is g = record {
+    is_node = lt;
+    class = a;
+    holds = h;
+    shape = sh;
+    holds_other = g;
+    shape_other = not_of_name w.table good d c a sh is;
+  }
 
-  pub both_by_not : (c : ℕ) → x < node_count_from w.first fs → has fs x d ≡ true → shape_of w.table d ≡ not_name a → IsComplement w.table d c → has fs x c ≡ true → HasBoth w fs x c d
-  both_by_not c lt h sh is g = record { is_node = lt; class = a; holds = g; shape = name_of_not w.table good d c a sh is; holds_other = h; shape_other = sh }
+  pub both_by_not : (c : ℕ) → x < node_count_from w.first fs → has fs x d ≡ true → shape_of w.table d ≡ not_name a
+      → IsComplement w.table d c → has fs x c ≡ true → HasBoth w fs x c d
+  both_by_not c lt h sh is g = record {
+    is_node = lt;
+    class = a;
+    holds = g;
+    shape = name_of_not w.table good d c a sh is;
+    holds_other = h;
+    shape_other = sh;
+  }
 
   pub none_by_name : shape_of w.table d ≡ name a → LacksComplement w fs x d → NoneByShape w fs x (name a)
   none_by_name sh lacks = λ c h th. (let k = lacks c (complement_of_name w.table good d c a sh th) in cc)

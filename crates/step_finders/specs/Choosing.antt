@@ -94,7 +94,8 @@ module _ (w : SearchContext) (fs : List (Fact ℕ)) where
 
   -- no two of the successors that are counted are to be made one or kept apart
   pub record NoPair (x n s e : ℕ) : Type 0 where
-    pub are_apart : n < length (filled_successors w.first (below_of w) fs x s e) → all_apart fs (filled_successors w.first (below_of w) fs x s e) ≡ true
+    pub are_apart : n < length (filled_successors w.first (below_of w) fs x s e)
+        → all_apart fs (filled_successors w.first (below_of w) fs x s e) ≡ true
 
   pub record IsPair (x n s e y z : ℕ) : Type 0 where
     pub more : n < length (filled_successors w.first (below_of w) fs x s e)

@@ -68,8 +68,10 @@ module _ (w : SearchContext) (fs : List (Fact ℕ)) where
   IsShown (Differ x y) = HasDiffer x y
 
   abbrev pub AnswersOverrun : ℕ → ℕ → ℕ → ℕ → Bool → Type 0
-  AnswersOverrun x n s e true = (n < length (filled_successors w.first (below_of w) fs x s e)) × (all_apart fs (filled_successors w.first (below_of w) fs x s e) ≡ true)
-  AnswersOverrun x n s e false = n < length (filled_successors w.first (below_of w) fs x s e) → all_apart fs (filled_successors w.first (below_of w) fs x s e) ≡ false
+  AnswersOverrun x n s e true = (n < length (filled_successors w.first (below_of w) fs x s e))
+      × (all_apart fs (filled_successors w.first (below_of w) fs x s e) ≡ true)
+  AnswersOverrun x n s e false = n < length (filled_successors w.first (below_of w) fs x s e)
+      → all_apart fs (filled_successors w.first (below_of w) fs x s e) ≡ false
 
   -- no 'at most' of p in the list is overrun
   pub record NotOverrun (p d c : ℕ) : Type 0 where
@@ -93,7 +95,8 @@ module _ (w : SearchContext) (fs : List (Fact ℕ)) where
 
   -- no 'at most' above x with filler d is overrun
   pub record NoneAbove (x d : ℕ) : Type 0 where
-    pub none : (z c n s : ℕ) → has_edge fs (λ r. below_of w r s) z x ≡ true → ¬ IsOverrun w.first (below_of w) w.table fs z c n s d
+    pub none : (z c n s : ℕ) → has_edge fs (λ r. below_of w r s) z x ≡ true
+        → ¬ IsOverrun w.first (below_of w) w.table fs z c n s d
 
   -- no 'at most' with filler d is overrun at a node from which an axiom gives an edge to x
   pub record NoneInto (d x : ℕ) : Type 0 where
@@ -130,4 +133,5 @@ module _ (w : SearchContext) (fs : List (Fact ℕ)) where
 
 -- what is shown is a plain clash
 abbrev pub ShownClashesArePlain : Type 0
-ShownClashesArePlain = (w : SearchContext) (fs : List (Fact ℕ)) (clash : Clash) → IsShown w fs clash → IsPlainClash w.first (below_of w) w.table fs
+ShownClashesArePlain = (w : SearchContext) (fs : List (Fact ℕ)) (clash : Clash) → IsShown w fs clash
+    → IsPlainClash w.first (below_of w) w.table fs

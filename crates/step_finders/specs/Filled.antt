@@ -1,5 +1,6 @@
 -- The successors that an 'at most' counts, as a list in any order.
-use Rattle.std.specs.Prelude.{◌≡◌, ℕ, ◌==◌, ◌&&◌, ◌<◌, ◌≤◌, nat_le, Bool, true, false, List, Contains, Option, Some, None, filter, length, get_or, slice_index}
+use Rattle.std.specs.Prelude.{◌≡◌, ℕ, ◌==◌, ◌&&◌, ◌<◌, ◌≤◌, nat_le, Bool, true, false, List, Contains, Option, Some}
+use Rattle.std.specs.Prelude.{None, filter, length, get_or, slice_index}
 use Rattle.std.specs.List.{list_any, IsDistinct}
 use Rattle.calculus_specs.specs.declared.facts.Fact.{Fact}
 use Rattle.calculus_specs.specs.State.{has, is_successor, are_apart}

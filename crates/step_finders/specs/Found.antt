@@ -23,7 +23,8 @@ pub record IsCarry (w : SearchContext) (s e : ℕ) (pair : ℕ × ℕ) : Type 0 
 -- the pairs for 'all s e' are such, and there is one for each transitive role below s
 pub record AreCarries (w : SearchContext) (s e : ℕ) (pairs : List (ℕ × ℕ)) : Type 0 where
   pub each : All (IsCarry w s e) pairs
-  pub every : (t : ℕ) → w.theory.is_transitive t ≡ true → w.theory.below t s ≡ true → list_any (λ p. p.0 == t) pairs ≡ true
+  pub every : (t : ℕ) → w.theory.is_transitive t ≡ true → w.theory.below t s ≡ true
+      → list_any (λ p. p.0 == t) pairs ≡ true
 
 abbrev pub AreCarriesOf : SearchContext → Shape → List (ℕ × ℕ) → Type 0
 AreCarriesOf w (all_of s e) pairs = AreCarries w s e pairs
@@ -116,7 +117,8 @@ pub record AreFiled (w : SearchContext) (files : Files) : Type 0 where
   pub begins : (r : ℕ) → All (IsAtEdge w edge r) (files.begins r)
   pub ends : (r : ℕ) → All (IsAtEdge w end_of r) (files.ends r)
   -- each row is filed: where all that is filed holds at all nodes, each row that is used holds
-  pub each_filed : (fs : List (Fact ℕ)) → ((x : ℕ) → x < node_count_from w.first fs → HoldsRows files fs x) → (x : ℕ) (row : Row) → x < node_count_from w.first fs → Contains w.rows row → is_used_at w fs row x ≡ true
+  pub each_filed : (fs : List (Fact ℕ)) → ((x : ℕ) → x < node_count_from w.first fs → HoldsRows files fs x)
+      → (x : ℕ) (row : Row) → x < node_count_from w.first fs → Contains w.rows row → is_used_at w fs row x ≡ true
       → has fs x row.concept ≡ true
 
 module _ (w : SearchContext) (fs : List (Fact ℕ)) where
@@ -137,7 +139,8 @@ module _ (w : SearchContext) (fs : List (Fact ℕ)) where
   -- a universal restriction that is to be carried to a successor of x by a transitive role below s has a number, and is
   -- there
   pub record NoneToCarry (x s e : ℕ) : Type 0 where
-    pub carried : (t y : ℕ) → w.theory.is_transitive t ≡ true → w.theory.below t s ≡ true → is_successor fs (λ r. below_of w r t) x y ≡ true
+    pub carried : (t y : ℕ) → w.theory.is_transitive t ≡ true → w.theory.below t s ≡ true
+        → is_successor fs (λ r. below_of w r t) x y ≡ true
         → (d : ℕ) × (shape_of w.table d ≡ all_of t e) × (has fs y d ≡ true)
 
   -- nothing is to be added since x has a concept of this shape
@@ -159,4 +162,5 @@ module _ (w : SearchContext) (fs : List (Fact ℕ)) where
   -- nothing is to be added to any node
   pub record NothingToAdd : Type 0 where
     pub no_add : (x d : ℕ) → Adds w fs x d → has fs x d ≡ true
-    pub no_carry : (x y c s t e : ℕ) → IsCarried w fs x y c s t e → (d : ℕ) × (shape_of w.table d ≡ all_of t e) × (has fs y d ≡ true)
+    pub no_carry : (x y c s t e : ℕ) → IsCarried w fs x y c s t e
+        → (d : ℕ) × (shape_of w.table d ≡ all_of t e) × (has fs y d ≡ true)

@@ -19,7 +19,8 @@ pub record IsGivenAt (w : SearchContext) (g : Given) : Type 0 where
 -- the list has exactly the facts that axioms give
 pub record AreGiven (w : SearchContext) (gs : List Given) : Type 0 where
   pub each : All (IsGivenAt w) gs
-  pub every : (a p : ℕ) (f : Fact Concept) → w.fact_of a p ≡ Some f → list_any (λ g. g.«axiom» == a && g.place == p) gs ≡ true
+  pub every : (a p : ℕ) (f : Fact Concept) → w.fact_of a p ≡ Some f
+      → list_any (λ g. g.«axiom» == a && g.place == p) gs ≡ true
 
 -- the list has the role and the beginning of each edge to this node that axioms give
 pub record AreGivenInto (w : SearchContext) (x : ℕ) (edges : List (ℕ × ℕ)) : Type 0 where

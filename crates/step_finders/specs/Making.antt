@@ -15,7 +15,8 @@ is_among fs ends bound z = nat_lt z bound && list_any (λ v. v == rep fs z) ends
 
 -- whether the n numbers from y on are such, as nodes that are pairwise apart
 abbrev pub runs_among : List (Fact ℕ) → List ℕ → ℕ → ℕ → ℕ → Bool
-runs_among fs ends bound n y = list_all (is_among fs ends bound) (range_with_len y n) && all_apart fs (range_with_len y n)
+runs_among fs ends bound n y =
+    list_all (is_among fs ends bound) (range_with_len y n) && all_apart fs (range_with_len y n)
 
 -- whether such a run begins below the bound
 abbrev pub AnswersAmong : List (Fact ℕ) → List ℕ → ℕ → ℕ → Bool → Type 0

@@ -28,4 +28,5 @@ module _ (w : SearchContext) (fs : List (Fact ℕ)) where
 
 -- without a plain clash, a trail whose facts leave no step is saturated
 abbrev pub NoStepIsSaturated : Type 0
-NoStepIsSaturated = (w : SearchContext) (trail : List Item) → ¬ HasPlainClash w trail → NoStep w (facts_of trail) → IsSaturated w trail
+NoStepIsSaturated = (w : SearchContext) (trail : List Item) → ¬ HasPlainClash w trail → NoStep w (facts_of trail)
+    → IsSaturated w trail

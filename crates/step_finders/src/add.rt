@@ -30,7 +30,8 @@ pub fn find_add<S: State, R: Rules>(state: &S, rules: &R) -> Option<Addition>
 fn find_at_representative<S: State, R: Rules>(state: &S, rules: &R, node: u32) -> Option<Addition>
     requires { node < node_count_from (R.context rules.now).first (S.facts state.now) }
     ensures { let w = R.context rules.now in let fs = S.facts state.now in
-        MatchOption result (rep fs node ≡ node → NothingFrom w fs (R.files rules.now) node) (IsAddition w fs (R.files rules.now)) }
+        MatchOption result (rep fs node ≡ node → NothingFrom w fs (R.files rules.now) node)
+        (IsAddition w fs (R.files rules.now)) }
 {
     if state.representative(node) != node {
         return None;

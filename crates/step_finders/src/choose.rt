@@ -6,7 +6,10 @@ ghost use Rattle.calculus_specs.specs.Shape.Shape.{union, at_most};
 ghost use Rattle.calculus_specs.specs.Joins.{rep};
 ghost use Rattle.calculus_specs.specs.State.{node_count_from, has as holds, is_successor};
 ghost use Rattle.tableau_specs.specs.Steps.{below_of};
-ghost use Rattle.step_finders.specs.Choosing.{IsChoosable, HasComplement, LacksComplement, IsDecided, IsUndecided, AllDecided, UndecidedAtEnd, NoPair, IsPair, IsRoleTo, NoUnionByShape, NoMostByShape, NoPairByShape, NoUnionAt, NoMostAt, NoUnion, NoMost, NothingToChoose};
+ghost use Rattle.step_finders.specs.Choosing.{IsChoosable, HasComplement, LacksComplement, IsDecided, IsUndecided};
+ghost use Rattle.step_finders.specs.Choosing.{AllDecided, UndecidedAtEnd, NoPair, IsPair, IsRoleTo, NoUnionByShape};
+ghost use Rattle.step_finders.specs.Choosing.{NoMostByShape, NoPairByShape, NoUnionAt, NoMostAt, NoUnion, NoMost};
+ghost use Rattle.step_finders.specs.Choosing.{NothingToChoose};
 
 use crate::counted::filled_successors;
 use crate::nodes::count_of;

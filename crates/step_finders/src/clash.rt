@@ -6,7 +6,10 @@ ghost use Rattle.calculus_specs.specs.Shape.Shape.{bottom};
 ghost use Rattle.calculus_specs.specs.State.{node_count_from, has as holds, are_apart as kept_apart, speak_of_nodes};
 ghost use Rattle.calculus_specs.specs.Tree.{IsComplement};
 ghost use Rattle.step_finders.specs.Choosing.{LacksComplement};
-ghost use Rattle.step_finders.specs.Clashing.{IsShown, NotOverrun, NoneOverrun, NotOverrunOver, CountsNot, IsMost, NoneByShape, NoneAbove, NoneInto, NoneAt, NoClashBy, AreLedTo, NoneOver, NoClashByNew, NoClashByEdge, NoClashByApart, NoClashByJoin, ShownClashesArePlain};
+ghost use Rattle.step_finders.specs.Clashing.{IsShown, NotOverrun, NoneOverrun, NotOverrunOver, CountsNot, IsMost};
+ghost use Rattle.step_finders.specs.Clashing.{NoneByShape, NoneAbove, NoneInto, NoneAt, NoClashBy, AreLedTo, NoneOver};
+ghost use Rattle.step_finders.specs.Clashing.{NoClashByNew, NoClashByEdge, NoClashByApart, NoClashByJoin};
+ghost use Rattle.step_finders.specs.Clashing.{ShownClashesArePlain};
 ghost use Rattle.tableau_specs.specs.Clash.{IsPlainClash};
 ghost use Rattle.tableau_specs.specs.Steps.{below_of};
 
@@ -164,8 +167,8 @@ fn find_at_node<S: State, R: Rules>(state: &S, rules: &R, node: u32, concept: u3
     }
 }
 
-// Looks for a clash by an 'at most' of the node with this filler, unless it is the node at which was looked last. Answers
-// the node at which was looked last, or the clash.
+// Looks for a clash by an 'at most' of the node with this filler, unless it is the node at which was looked last.
+// Answers the node at which was looked last, or the clash.
 fn look_at_begin<S: State, R: Rules>(
     state: &S,
     rules: &R,
@@ -496,7 +499,8 @@ fn find_by_label<S: State, R: Rules>(state: &S, rules: &R, node: u32) -> Option<
     requires one_first { S.first state.now ≡ (R.context rules.now).first }
     requires is_node { node < node_count_from (R.context rules.now).first (S.facts state.now) }
     ensures { let w = R.context rules.now in let fs = S.facts state.now in
-        MatchOption result ((c : ℕ) → holds fs node c ≡ true → NoneByShape w fs node (shape_of w.table c)) (IsShown w fs) }
+        MatchOption result ((c : ℕ) → holds fs node c ≡ true → NoneByShape w fs node (shape_of w.table c))
+        (IsShown w fs) }
 {
     for concept in state.label(node) {
         match find_at_node(state, rules, node, *concept) {

@@ -51,7 +51,9 @@ pub(crate) fn is_counted<S: State, R: Rules>(
 fn put(found: &mut Vec<u32>, fits: bool, number: u32) -> Result<(), NoMemory>
     requires { IsDistinct (λ y z. y == z) found.old.items }
     ensures distinct { OnOk result (IsDistinct (λ y z. y == z) found.new.items) }
-    ensures members { OnOk result ((y : ℕ) → list_any (λ z. y == z) found.new.items ≡ (list_any (λ z. y == z) found.old.items || (fits && y == number))) }
+    ensures members { OnOk result
+        ((y : ℕ)
+        → list_any (λ z. y == z) found.new.items ≡ (list_any (λ z. y == z) found.old.items || (fits && y == number))) }
 {
     if fits && !found.contains(&number) {
         found.push(number)?;

@@ -7,7 +7,8 @@ ghost use Rattle.calculus_specs.specs.Joins.{rep};
 ghost use Rattle.calculus_specs.specs.State.{node_count_from, has as holds, are_apart, all_apart};
 ghost use Rattle.tableau_specs.specs.Clash.{filled_successors as all_filled};
 ghost use Rattle.tableau_specs.specs.Steps.{below_of, IsOpen};
-ghost use Rattle.step_finders.specs.Making.{IsMaking, HasFiller, AnswersRun, AnswersAmong, NoMakingByShape, NoMakingAt, NothingToMake};
+ghost use Rattle.step_finders.specs.Making.{IsMaking, HasFiller, AnswersRun, AnswersAmong, NoMakingByShape, NoMakingAt};
+ghost use Rattle.step_finders.specs.Making.{NothingToMake};
 
 use crate::counted::filled_successors;
 use crate::nodes::{count_of, is_clear};

@@ -1,5 +1,6 @@
 // Whether an 'at most' counts too many successors. It takes no memory.
-ghost use Rattle.std.specs.Prelude.{◌≡◌, ℕ, ◌+◌, ◌<◌, ◌≤◌, ◌==◌, ◌&&◌, ◌||◌, nat_le, Bool, true, false, [], ◌∷◌, MatchOption, IsSome, IfSome, length};
+ghost use Rattle.std.specs.Prelude.{◌≡◌, ℕ, ◌+◌, ◌<◌, ◌≤◌, ◌==◌, ◌&&◌, ◌||◌, nat_le, Bool, true, false, [], ◌∷◌};
+ghost use Rattle.std.specs.Prelude.{MatchOption, IsSome, IfSome, length};
 ghost use Rattle.std.specs.List.{list_all};
 ghost use Rattle.calculus_specs.specs.State.{node_count_from, has as holds, are_apart as kept_apart};
 ghost use Rattle.tableau_specs.specs.Clash.{filled_successors};
@@ -41,7 +42,10 @@ pub(crate) fn is_overrun<S: State, R: Rules>(
 
 // How many edges lead to successors that are counted: at least as many as there are such successors.
 fn count_edges<S: State, R: Rules>(state: &S, rules: &R, node: u32, role: u32, filler: u32) -> usize
-    ensures { length (filled_successors (R.context rules.now).first (below_of (R.context rules.now)) (S.facts state.now) node role filler) ≤ result }
+    ensures { length
+        (filled_successors (R.context rules.now).first (below_of (R.context rules.now)) (S.facts state.now) node role
+        filler)
+        ≤ result }
 {
     let mut count = 0;
     for edge in state.edges(node) {
@@ -63,7 +67,8 @@ fn next_filled<S: State, R: Rules>(
 ) -> Option<u32>
     ensures next { let w = R.context rules.now in let fs = S.facts state.now in
         MatchOption result (filled_from w.first (below_of w) fs node role filler from ≡ [])
-        (λ y. filled_from w.first (below_of w) fs node role filler from ≡ y ∷ filled_from w.first (below_of w) fs node role filler (y + 1)) }
+        (λ y. filled_from w.first (below_of w) fs node role filler from
+        ≡ y ∷ filled_from w.first (below_of w) fs node role filler (y + 1)) }
     ensures later { IfSome result (λ y. from ≤ y) }
     ensures within { IfSome result (λ y. y < node_count_from (R.context rules.now).first (S.facts state.now)) }
 {
@@ -88,7 +93,9 @@ fn lesser<S: State, R: Rules>(
     filler: u32,
 ) -> Option<u32>
     ensures { (p : ℕ → Bool) → IsLeast p least → IsLeast (λ z. p z
-        || (((below_of (R.context rules.now) edge.0 role && holds (S.facts state.now) edge.1 filler) && nat_le from end) && z == end)) result }
+        || (((below_of (R.context rules.now) edge.0 role && holds (S.facts state.now) edge.1 filler) && nat_le from end)
+        && z == end))
+        result }
 {
     if end < from || !is_less(end, least) {
         return least;
@@ -147,10 +154,13 @@ fn is_passed<S: State, R: Rules>(
 ) -> bool
     requires one_first { S.first state.now ≡ (R.context rules.now).first }
     requires first { first < node_count_from (R.context rules.now).first (S.facts state.now) }
-    requires end { (below_of (R.context rules.now) edge.0 role && holds (S.facts state.now) edge.1 filler) ≡ true → end < node_count_from (R.context rules.now).first (S.facts state.now) }
-    ensures yes { result ≡ true → (below_of (R.context rules.now) edge.0 role && holds (S.facts state.now) edge.1 filler) ≡ true
+    requires end { (below_of (R.context rules.now) edge.0 role && holds (S.facts state.now) edge.1 filler) ≡ true
+        → end < node_count_from (R.context rules.now).first (S.facts state.now) }
+    ensures yes { result ≡ true
+        → (below_of (R.context rules.now) edge.0 role && holds (S.facts state.now) edge.1 filler) ≡ true
         → first < end → kept_apart (S.facts state.now) first end ≡ true }
-    ensures no_counted { result ≡ false → (below_of (R.context rules.now) edge.0 role && holds (S.facts state.now) edge.1 filler) ≡ true }
+    ensures no_counted { result ≡ false
+        → (below_of (R.context rules.now) edge.0 role && holds (S.facts state.now) edge.1 filler) ≡ true }
     ensures no_later { result ≡ false → first < end }
     ensures no_apart { result ≡ false → kept_apart (S.facts state.now) first end ≡ false }
 {

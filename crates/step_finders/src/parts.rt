@@ -4,7 +4,8 @@ ghost use Rattle.std.specs.List.{All, Contains};
 ghost use Rattle.calculus_specs.specs.Shape.{shape_of};
 ghost use Rattle.calculus_specs.specs.Shape.Shape.{all_of, intersection};
 ghost use Rattle.calculus_specs.specs.State.{node_count_from, has as holds};
-ghost use Rattle.step_finders.specs.Found.{NoneByShape, NoneByConcepts, AllEndsHave, LacksAtEnd, AllCarried, AreCarries};
+ghost use Rattle.step_finders.specs.Found.{NoneByShape, NoneByConcepts, AllEndsHave, LacksAtEnd, AllCarried};
+ghost use Rattle.step_finders.specs.Found.{AreCarries};
 ghost use Rattle.step_finders.specs.Reasons.{IsAddition};
 
 use crate::{Addition, Reason, Rules, State};

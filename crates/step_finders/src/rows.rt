@@ -2,7 +2,8 @@
 ghost use Rattle.std.specs.Prelude.{◌≡◌, ℕ, ◌<◌, ◌==◌, true, false, MatchOption, IsTrue};
 ghost use Rattle.std.specs.List.{All, list_all};
 ghost use Rattle.calculus_specs.specs.State.{node_count_from, has as holds, is_successor};
-ghost use Rattle.step_finders.specs.Found.{PlainHolds, PlainDue, NamedHold, NamedLacks, NamedDue, NamesHold, EdgeHolds, EdgesHold, HoldsRows};
+ghost use Rattle.step_finders.specs.Found.{PlainHolds, PlainDue, NamedHold, NamedLacks, NamedDue, NamesHold, EdgeHolds};
+ghost use Rattle.step_finders.specs.Found.{EdgesHold, HoldsRows};
 ghost use Rattle.step_finders.specs.Reasons.{IsAddition};
 
 use crate::parts::find_part;
@@ -63,7 +64,8 @@ pub fn find_by_name<S: State, R: Rules>(
     requires is_node { node < node_count_from (R.context rules.now).first (S.facts state.now) }
     requires holds { holds (S.facts state.now) node concept ≡ true }
     ensures { let w = R.context rules.now in let fs = S.facts state.now in
-        MatchOption result (All (NamedHold fs node) ((R.files rules.now).named concept)) (IsAddition w fs (R.files rules.now)) }
+        MatchOption result (All (NamedHold fs node) ((R.files rules.now).named concept))
+        (IsAddition w fs (R.files rules.now)) }
 {
     rules.is_ready();
     match find_due(state, node, rules.named(concept)) {
@@ -102,7 +104,8 @@ pub fn find_at_begin<S: State, R: Rules>(
     requires is_node { node < node_count_from (R.context rules.now).first (S.facts state.now) }
     requires next { is_successor (S.facts state.now) (λ r. r == role) node end ≡ true }
     ensures { let w = R.context rules.now in let fs = S.facts state.now in
-        MatchOption result (All (PlainHolds fs node) ((R.files rules.now).begins role)) (IsAddition w fs (R.files rules.now)) }
+        MatchOption result (All (PlainHolds fs node) ((R.files rules.now).begins role))
+        (IsAddition w fs (R.files rules.now)) }
 {
     rules.is_ready();
     match find_plain(state, node, rules.at_begins(role)) {
@@ -126,7 +129,8 @@ pub fn find_at_end<S: State, R: Rules>(
     requires is_node { node < node_count_from (R.context rules.now).first (S.facts state.now) }
     requires next { is_successor (S.facts state.now) (λ r. r == role) node end ≡ true }
     ensures { let w = R.context rules.now in let fs = S.facts state.now in
-        MatchOption result (All (PlainHolds fs end) ((R.files rules.now).ends role)) (IsAddition w fs (R.files rules.now)) }
+        MatchOption result (All (PlainHolds fs end) ((R.files rules.now).ends role))
+        (IsAddition w fs (R.files rules.now)) }
 {
     rules.is_ready();
     match find_plain(state, end, rules.at_ends(role)) {
@@ -181,7 +185,8 @@ pub fn find_by_edges<S: State, R: Rules>(state: &S, rules: &R, node: u32) -> Opt
 pub fn find_general<S: State, R: Rules>(state: &S, rules: &R, node: u32) -> Option<Addition>
     requires { node < node_count_from (R.context rules.now).first (S.facts state.now) }
     ensures { let w = R.context rules.now in let fs = S.facts state.now in
-        MatchOption result (All (PlainHolds fs node) (R.files rules.now).general) (IsAddition w fs (R.files rules.now)) }
+        MatchOption result (All (PlainHolds fs node) (R.files rules.now).general)
+        (IsAddition w fs (R.files rules.now)) }
 {
     rules.is_ready();
     match find_plain(state, node, rules.general()) {

@@ -2,7 +2,8 @@
 ghost use Rattle.std.specs.Prelude.{◌≡◌, ℕ, ◌+◌, ◌<◌, ◌==◌, ◌^◌, ◌↔◌, true, List, MatchOption, IsTrue, IsNone, IfSome};
 ghost use Rattle.calculus_specs.specs.declared.facts.Fact.{Fact as PlainFact};
 ghost use Rattle.calculus_specs.specs.Joins.{rep};
-ghost use Rattle.calculus_specs.specs.State.{node_count_from, parent_from, has as holds, has_edge, are_apart as kept_apart};
+ghost use Rattle.calculus_specs.specs.State.{node_count_from, parent_from, has as holds, has_edge};
+ghost use Rattle.calculus_specs.specs.State.{are_apart as kept_apart};
 ghost use Rattle.calculus_specs.specs.Shape.{shape_of, IsTable};
 ghost use Rattle.calculus_specs.specs.Tree.{IsComplement};
 ghost use Rattle.calculus_specs.specs.Rows.{IsChoice};
@@ -50,7 +51,9 @@ pub trait State {
     fn origin(&self, node: u32) -> Option<(u32, u32)>
         requires { node < node_count_from (first self.now) (facts self.now) }
         ensures none { IsNone result → node < first self.now }
-        ensures some { IfSome result (λ o. (has_edge (facts self.now) (λ s. s == o.0) o.1 node ≡ true) × (parent_from (first self.now) (facts self.now) node ≡ Some o.1)) };
+        ensures some { IfSome result
+            (λ o. (has_edge (facts self.now) (λ s. s == o.0) o.1 node ≡ true)
+            × (parent_from (first self.now) (facts self.now) node ≡ Some o.1)) };
 
     /// Whether the node has the concept.
     fn has(&self, node: u32, concept: u32) -> bool
@@ -148,7 +151,8 @@ pub trait Rules {
 
     /// The number of a concept's complement, if it has one.
     fn complement(&self, concept: u32) -> Option<u32>
-        ensures { MatchOption result ((d : ℕ) → ¬ IsComplement (context self.now).table concept d) (λ d. IsComplement (context self.now).table concept d) };
+        ensures { MatchOption result ((d : ℕ) → ¬ IsComplement (context self.now).table concept d)
+            (λ d. IsComplement (context self.now).table concept d) };
 
     /// Each 'at most' with this filler.
     fn mosts(&self, filler: u32) -> &[u32]

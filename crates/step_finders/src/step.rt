@@ -53,7 +53,9 @@ fn find_ungiven<S: StateWithBlocks, R: Rules>(
 ) -> Result<Option<Step>, NoMemory>
     requires one_first { S.first state.now ≡ (R.context rules.now).first }
     ensures { let w = R.context rules.now in let fs = S.facts state.now in
-        IfOk result (λ found. MatchOption found (NothingToAdd w fs × (NothingToMake w fs × NothingToChoose w fs)) (IsStep w fs (R.files rules.now))) }
+        IfOk result
+        (λ found. MatchOption found (NothingToAdd w fs × (NothingToMake w fs × NothingToChoose w fs))
+        (IsStep w fs (R.files rules.now))) }
 {
     match find_add(state, rules) {
         Some(addition) => Ok(Some(Step::Add(addition))),
@@ -69,7 +71,8 @@ fn find_branching<S: StateWithBlocks, R: Rules>(
 ) -> Result<Option<Step>, NoMemory>
     requires one_first { S.first state.now ≡ (R.context rules.now).first }
     ensures { let w = R.context rules.now in let fs = S.facts state.now in
-        IfOk result (λ found. MatchOption found (NothingToMake w fs × NothingToChoose w fs) (IsStep w fs (R.files rules.now))) }
+        IfOk result
+        (λ found. MatchOption found (NothingToMake w fs × NothingToChoose w fs) (IsStep w fs (R.files rules.now))) }
 {
     match find_making(alloc, state, rules)? {
         Some(new) => Ok(Some(Step::Generate(new))),

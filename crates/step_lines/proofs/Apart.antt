@@ -25,14 +25,21 @@ module _ (first : ℕ) (u : NumberSet) (ms : List MarkedFact) (grounded : AreGro
     passes : p fact ≡ true
     are_known : list_all known (named fact) ≡ true
 
-  find_in : (p : Fact ℕ → Bool) (xs : List MarkedFact) → list_all (is_grounded first ms) xs ≡ true → list_any (λ m. is_within u m && p m.item) xs ≡ true → Found p
+  find_in : (p : Fact ℕ → Bool) (xs : List MarkedFact) → list_all (is_grounded first ms) xs ≡ true
+      → list_any (λ m. is_within u m && p m.item) xs ≡ true → Found p
   find_in p [] h any = cc
   find_in p (m ∷ xs) h any =
       let b = and_parts (is_grounded first ms m) (list_all (is_grounded first ms) xs) h in
       elim (or_cases (is_within u m && p m.item) (list_any (λ n. is_within u n && p n.item) xs) any) [
         | inl here ↦
             let c = and_parts (is_within u m) (p m.item) here in
-            record { fact = m.item; passes = c.1; are_known = all_implies (is_known_within first m.marks ms) known (wider first m.marks u c.0 ms) (named m.item) b.0 }
+            record {
+              fact = m.item;
+              passes = c.1;
+              are_known =
+                  all_implies (is_known_within first m.marks ms) known (wider first m.marks u c.0 ms) (named m.item)
+                  b.0;
+            }
         | inr later ↦ find_in p xs b.1 later
       ]
 
@@ -47,7 +54,8 @@ module _ (first : ℕ) (u : NumberSet) (ms : List MarkedFact) (grounded : AreGro
 
   same_known : (y z : ℕ) (f : Fact ℕ) → joins y z f ≡ true → list_all known (named f) ≡ true → known y ≡ true
   same_known y z (Same v w) h k = elim (or_cases (eqb v y && eqb w z) (eqb v z && eqb w y) h) [
-    | inl a ↦ subst (λ (n : ℕ). known n ≡ true) (eqb-true v y (and_parts (eqb v y) (eqb w z) a).0) (first_known v (w ∷ []) k)
+    | inl a ↦
+        subst (λ (n : ℕ). known n ≡ true) (eqb-true v y (and_parts (eqb v y) (eqb w z) a).0) (first_known v (w ∷ []) k)
     | inr a ↦ subst (λ (n : ℕ). known n ≡ true) (eqb-true w y (and_parts (eqb v z) (eqb w y) a).1) (second_known v w k)
   ]
   same_known y z (Has v c) h k = cc
@@ -58,7 +66,9 @@ module _ (first : ℕ) (u : NumberSet) (ms : List MarkedFact) (grounded : AreGro
   joined_known : (x y : ℕ) → IsJoined (within u ms) x y → (x ≡ y) ⊎ (known x ≡ true)
   joined_known x x' (itself y) = inl refl
   joined_known x x' (by_fact a b c any h) = elim (joined_known a b h) [
-    | inl same ↦ let f = found (joins b c) any in inr (subst (λ (n : ℕ). known n ≡ true) (sym same) (same_known b c f.fact f.passes f.are_known))
+    | inl same ↦
+        let f = found (joins b c) any in
+        inr (subst (λ (n : ℕ). known n ≡ true) (sym same) (same_known b c f.fact f.passes f.are_known))
     | inr is ↦ inr is
   ]
 
@@ -66,11 +76,16 @@ module _ (first : ℕ) (u : NumberSet) (ms : List MarkedFact) (grounded : AreGro
   rep_known : (x y : ℕ) → eqb (rep (within u ms) y) (rep (within u ms) x) ≡ true → known y ≡ true → known x ≡ true
   rep_known x y h is =
       let fs = within u ms in
-      let to-x : IsJoined fs y (rep fs x) = subst (IsJoined fs y) (eqb-true (rep fs y) (rep fs x) h) (joined-rep fs y) in
-      let joined : IsJoined fs x y = joined_back fs y x (joined_on fs y (rep fs x) x to-x (joined_back fs x (rep fs x) (joined-rep fs x))) in
-      elim (joined_known x y joined) [ inl same ↦ subst (λ (n : ℕ). known n ≡ true) (sym same) is | inr known_x ↦ known_x ]
+      let to-x : IsJoined fs y (rep fs x) =
+      subst (IsJoined fs y) (eqb-true (rep fs y) (rep fs x) h) (joined-rep fs y) in
+      let joined : IsJoined fs x y =
+      joined_back fs y x (joined_on fs y (rep fs x) x to-x (joined_back fs x (rep fs x) (joined-rep fs x))) in
+      elim (joined_known x y joined)
+      [ inl same ↦ subst (λ (n : ℕ). known n ≡ true) (sym same) is | inr known_x ↦ known_x ]
 
-  both_known : (x y : ℕ) (f : Fact ℕ) → gives_apart (rep (within u ms)) (rep (within u ms) x) (rep (within u ms) y) f ≡ true → list_all known (named f) ≡ true → (known x ≡ true) × (known y ≡ true)
+  both_known : (x y : ℕ) (f : Fact ℕ)
+      → gives_apart (rep (within u ms)) (rep (within u ms) x) (rep (within u ms) y) f ≡ true
+      → list_all known (named f) ≡ true → (known x ≡ true) × (known y ≡ true)
   both_known x y (Apart v w) h k =
       let m = rep (within u ms) in
       elim (or_cases (eqb (m v) (m x) && eqb (m w) (m y)) (eqb (m v) (m y) && eqb (m w) (m x)) h) [
@@ -87,4 +102,6 @@ module _ (first : ℕ) (u : NumberSet) (ms : List MarkedFact) (grounded : AreGro
 
   -- the nodes that are apart are known
   pub apart_is_known : (x y : ℕ) → are_apart (within u ms) x y ≡ true → (known x ≡ true) × (known y ≡ true)
-  apart_is_known x y h = let f = found (gives_apart (rep (within u ms)) (rep (within u ms) x) (rep (within u ms) y)) h in both_known x y f.fact f.passes f.are_known
+  apart_is_known x y h =
+      let f = found (gives_apart (rep (within u ms)) (rep (within u ms) x) (rep (within u ms) y)) h in
+      both_known x y f.fact f.passes f.are_known

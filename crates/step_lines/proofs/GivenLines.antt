@@ -26,10 +26,12 @@ module _ (first : ℕ) (u : NumberSet) (ms : List MarkedFact) where
   one_known : (x : ℕ) → ltb x first ≡ true → list_all (is_known_within first u ms) (x ∷ []) ≡ true
   one_known x h = all_cons (is_known_within first u ms) x [] (first_is_known first u ms x (ltb-true x first h)) refl
 
-  two_known : (x y : ℕ) → (ltb x first && ltb y first) ≡ true → list_all (is_known_within first u ms) (x ∷ y ∷ []) ≡ true
+  two_known : (x y : ℕ) → (ltb x first && ltb y first) ≡ true
+      → list_all (is_known_within first u ms) (x ∷ y ∷ []) ≡ true
   two_known x y h =
       let t = and_parts (ltb x first) (ltb y first) h in
-      all_cons (is_known_within first u ms) x (y ∷ []) (first_is_known first u ms x (ltb-true x first t.0)) (one_known y t.1)
+      all_cons (is_known_within first u ms) x (y ∷ []) (first_is_known first u ms x (ltb-true x first t.0))
+      (one_known y t.1)
 
   -- the nodes of a fact on first nodes are known
   named_known : (f : Fact ℕ) → speaks_below first f ≡ true → list_all (is_known_within first u ms) (named f) ≡ true
@@ -45,7 +47,8 @@ makes_none first (Edge r x y) h = (and_parts (ltb x first) (ltb y first) h).1
 makes_none first (Apart x y) h = refl
 makes_none first (Same x y) h = refl
 
-pub given_serves : (w : SearchContext) (fs : List (Fact ℕ)) → IsTable w.table → 0 < w.first → (g : Given) → IsGivenAt w g → (gs : List (Fact ℕ)) → gs ≡ [] → ServesGiven w fs g (fact_line g.«axiom» g.place) gs
+pub given_serves : (w : SearchContext) (fs : List (Fact ℕ)) → IsTable w.table → 0 < w.first → (g : Given)
+    → IsGivenAt w g → (gs : List (Fact ℕ)) → gs ≡ [] → ServesGiven w fs g (fact_line g.«axiom» g.place) gs
 given_serves w fs good pos g is gs none =
     let read : Fact _ = read_fact (tree_of w.table) g.fact in
     subst (ServesGiven w fs g (fact_line g.«axiom» g.place)) (sym none) (record {
@@ -56,7 +59,9 @@ given_serves w fs good pos g is gs none =
           rule = record { premises = is_node 0 ∷ []; children = more_facts (read ∷ []) ∷ [] };
           holds = record {
             is_rule = (rules_by_shape (asked_in w q) w.table good).by_fact g.«axiom» g.place read is.is_there;
-            premises = all_cons (holds w.theory (trail_within w.first w.table u ms)) (is_node 0) [] (first_is_known w.first u ms 0 pos) refl;
+            premises =
+                all_cons (holds w.theory (trail_within w.first w.table u ms)) (is_node 0) []
+                (first_is_known w.first u ms 0 pos) refl;
             are_next = refl;
           };
           children_are = refl;
@@ -67,6 +72,8 @@ given_serves w fs good pos g is gs none =
         has_part = (read, is.is_there);
       };
       no_grounds = refl;
-      puts = some_facts (read ∷ []) (g.fact ∷ []) (all_cons (makes_no_node w.first) g.fact [] (makes_none w.first g.fact is.on_first) refl) (λ p h. h);
+      puts =
+          some_facts (read ∷ []) (g.fact ∷ [])
+          (all_cons (makes_no_node w.first) g.fact [] (makes_none w.first g.fact is.on_first) refl) (λ p h. h);
       single = refl;
     })

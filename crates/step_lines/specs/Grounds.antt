@@ -13,7 +13,8 @@ use Rattle.step_lines.specs.Serving.{HoldWithin}
 -- the grounds are so, and x is known by the marks by which they hold
 pub record GroundsNode (first : ℕ) (fs : List (Fact ℕ)) (x : ℕ) (grounds : List (Fact ℕ)) : Type 0 where
   pub are_so : list_all (is_so fs) grounds ≡ true
-  pub knows : (u : NumberSet) (ms : List MarkedFact) → AreGrounded first ms → HoldWithin u ms grounds → is_known_within first u ms x ≡ true
+  pub knows : (u : NumberSet) (ms : List MarkedFact) → AreGrounded first ms → HoldWithin u ms grounds
+      → is_known_within first u ms x ≡ true
 
 -- the grounds are so, and x is known by them where there are no concepts by which it is
 pub record IsFirst (first : ℕ) (fs : List (Fact ℕ)) (x : ℕ) (concepts : List ℕ) (grounds : List (Fact ℕ)) : Type 0 where
@@ -38,7 +39,8 @@ pub record IsLink (w : SearchContext) (fs : List (Fact ℕ)) (x s e : ℕ) (link
   pub holds : has fs link.1 e ≡ true
 
 -- the links to these nodes, in order
-pub record AreLinks (w : SearchContext) (fs : List (Fact ℕ)) (x s e : ℕ) (ys : List ℕ) (links : List (ℕ × ℕ)) : Type 0 where
+pub record AreLinks (w : SearchContext) (fs : List (Fact ℕ)) (x s e : ℕ) (ys : List ℕ) (links : List (ℕ × ℕ)) :
+    Type 0 where
   pub each : All (IsLink w fs x s e) links
   pub ends : map (λ l. l.1) links ≡ ys
 

@@ -11,7 +11,9 @@ use Rattle.calculus_specs.specs.Tree.{tree_of}
 use Rattle.calculus_specs.specs.declared.facts.Fact.{Fact}
 use Rattle.calculus_specs.specs.State.{is_so, fresh_facts}
 use Rattle.calculus_specs.specs.Line.{Line}
-use Rattle.calculus_specs.specs.Line.Line.{start_line, and_line, or_line, all_line, carry_line, row_line, range_line, some_line, least_line, choose_line, pair_line, bottom_line, clash_line, most_line, fact_line, differ_line}
+use Rattle.calculus_specs.specs.Line.Line.{start_line, and_line, or_line, all_line, carry_line, row_line, range_line}
+use Rattle.calculus_specs.specs.Line.Line.{some_line, least_line, choose_line, pair_line, bottom_line, clash_line}
+use Rattle.calculus_specs.specs.Line.Line.{most_line, fact_line, differ_line}
 use Rattle.refutation_tree.specs.RuleLine.{concept_numbers}
 use Rattle.tableau_specs.specs.KeptKinds.{IsKept}
 use Rattle.tableau_specs.specs.Lines.{asked_in}
@@ -26,7 +28,8 @@ use Rattle.search_trace.specs.Trail.{MarkedFact, RuleHolds}
 
 -- in a search for what is in question, what the line asks holds by facts that rest on its marks alone, and its children
 -- add that
-pub record HoldsAt (w : SearchContext) (q : Question) (ms : List MarkedFact) (l : NotedLine) (children : List Added) : Type 0 where
+pub record HoldsAt (w : SearchContext) (q : Question) (ms : List MarkedFact) (l : NotedLine) (children : List Added) :
+    Type 0 where
   pub rule : Rule
   pub holds : RuleHolds (asked_in w q) w.table ms l rule
   pub children_are : rule.children ≡ children
@@ -56,12 +59,16 @@ HasPart w (differ_line y z) = Unit {0}
 
 -- the grounds are so, and the line's premises follow from them; its children add that, and these nodes are known by the
 -- same marks; the concepts that the line names are numbers of the table, and of each kind that the rules keep
-pub record Serves (w : SearchContext) (fs : List (Fact ℕ)) (line : Line) (grounds : List (Fact ℕ)) (children : List Added) (nodes : List ℕ) : Type 0 where
+pub record Serves (w : SearchContext) (fs : List (Fact ℕ)) (line : Line) (grounds : List (Fact ℕ))
+    (children : List Added) (nodes : List ℕ) : Type 0 where
   pub are_so : list_all (is_so fs) grounds ≡ true
-  pub holds_by : (q : Question) (number : ℕ) (u : NumberSet) (ms : List MarkedFact) → items ms ≡ fs → AreGrounded w.first ms → HoldWithin u ms grounds
+  pub holds_by : (q : Question) (number : ℕ) (u : NumberSet) (ms : List MarkedFact) → items ms ≡ fs
+      → AreGrounded w.first ms → HoldWithin u ms grounds
       → HoldsAt w q ms (record { number = number; line = line; marks = u }) children
-  pub knows : (u : NumberSet) (ms : List MarkedFact) → AreGrounded w.first ms → HoldWithin u ms grounds → list_all (is_known_within w.first u ms) nodes ≡ true
-  pub of_kind : (p : Concept → Bool) (e : ℕ → Bool) → IsKept w.theory w.fact_of (λ c. p c ≡ true) (λ r. e r ≡ true) → AreOfKind w.table fs p e
+  pub knows : (u : NumberSet) (ms : List MarkedFact) → AreGrounded w.first ms → HoldWithin u ms grounds
+      → list_all (is_known_within w.first u ms) nodes ≡ true
+  pub of_kind : (p : Concept → Bool) (e : ℕ → Bool) → IsKept w.theory w.fact_of (λ c. p c ≡ true) (λ r. e r ≡ true)
+      → AreOfKind w.table fs p e
       → list_all (λ c. p (tree_of w.table c)) (concept_numbers line) ≡ true
   pub numbered : list_all (λ c. nat_lt c (length w.table)) (concept_numbers line) ≡ true
   pub has_part : HasPart w line
@@ -70,12 +77,14 @@ pub record Serves (w : SearchContext) (fs : List (Fact ℕ)) (line : Line) (grou
 
 -- a fact more, with marks by which its nodes are known
 abbrev pub FactsStayGrounded : Type 0
-FactsStayGrounded = (first : ℕ) (u v : NumberSet) (ms : List MarkedFact) (f : Fact ℕ) → AreGrounded first ms → sets.is_subset u v ≡ true
+FactsStayGrounded = (first : ℕ) (u v : NumberSet) (ms : List MarkedFact) (f : Fact ℕ) → AreGrounded first ms
+    → sets.is_subset u v ≡ true
     → list_all (is_known_within first u ms) (named f) ≡ true → AreGrounded first (ms ++ map (marked v) (f ∷ []))
 
 -- the facts of new nodes, with marks by which their parent is known
 abbrev pub NewNodesStayGrounded : Type 0
-NewNodesStayGrounded = (first : ℕ) (u : NumberSet) (ms : List MarkedFact) (x s e from n : ℕ) → first ≤ from → AreGrounded first ms → is_known_within first u ms x ≡ true
+NewNodesStayGrounded = (first : ℕ) (u : NumberSet) (ms : List MarkedFact) (x s e from n : ℕ) → first ≤ from
+    → AreGrounded first ms → is_known_within first u ms x ≡ true
     → AreGrounded first (ms ++ map (marked u) (fresh_facts x s e from n))
 
 -- the nodes of which the alternatives of a branch speak
@@ -85,4 +94,5 @@ branch_nodes (Choose y c) = y ∷ []
 branch_nodes (Pair y z) = y ∷ z ∷ []
 
 abbrev pub AlternativesSpeakOfNodes : Type 0
-AlternativesSpeakOfNodes = (table : List Shape) (b : Branch) (n : ℕ) (f : Fact ℕ) → IsAlternative table b n f → named f ≡ branch_nodes b
+AlternativesSpeakOfNodes = (table : List Shape) (b : Branch) (n : ℕ) (f : Fact ℕ) → IsAlternative table b n f
+    → named f ≡ branch_nodes b

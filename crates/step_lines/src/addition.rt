@@ -22,7 +22,8 @@ fn line_of_and<S: State, R: Rules>(
     part: u32,
 ) -> Result<GroundedLine, NoMemory>
     requires { IsByAnd (R.context rules.now) (S.facts state.now) concept node part }
-    ensures { IfOk result (λ g. ServesAddition (R.context rules.now) (S.facts state.now) node part (line_of g.line) g.grounds.items) }
+    ensures { IfOk result
+        (λ g. ServesAddition (R.context rules.now) (S.facts state.now) node part (line_of g.line) g.grounds.items) }
 {
     rules.is_ready();
     let grounds = one_ground(alloc, Fact::Has(node, concept))?;
@@ -44,7 +45,8 @@ fn line_of_all<S: State, R: Rules>(
     filler: u32,
 ) -> Result<GroundedLine, NoMemory>
     requires { IsByAll (R.context rules.now) (S.facts state.now) from role concept node filler }
-    ensures { IfOk result (λ g. ServesAddition (R.context rules.now) (S.facts state.now) node filler (line_of g.line) g.grounds.items) }
+    ensures { IfOk result
+        (λ g. ServesAddition (R.context rules.now) (S.facts state.now) node filler (line_of g.line) g.grounds.items) }
 {
     rules.is_ready();
     let grounds = two_grounds(
@@ -71,7 +73,8 @@ fn line_of_carry<S: State, R: Rules>(
     carried: u32,
 ) -> Result<GroundedLine, NoMemory>
     requires { IsByCarry (R.context rules.now) (S.facts state.now) from role over concept node carried }
-    ensures { IfOk result (λ g. ServesAddition (R.context rules.now) (S.facts state.now) node carried (line_of g.line) g.grounds.items) }
+    ensures { IfOk result
+        (λ g. ServesAddition (R.context rules.now) (S.facts state.now) node carried (line_of g.line) g.grounds.items) }
 {
     rules.is_ready();
     let grounds = two_grounds(
@@ -97,8 +100,11 @@ pub fn line_of_addition<S: State, R: Rules>(
     addition: &Addition,
 ) -> Result<GroundedLine, NoMemory>
     requires one_first { S.first state.now ≡ (R.context rules.now).first }
-    requires reason { HasReason (R.context rules.now) (S.facts state.now) (R.files rules.now) addition.now.reason addition.now.node addition.now.concept }
-    ensures { IfOk result (λ g. ServesAddition (R.context rules.now) (S.facts state.now) addition.now.node addition.now.concept (line_of g.line) g.grounds.items) }
+    requires reason { HasReason (R.context rules.now) (S.facts state.now) (R.files rules.now) addition.now.reason
+        addition.now.node addition.now.concept }
+    ensures { IfOk result
+        (λ g. ServesAddition (R.context rules.now) (S.facts state.now) addition.now.node addition.now.concept
+        (line_of g.line) g.grounds.items) }
 {
     let node = addition.node;
     let given = addition.concept;

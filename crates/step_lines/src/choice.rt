@@ -1,7 +1,8 @@
 // The line of a choice.
 ghost use Rattle.std.specs.Prelude.{◌≡◌, IfOk};
 ghost use Rattle.refutation_tree.specs.RuleLine.{line_of};
-ghost use Rattle.tableau_specs.specs.declared.Branch.TheVariants.{Or as or_branch, Choose as choose_branch, Pair as pair_branch};
+ghost use Rattle.tableau_specs.specs.declared.Branch.TheVariants.{Or as or_branch, Choose as choose_branch};
+ghost use Rattle.tableau_specs.specs.declared.Branch.TheVariants.{Pair as pair_branch};
 ghost use Rattle.step_finders.specs.Choosing.{branch_of, HasGround, IsByUnion, IsByFiller, IsByPair};
 ghost use Rattle.step_lines.specs.Kinds.{ServesChoice};
 
@@ -21,7 +22,9 @@ fn line_of_union<S: State, R: Rules>(
     concept: u32,
 ) -> Result<GroundedLine, NoMemory>
     requires { IsByUnion (R.context rules.now) (S.facts state.now) node concept }
-    ensures { IfOk result (λ g. ServesChoice (R.context rules.now) (S.facts state.now) (or_branch node concept) (line_of g.line) g.grounds.items) }
+    ensures { IfOk result
+        (λ g. ServesChoice (R.context rules.now) (S.facts state.now) (or_branch node concept) (line_of g.line)
+        g.grounds.items) }
 {
     rules.is_ready();
     let grounds = one_ground(alloc, Fact::Has(node, concept))?;
@@ -43,7 +46,9 @@ fn line_of_filler<S: State, R: Rules>(
     concept: u32,
 ) -> Result<GroundedLine, NoMemory>
     requires { IsByFiller (R.context rules.now) (S.facts state.now) node filler from role concept }
-    ensures { IfOk result (λ g. ServesChoice (R.context rules.now) (S.facts state.now) (choose_branch node filler) (line_of g.line) g.grounds.items) }
+    ensures { IfOk result
+        (λ g. ServesChoice (R.context rules.now) (S.facts state.now) (choose_branch node filler) (line_of g.line)
+        g.grounds.items) }
 {
     rules.is_ready();
     let grounds = one_ground(alloc, Fact::Edge(role, from, node))?;
@@ -66,7 +71,9 @@ fn line_of_pair<S: State, R: Rules>(
     concept: u32,
 ) -> Result<GroundedLine, NoMemory>
     requires { IsByPair (R.context rules.now) (S.facts state.now) first second from first_role second_role concept }
-    ensures { IfOk result (λ g. ServesChoice (R.context rules.now) (S.facts state.now) (pair_branch first second) (line_of g.line) g.grounds.items) }
+    ensures { IfOk result
+        (λ g. ServesChoice (R.context rules.now) (S.facts state.now) (pair_branch first second) (line_of g.line)
+        g.grounds.items) }
 {
     rules.is_ready();
     let grounds = two_grounds(
@@ -92,7 +99,9 @@ pub fn line_of_choice<S: State, R: Rules>(
     choosing: &Choosing,
 ) -> Result<GroundedLine, NoMemory>
     requires { HasGround (R.context rules.now) (S.facts state.now) choosing.now }
-    ensures { IfOk result (λ g. ServesChoice (R.context rules.now) (S.facts state.now) (branch_of choosing.now) (line_of g.line) g.grounds.items) }
+    ensures { IfOk result
+        (λ g. ServesChoice (R.context rules.now) (S.facts state.now) (branch_of choosing.now) (line_of g.line)
+        g.grounds.items) }
 {
     match choosing {
         Choosing::Union { node, concept } => line_of_union(alloc, state, rules, *node, *concept),

@@ -21,7 +21,8 @@ fn line_of_bottom<S: State, R: Rules>(
     concept: u32,
 ) -> Result<GroundedLine, NoMemory>
     requires { HasBottom (R.context rules.now) (S.facts state.now) node concept }
-    ensures { IfOk result (λ g. ServesClash (R.context rules.now) (S.facts state.now) (line_of g.line) g.grounds.items) }
+    ensures { IfOk result
+        (λ g. ServesClash (R.context rules.now) (S.facts state.now) (line_of g.line) g.grounds.items) }
 {
     rules.is_ready();
     let grounds = one_ground(alloc, Fact::Has(node, concept))?;
@@ -41,7 +42,8 @@ fn line_of_both<S: State, R: Rules>(
     complement: u32,
 ) -> Result<GroundedLine, NoMemory>
     requires { HasBoth (R.context rules.now) (S.facts state.now) node class complement }
-    ensures { IfOk result (λ g. ServesClash (R.context rules.now) (S.facts state.now) (line_of g.line) g.grounds.items) }
+    ensures { IfOk result
+        (λ g. ServesClash (R.context rules.now) (S.facts state.now) (line_of g.line) g.grounds.items) }
 {
     rules.is_ready();
     let grounds = two_grounds(alloc, Fact::Has(node, class), Fact::Has(node, complement))?;
@@ -60,7 +62,8 @@ fn line_of_differ<S: State, R: Rules>(
     second: u32,
 ) -> Result<GroundedLine, NoMemory>
     requires { HasDiffer (R.context rules.now) (S.facts state.now) first second }
-    ensures { IfOk result (λ g. ServesClash (R.context rules.now) (S.facts state.now) (line_of g.line) g.grounds.items) }
+    ensures { IfOk result
+        (λ g. ServesClash (R.context rules.now) (S.facts state.now) (line_of g.line) g.grounds.items) }
 {
     rules.is_ready();
     let grounds = two_grounds(alloc, Fact::Apart(first, second), Fact::Same(first, second))?;
@@ -82,7 +85,8 @@ pub fn line_of_clash<S: State, R: Rules>(
     clash: &Clash,
 ) -> Result<GroundedLine, NoMemory>
     requires { IsShown (R.context rules.now) (S.facts state.now) clash.now }
-    ensures { IfOk result (λ g. ServesClash (R.context rules.now) (S.facts state.now) (line_of g.line) g.grounds.items) }
+    ensures { IfOk result
+        (λ g. ServesClash (R.context rules.now) (S.facts state.now) (line_of g.line) g.grounds.items) }
 {
     match clash {
         Clash::Bottom { node, concept } => line_of_bottom(alloc, state, rules, *node, *concept),

@@ -21,7 +21,9 @@ pub fn line_of_given<R: Rules>(
     given: &Given,
 ) -> Result<GroundedLine, NoMemory>
     requires { IsGivenAt (R.context rules.now) given.now }
-    ensures { IfOk result (λ g. (fs : List (PlainFact ℕ)) → ServesGiven (R.context rules.now) fs given.now (line_of g.line) g.grounds.items) }
+    ensures { IfOk result
+        (λ g. (fs : List (PlainFact ℕ))
+        → ServesGiven (R.context rules.now) fs given.now (line_of g.line) g.grounds.items) }
 {
     rules.is_ready();
     Ok(GroundedLine {

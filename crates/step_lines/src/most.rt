@@ -29,7 +29,8 @@ fn many_ends<S: State, R: Rules>(
     role: u32,
     filler: u32,
 ) -> Result<Vec<u32>, NoMemory>
-    requires { let w = R.context rules.now in IsOverrun w.first (below_of w) w.table (S.facts state.now) node concept count role filler }
+    requires { let w = R.context rules.now in
+        IsOverrun w.first (below_of w) w.table (S.facts state.now) node concept count role filler }
     ensures { IfOk result (λ v. AreMany (R.context rules.now) (S.facts state.now) node count role filler v.items) }
 {
     let mut ends = filled_successors(alloc, state, rules, node, role, filler)?;
@@ -39,7 +40,8 @@ fn many_ends<S: State, R: Rules>(
 
 // The role of an edge to the successor, below this one.
 fn role_of<S: State, R: Rules>(state: &S, rules: &R, node: u32, role: u32, end: u32) -> u32
-    requires { let w = R.context rules.now in is_successor (S.facts state.now) (λ r. below_of w r role) node end ≡ true }
+    requires { let w = R.context rules.now in
+        is_successor (S.facts state.now) (λ r. below_of w r role) node end ≡ true }
     ensures { IsRoleTo (R.context rules.now) (S.facts state.now) node role end result }
 {
     match role_to(state, rules, node, role, end) {
@@ -113,7 +115,8 @@ fn most_grounds(
     links: &[(u32, u32)],
     ends: &[u32],
 ) -> Result<Vec<Fact<u32>>, NoMemory>
-    ensures { IfOk result (λ v. v.items ≡ has_fact node concept ∷ (link_facts node filler links.now ++ apart_facts ends.now)) }
+    ensures { IfOk result
+        (λ v. v.items ≡ has_fact node concept ∷ (link_facts node filler links.now ++ apart_facts ends.now)) }
 {
     let mut grounds = Vec::new(alloc);
     grounds.push(Fact::Has(node, concept))?;
@@ -135,9 +138,11 @@ fn line_of_ends<S: State, R: Rules>(
     ends: &[u32],
 ) -> Result<GroundedLine, NoMemory>
     requires is_node { node < node_count_from (R.context rules.now).first (S.facts state.now) }
-    requires overrun { let w = R.context rules.now in IsOverrun w.first (below_of w) w.table (S.facts state.now) node concept count role filler }
+    requires overrun { let w = R.context rules.now in
+        IsOverrun w.first (below_of w) w.table (S.facts state.now) node concept count role filler }
     requires many { AreMany (R.context rules.now) (S.facts state.now) node count role filler ends.now }
-    ensures { IfOk result (λ g. ServesClash (R.context rules.now) (S.facts state.now) (line_of g.line) g.grounds.items) }
+    ensures { IfOk result
+        (λ g. ServesClash (R.context rules.now) (S.facts state.now) (line_of g.line) g.grounds.items) }
 {
     rules.is_ready();
     let links = links_to(alloc, state, rules, node, role, filler, ends)?;
@@ -161,8 +166,10 @@ fn line_of_overrun<S: State, R: Rules>(
     filler: u32,
 ) -> Result<GroundedLine, NoMemory>
     requires is_node { node < node_count_from (R.context rules.now).first (S.facts state.now) }
-    requires overrun { let w = R.context rules.now in IsOverrun w.first (below_of w) w.table (S.facts state.now) node concept count role filler }
-    ensures { IfOk result (λ g. ServesClash (R.context rules.now) (S.facts state.now) (line_of g.line) g.grounds.items) }
+    requires overrun { let w = R.context rules.now in
+        IsOverrun w.first (below_of w) w.table (S.facts state.now) node concept count role filler }
+    ensures { IfOk result
+        (λ g. ServesClash (R.context rules.now) (S.facts state.now) (line_of g.line) g.grounds.items) }
 {
     let ends = many_ends(alloc, state, rules, node, concept, count, role, filler)?;
     line_of_ends(
@@ -179,7 +186,8 @@ pub fn line_of_most<S: State, R: Rules>(
     concept: u32,
 ) -> Result<GroundedLine, NoMemory>
     requires { HasMost (R.context rules.now) (S.facts state.now) node concept }
-    ensures { IfOk result (λ g. ServesClash (R.context rules.now) (S.facts state.now) (line_of g.line) g.grounds.items) }
+    ensures { IfOk result
+        (λ g. ServesClash (R.context rules.now) (S.facts state.now) (line_of g.line) g.grounds.items) }
 {
     match rules.shape(concept) {
         Shape::Max(count, role, filler) => line_of_overrun(

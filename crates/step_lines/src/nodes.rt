@@ -36,7 +36,8 @@ pub fn line_of_new_nodes<S: State, R: Rules>(
 ) -> Result<GroundedLine, NoMemory>
     requires one_first { S.first state.now ≡ (R.context rules.now).first }
     requires making { IsMaking (R.context rules.now) (S.facts state.now) new.now }
-    ensures { IfOk result (λ g. ServesNewNodes (R.context rules.now) (S.facts state.now) new.now (line_of g.line) g.grounds.items) }
+    ensures { IfOk result
+        (λ g. ServesNewNodes (R.context rules.now) (S.facts state.now) new.now (line_of g.line) g.grounds.items) }
 {
     rules.is_ready();
     let grounds = one_ground(alloc, Fact::Has(new.parent, new.concept))?;

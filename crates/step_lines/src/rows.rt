@@ -28,7 +28,8 @@ pub fn line_of_general<S: State, R: Rules>(
 ) -> Result<GroundedLine, NoMemory>
     requires one_first { S.first state.now ≡ (R.context rules.now).first }
     requires by_row { IsByGeneral (R.context rules.now) (S.facts state.now) row node given }
-    ensures { IfOk result (λ g. ServesAddition (R.context rules.now) (S.facts state.now) node given (line_of g.line) g.grounds.items) }
+    ensures { IfOk result
+        (λ g. ServesAddition (R.context rules.now) (S.facts state.now) node given (line_of g.line) g.grounds.items) }
 {
     rules.is_ready();
     let grounds = node_grounds(alloc, state, rules, node)?;
@@ -50,7 +51,8 @@ pub fn line_of_begin<S: State, R: Rules>(
     given: u32,
 ) -> Result<GroundedLine, NoMemory>
     requires { IsByBegin (R.context rules.now) (S.facts state.now) role end row node given }
-    ensures { IfOk result (λ g. ServesAddition (R.context rules.now) (S.facts state.now) node given (line_of g.line) g.grounds.items) }
+    ensures { IfOk result
+        (λ g. ServesAddition (R.context rules.now) (S.facts state.now) node given (line_of g.line) g.grounds.items) }
 {
     rules.is_ready();
     let grounds = one_ground(alloc, Fact::Edge(role, node, end))?;
@@ -72,7 +74,8 @@ pub fn line_of_end<S: State, R: Rules>(
     given: u32,
 ) -> Result<GroundedLine, NoMemory>
     requires { IsByEnd (R.context rules.now) (S.facts state.now) from role row node given }
-    ensures { IfOk result (λ g. ServesAddition (R.context rules.now) (S.facts state.now) node given (line_of g.line) g.grounds.items) }
+    ensures { IfOk result
+        (λ g. ServesAddition (R.context rules.now) (S.facts state.now) node given (line_of g.line) g.grounds.items) }
 {
     rules.is_ready();
     let grounds = one_ground(alloc, Fact::Edge(role, from, node))?;
@@ -125,7 +128,8 @@ fn line_of_row<S: State, R: Rules>(
     requires named { IsNamed (R.context rules.now) row.now }
     requires waits { list_all (holds (S.facts state.now) node) row.now.waits ≡ true }
     requires gives { row.now.gives ≡ given }
-    ensures { IfOk result (λ g. ServesAddition (R.context rules.now) (S.facts state.now) node given (line_of g.line) g.grounds.items) }
+    ensures { IfOk result
+        (λ g. ServesAddition (R.context rules.now) (S.facts state.now) node given (line_of g.line) g.grounds.items) }
 {
     rules.is_ready();
     let mut grounds = first_grounds(alloc, state, rules, node, row.waits.items())?;
@@ -149,7 +153,8 @@ pub fn line_of_named<S: State, R: Rules>(
 ) -> Result<GroundedLine, NoMemory>
     requires one_first { S.first state.now ≡ (R.context rules.now).first }
     requires by_row { IsByNamed (R.context rules.now) (S.facts state.now) (R.files rules.now) concept place node given }
-    ensures { IfOk result (λ g. ServesAddition (R.context rules.now) (S.facts state.now) node given (line_of g.line) g.grounds.items) }
+    ensures { IfOk result
+        (λ g. ServesAddition (R.context rules.now) (S.facts state.now) node given (line_of g.line) g.grounds.items) }
 {
     let rows = rules.named(concept);
     line_of_row(alloc, state, rules, &rows[place], node, given)

@@ -1,8 +1,10 @@
 -- What a run shows of another query.
-use Rattle.std.proofs.Common.{◌≡◌, ℕ, zero, suc, ◌<◌, ◌&&◌, not, Bool, true, false, List, [], ◌∷◌, length, refl, ap, ◌∙◌, sym, subst, arith, inl, inr, eq-eqb}
+use Rattle.std.proofs.Common.{◌≡◌, ℕ, zero, suc, ◌<◌, ◌&&◌, not, Bool, true, false, List, [], ◌∷◌, length, refl, ap}
+use Rattle.std.proofs.Common.{◌∙◌, sym, subst, arith, inl, inr, eq-eqb}
 use Rattle.std.specs.Prelude.{◌==◌, Contains}
 use Rattle.std.specs.List.{list_any}
-use Rattle.std.proofs.lemmas.Bool.{and_parts, and_from, or_cases, or_left, or_right, or_parts, eqb-true, lt-ltb, not-true}
+use Rattle.std.proofs.lemmas.Bool.{and_parts, and_from, or_cases, or_left, or_right, or_parts, eqb-true, lt-ltb}
+use Rattle.std.proofs.lemmas.Bool.{not-true}
 use Rattle.std.proofs.lemmas.List.{append-nil}
 use Rattle.std.proofs.lemmas.List.Folds.{list_all-append}
 use Rattle.shq_terms.specs.Concept.{name}
@@ -29,22 +31,33 @@ use Rattle.seen_concepts.specs.Runs.{IsRun, was_ever, puts, puts_at, LeavesOut}
 use Rattle.seen_concepts.specs.ReuseLaws.{EndsSaturated, with_sup}
 use Rattle.seen_concepts.proofs.Answering.{one_run_answers_more}
 use Rattle.seen_concepts.proofs.Unnamed.{any_is_unnamed}
-use Rattle.seen_concepts.specs.Seen.{holds, class_of, complement_of, union_parts, is_one, is_complement, has_complement, gives_class, gives_complement, has_seen}
+use Rattle.seen_concepts.specs.Seen.{holds, class_of, complement_of, union_parts, is_one, is_complement, has_complement}
+use Rattle.seen_concepts.specs.Seen.{gives_class, gives_complement, has_seen}
 use Rattle.search_rules.specs.RuleLists.{AreNumbersOf}
-use Rattle.tableau.specs.SearchState.{SearchState, is_any, room_for, question_of, context_of, trail_of, IsReachedBy, HasRun}
+use Rattle.tableau.specs.SearchState.{SearchState, is_any, room_for, question_of, context_of, trail_of, IsReachedBy}
+use Rattle.tableau.specs.SearchState.{HasRun}
 use Rattle.tableau.specs.Steps.{IsAtModel, AsksForAny, LeavesClassOut, query_for, IsShownApart, AreLeftOut}
 
 -- the query for a listed class is within the limits
-query_in_limit : (o : Listed) (q : Query) (a : ℕ) → IsInLimit o q → a < length o.classes → IsInLimit o (record { sub = q.sub; sup = name a; on = Any })
+query_in_limit : (o : Listed) (q : Query) (a : ℕ) → IsInLimit o q → a < length o.classes
+    → IsInLimit o (record { sub = q.sub; sup = name a; on = Any })
 query_in_limit o q a h lt = record {
   ontology = h.ontology;
-  listed = and_from (uses_listed (length o.classes) (length o.roles) q.sub) _ (and_parts (uses_listed (length o.classes) (length o.roles) q.sub) (uses_listed (length o.classes) (length o.roles) q.sup) h.listed).0 (lt-ltb a (length o.classes) lt);
-  items = and_from (has_enough_parts q.sub) true (and_parts (has_enough_parts q.sub) (has_enough_parts q.sup) h.items).0 refl;
+  listed =
+      and_from (uses_listed (length o.classes) (length o.roles) q.sub) _
+      (and_parts (uses_listed (length o.classes) (length o.roles) q.sub)
+      (uses_listed (length o.classes) (length o.roles) q.sup) h.listed).0
+      (lt-ltb a (length o.classes) lt);
+  items =
+      and_from (has_enough_parts q.sub) true (and_parts (has_enough_parts q.sub) (has_enough_parts q.sup) h.items).0
+      refl;
   counts = and_from _ true (and_parts _ _ h.counts).0 refl;
   simple =
       ap (are_simple (all_role_axioms o.axioms)) (append-nil (counted_roles q.sub))
-      ∙ (and_parts (are_simple (all_role_axioms o.axioms) (counted_roles q.sub)) (are_simple (all_role_axioms o.axioms) (counted_roles q.sup))
-      (sym (list_all-append (is_simple (all_role_axioms o.axioms)) (counted_roles q.sub) (counted_roles q.sup)) ∙ h.simple)).0;
+      ∙ (and_parts (are_simple (all_role_axioms o.axioms) (counted_roles q.sub))
+      (are_simple (all_role_axioms o.axioms) (counted_roles q.sup))
+      (sym (list_all-append (is_simple (all_role_axioms o.axioms)) (counted_roles q.sub) (counted_roles q.sup))
+      ∙ h.simple)).0;
   on_listed = refl;
 }
 
@@ -75,7 +88,8 @@ module _ (at : ℕ) (table : List Shape) (a c : ℕ) where
   gives_there sh (Has x d) h =
       let t = and_parts (x == at) (d == c) h in
       and_from (x == at) (is_one a (class_of (shape_of table d))) t.0
-      (ap (λ (n : ℕ). is_one a (class_of (shape_of table n))) (eqb-true d c t.1) ∙ ap (λ (s : Shape). is_one a (class_of s)) sh ∙ eq-eqb a a refl)
+      (ap (λ (n : ℕ). is_one a (class_of (shape_of table n))) (eqb-true d c t.1)
+      ∙ ap (λ (s : Shape). is_one a (class_of s)) sh ∙ eq-eqb a a refl)
   gives_there sh (Edge r x y) h = h
   gives_there sh (Apart y z) h = h
   gives_there sh (Same y z) h = h
@@ -85,12 +99,14 @@ module _ (at : ℕ) (table : List Shape) (a c : ℕ) where
 
   gives_anywhere : shape_of table c ≡ not_name a → (f : Fact ℕ) → puts c f ≡ true → gives_complement at table a f ≡ true
   gives_anywhere sh (Has x d) h =
-      or_left (is_complement table a d) (x == at && has_complement table a (union_parts (shape_of table d))) (ap (is_complement table a) (eqb-true d c h) ∙ complement_is sh)
+      or_left (is_complement table a d) (x == at && has_complement table a (union_parts (shape_of table d)))
+      (ap (is_complement table a) (eqb-true d c h) ∙ complement_is sh)
   gives_anywhere sh (Edge r x y) h = h
   gives_anywhere sh (Apart y z) h = h
   gives_anywhere sh (Same y z) h = h
 
-  gives_in_union : (d : ℕ) (parts : List ℕ) → shape_of table d ≡ union parts → Contains parts c → shape_of table c ≡ not_name a → (f : Fact ℕ) → puts_at at d f ≡ true → gives_complement at table a f ≡ true
+  gives_in_union : (d : ℕ) (parts : List ℕ) → shape_of table d ≡ union parts → Contains parts c
+      → shape_of table c ≡ not_name a → (f : Fact ℕ) → puts_at at d f ≡ true → gives_complement at table a f ≡ true
   gives_in_union d parts is part sh (Has x e) h =
       let t = and_parts (x == at) (e == d) h in
       let has : has_complement table a (union_parts (shape_of table e)) ≡ true =
@@ -113,7 +129,8 @@ asks_for_any s on alone = record { on_any = on; sub_alone = alone }
 room_is : (count : ℕ) (s : SearchState) → AsksForAny s → room_for count s.query.on s.not_sup ≡ count
 room_is count s any = λ i. room_for count (any.on_any i) (any.sub_alone i)
 
-left_out : (s : SearchState) (run : HasRun s) (a : ℕ) → a < length s.rules.ontology.classes → LeavesClassOut s a → LeavesOut (question_of s).at s.rules.table (trail_of s ∷ run.earlier) a
+left_out : (s : SearchState) (run : HasRun s) (a : ℕ) → a < length s.rules.ontology.classes → LeavesClassOut s a
+    → LeavesOut (question_of s).at s.rules.table (trail_of s ∷ run.earlier) a
 left_out s run a lt out =
     let at = (question_of s).at in
     let table = s.rules.table in
@@ -124,47 +141,82 @@ left_out s run a lt out =
     let node_lt : a < s.seen.at_node.limit = omega (arith, lt, whole, run.are_over.node_limit) in
     let complements_lt : a < s.seen.complements.limit = omega (arith, lt, whole, run.are_over.complements_limit) in
     let no_class : was_ever (gives_class at table a) all ≡ false = sym (run.are_seen.at_node a node_lt) ∙ unseen.0 in
-    let no_complement : was_ever (gives_complement at table a) all ≡ false = sym (run.are_seen.complements a complements_lt) ∙ unseen.1 in
+    let no_complement : was_ever (gives_complement at table a) all ≡ false =
+    sym (run.are_seen.complements a complements_lt) ∙ unseen.1 in
     record {
-      class_is_not_there = λ c ever sh. (let k = ever_more (puts_at at c) (gives_class at table a) (gives_there at table a c sh) all ever in cc);
+      class_is_not_there =
+          λ c ever sh. (let k =
+          ever_more (puts_at at c) (gives_class at table a) (gives_there at table a c sh) all ever in
+          cc);
       unions_there_lack_complement = λ c d parts ever is part sh.
-          (let k = ever_more (puts_at at c) (gives_complement at table a) (gives_in_union at table a d c parts is part sh) all ever in cc);
-      complement_is_never_put = λ c ever sh. (let k = ever_more (puts c) (gives_complement at table a) (gives_anywhere at table a c sh) all ever in cc);
+          (let k =
+          ever_more (puts_at at c) (gives_complement at table a) (gives_in_union at table a d c parts is part sh) all
+          ever in
+          cc);
+      complement_is_never_put =
+          λ c ever sh. (let k =
+          ever_more (puts c) (gives_complement at table a) (gives_anywhere at table a c sh) all ever in
+          cc);
     }
 
 -- the query for a class asks the same of the same node, and more
-asks_more : (s : SearchState) (a : ℕ) → AsksForAny s → (k : ℕ) → EndsSaturated (with_sup (question_of s) (name a)) k → EndsSaturated (question_in s.rules.ontology (member_list s.rules.set) (query_for s a)) k
-asks_more s a any k h = subst (λ (on : On). EndsSaturated (question_in s.rules.ontology (member_list s.rules.set) (record { sub = s.query.sub; sup = name a; on = on })) k) any.on_any h
+asks_more : (s : SearchState) (a : ℕ) → AsksForAny s → (k : ℕ) → EndsSaturated (with_sup (question_of s) (name a)) k
+    → EndsSaturated (question_in s.rules.ontology (member_list s.rules.set) (query_for s a)) k
+asks_more s a any k h =
+    subst (λ (on : On). EndsSaturated
+    (question_in s.rules.ontology (member_list s.rules.set) (record { sub = s.query.sub; sup = name a; on = on })) k)
+    any.on_any h
 
-module _ (s : SearchState) (a : ℕ) (limit : IsInLimit s.rules.ontology s.query) (numbers : AreNumbersOf s.rules s.query s.sub s.not_sup) (reached : IsReachedBy s) (run : HasRun s) (model : IsAtModel s)
+module _ (s : SearchState) (a : ℕ) (limit : IsInLimit s.rules.ontology s.query)
+    (numbers : AreNumbersOf s.rules s.query s.sub s.not_sup) (reached : IsReachedBy s) (run : HasRun s)
+    (model : IsAtModel s)
     (lt : a < length s.rules.ontology.classes) (out : LeavesClassOut s a) where
   abbrev asked : Question
   asked = question_of s
 
   ends : EndsSaturated (question_in s.rules.ontology (member_list s.rules.set) (query_for s a)) s.steps
   ends =
-      let unnamed = any_is_unnamed (length s.rules.ontology.individuals) s.rules.ontology.axioms (member_list s.rules.set) s.query out.asks_for_any.on_any in
+      let unnamed =
+      any_is_unnamed (length s.rules.ontology.individuals) s.rules.ontology.axioms (member_list s.rules.set) s.query
+      out.asks_for_any.on_any in
       asks_more s a out.asks_for_any s.steps
-      (one_run_answers_more asked s.rules.table (context_of s).rows s.sub s.steps a (trail_of s) run.earlier reached.is_table reached.is_choice reached.facts_have_numbers reached.at_first unnamed numbers.sub_listed numbers.sub_is
-      (subst (λ (n : ℕ). IsRun (context_of s) (start asked.at s.sub n) (trail_of s ∷ run.earlier)) out.asks_for_any.sub_alone run.is_run) run.counted model.is_saturated (left_out s run a lt out))
+      (one_run_answers_more asked s.rules.table (context_of s).rows s.sub s.steps a (trail_of s) run.earlier
+      reached.is_table reached.is_choice reached.facts_have_numbers reached.at_first unnamed numbers.sub_listed
+      numbers.sub_is
+      (subst (λ (n : ℕ). IsRun (context_of s) (start asked.at s.sub n) (trail_of s ∷ run.earlier))
+      out.asks_for_any.sub_alone run.is_run)
+      run.counted model.is_saturated (left_out s run a lt out))
 
   shown_apart : IsShownApart s a
   shown_apart = record {
     follows_not =
-        saturated_does_not_entail s.rules.ontology (member_list s.rules.set) (query_for s a) ends.table ends.rows s.steps ends.trail (query_in_limit s.rules.ontology s.query a limit lt)
+        saturated_does_not_entail s.rules.ontology (member_list s.rules.set) (query_for s a) ends.table ends.rows
+        s.steps ends.trail (query_in_limit s.rules.ontology s.query a limit lt)
         ends.reached ends.is_saturated;
-    cost = record { table = ends.table; rows = ends.rows; trail = ends.trail; reached = ends.reached; ends = inl ends.is_saturated };
+    cost = record {
+      table = ends.table;
+      rows = ends.rows;
+      trail = ends.trail;
+      reached = ends.reached;
+      ends = inl ends.is_saturated;
+    };
   }
 
 -- ---- all classes at once
 
-pub left_out_classes : (s : SearchState) → IsInLimit s.rules.ontology s.query → AreNumbersOf s.rules s.query s.sub s.not_sup → IsReachedBy s → (run : HasRun s) → IsAtModel s → AsksForAny s → (classes : Limited)
-    → classes.limit ≡ s.seen.at_node.limit → ((a : ℕ) → a < s.seen.at_node.limit → holds classes a ≡ not (has_seen s.seen a)) → AreLeftOut s classes
+pub left_out_classes : (s : SearchState) → IsInLimit s.rules.ontology s.query
+    → AreNumbersOf s.rules s.query s.sub s.not_sup → IsReachedBy s → (run : HasRun s) → IsAtModel s → AsksForAny s
+    → (classes : Limited)
+    → classes.limit ≡ s.seen.at_node.limit
+    → ((a : ℕ) → a < s.seen.at_node.limit → holds classes a ≡ not (has_seen s.seen a)) → AreLeftOut s classes
 left_out_classes s limit numbers reached run model any classes limit_is are =
     let count = length s.rules.ontology.classes in
     let whole : s.seen.at_node.limit ≡ count = run.are_over.node_limit ∙ room_is count s any in
     let out : (a : ℕ) → a < count → holds classes a ≡ true → LeavesClassOut s a =
-    λ a lt h. record { asks_for_any = any; is_unseen = not-true (has_seen s.seen a) (sym (are a (omega (arith, lt, whole))) ∙ h) } in
+    λ a lt h. record {
+      asks_for_any = any;
+      is_unseen = not-true (has_seen s.seen a) (sym (are a (omega (arith, lt, whole))) ∙ h);
+    } in
     record {
       limit_is = limit_is ∙ whole;
       exact = λ a lt. (out a lt, λ o. are a (omega (arith, lt, whole)) ∙ ap not o.is_unseen);

@@ -1,5 +1,6 @@
 -- What a search keeps.
-use Rattle.std.proofs.Common.{◌≡◌, ℕ, suc, ◌+◌, ◌<◌, Bool, true, false, cond, not, List, [], ◌∷◌, length, refl, sym, ap, subst, ◌∙◌, arith}
+use Rattle.std.proofs.Common.{◌≡◌, ℕ, suc, ◌+◌, ◌<◌, Bool, true, false, cond, not, List, [], ◌∷◌, length, refl, sym, ap}
+use Rattle.std.proofs.Common.{subst, ◌∙◌, arith}
 use Rattle.shq_terms.specs.declared.axioms.On.{On}
 use Rattle.shq_terms.specs.declared.axioms.On.TheVariants.{Any, Individual}
 use Rattle.shq_terms.specs.declared.axioms.Query.{Query}
@@ -26,13 +27,15 @@ use Rattle.search_state.specs.declared.stepping.Stepped.{Stepped}
 use Rattle.search_state.specs.declared.stepping.Stepped.TheVariants.{Closed as StepClosed}
 use Rattle.search_state.specs.declared.stepping.Rested.{Rested}
 use Rattle.search_state.specs.declared.stepping.Rested.TheVariants.{Closed as RestClosed}
-use Rattle.tableau.specs.SearchState.{SearchState, room_for, context_of, trail_of, IsReachedBy, HasRun, HasAllBlocks, IsSameSearch}
+use Rattle.tableau.specs.SearchState.{SearchState, room_for, context_of, trail_of, IsReachedBy, HasRun, HasAllBlocks}
+use Rattle.tableau.specs.SearchState.{IsSameSearch}
 use Rattle.tableau.specs.Steps.{Refutes, Stays, IsAtRefutation, IsEvent, IsEnd, Runs}
 use Rattle.tableau.specs.declared.search.Event.{Event}
 use Rattle.tableau.specs.declared.search.Event.TheVariants.{Moved, Saturated, Closed}
 use Rattle.tableau.specs.declared.search.End.{End}
 use Rattle.tableau.specs.declared.search.End.TheVariants.{Saturated as RunSaturated, Closed as RunClosed, Spent}
-use Rattle.tableau.specs.Inside.{IsProgressOf, IsKept, IsAtQuestion, IsClosing, HasClosed, IsAdvanced, HasNotedNew, IsNotedAfter, IsSettled, IsHalted, IsWalked, goes_on, is_spent}
+use Rattle.tableau.specs.Inside.{IsProgressOf, IsKept, IsAtQuestion, IsClosing, HasClosed, IsAdvanced, HasNotedNew}
+use Rattle.tableau.specs.Inside.{IsNotedAfter, IsSettled, IsHalted, IsWalked, goes_on, is_spent}
 use Rattle.tableau.proofs.Reached.{standing_is_reached}
 use Rattle.tableau.proofs.Seen.{over_after, seen_after}
 
@@ -55,17 +58,23 @@ state rules query sub not_sup p seen steps ended failed = record {
   failed = failed;
 }
 
-module _ (rules : RuleLists) (query : Query) (sub not_sup : ℕ) (p : ProgressLists) (seen : SeenSets) (steps : ℕ) (query_is : p.query ≡ query)
+module _ (rules : RuleLists) (query : Query) (sub not_sup : ℕ) (p : ProgressLists) (seen : SeenSets) (steps : ℕ)
+    (query_is : p.query ≡ query)
     (at_is : p.at ≡ (asked rules query).at) (steps_is : p.steps ≡ steps) where
-  pub reached_by : IsStanding (context_in rules) p → (ended failed : Bool) → IsReachedBy (state rules query sub not_sup p seen steps ended failed)
+  pub reached_by : IsStanding (context_in rules) p → (ended failed : Bool)
+      → IsReachedBy (state rules query sub not_sup p seen steps ended failed)
   reached_by h ended failed =
       let w = context_in rules in
       subst (λ (x : ℕ). IsReached (asked_of w query x) w.table w.rows steps (items_of p.entries)) at_is
       (subst (λ (q : Query). IsReached (asked_of w q p.at) w.table w.rows steps (items_of p.entries)) query_is
-      (subst (λ (k : ℕ). IsReached (asked_by w p) w.table w.rows k (items_of p.entries)) steps_is (standing_is_reached w p h)))
+      (subst (λ (k : ℕ). IsReached (asked_by w p) w.table w.rows k (items_of p.entries)) steps_is
+      (standing_is_reached w p h)))
 
-  pub searching_is_kept : IsInLimit rules.ontology query → rules.set.limit ≡ length rules.ontology.axioms → AreNumbersOf rules query sub not_sup → p.sub ≡ sub → p.not_sup ≡ not_sup
-      → IsSearching (context_in rules) p → (ended failed : Bool) → HasRun (state rules query sub not_sup p seen steps ended failed) → IsKept (state rules query sub not_sup p seen steps ended failed) p
+  pub searching_is_kept : IsInLimit rules.ontology query → rules.set.limit ≡ length rules.ontology.axioms
+      → AreNumbersOf rules query sub not_sup → p.sub ≡ sub → p.not_sup ≡ not_sup
+      → IsSearching (context_in rules) p → (ended failed : Bool)
+      → HasRun (state rules query sub not_sup p seen steps ended failed)
+      → IsKept (state rules query sub not_sup p seen steps ended failed) p
   searching_is_kept limit set numbers s n h ended failed run = record {
     in_limit = limit;
     set = set;
@@ -79,7 +88,9 @@ module _ (rules : RuleLists) (query : Query) (sub not_sup : ℕ) (p : ProgressLi
   }
 
 -- what a search for the query needs
-pub is_asked : (rules : RuleLists) (query : Query) (sub not_sup : ℕ) → IsReady rules → IsChoice (theory_in rules) rules.table (context_in rules).rows → IsInLimit rules.ontology query → AreNumbersOf rules query sub not_sup
+pub is_asked : (rules : RuleLists) (query : Query) (sub not_sup : ℕ) → IsReady rules
+    → IsChoice (theory_in rules) rules.table (context_in rules).rows → IsInLimit rules.ontology query
+    → AreNumbersOf rules query sub not_sup
     → IsAsked (context_in rules) query (asked rules query).at sub not_sup
 is_asked rules query sub not_sup ready chosen limit numbers = record {
   is_table = ready.tabled;
@@ -101,20 +112,27 @@ is_asked rules query sub not_sup ready chosen limit numbers = record {
 
 -- the progress asks of the node that its query asks of
 pub is_at_question : (s : SearchState) (p : ProgressLists) → IsProgressOf s p → IsAtQuestion s.rules p
-is_at_question s p is = is.at ∙ ap (λ (q : Query). node_in_question (length s.rules.ontology.individuals) q.on) (sym is.query)
+is_at_question s p is =
+    is.at ∙ ap (λ (q : Query). node_in_question (length s.rules.ontology.individuals) q.on) (sym is.query)
 
-pub begun_is_kept : (rules : RuleLists) (query : Query) (sub not_sup : ℕ) (p : ProgressLists) (seen : SeenSets) → IsInLimit rules.ontology query → rules.set.limit ≡ length rules.ontology.axioms
-    → AreNumbersOf rules query sub not_sup → HasBegun (context_in rules) p → p.query ≡ query → p.at ≡ (asked rules query).at → p.sub ≡ sub → p.not_sup ≡ not_sup
-    → AreOver (room_for (length rules.ontology.classes) query.on not_sup) seen → AreSeenIn (asked rules query).at rules.table (items_of p.entries ∷ []) seen
+pub begun_is_kept : (rules : RuleLists) (query : Query) (sub not_sup : ℕ) (p : ProgressLists) (seen : SeenSets)
+    → IsInLimit rules.ontology query → rules.set.limit ≡ length rules.ontology.axioms
+    → AreNumbersOf rules query sub not_sup → HasBegun (context_in rules) p → p.query ≡ query
+    → p.at ≡ (asked rules query).at → p.sub ≡ sub → p.not_sup ≡ not_sup
+    → AreOver (room_for (length rules.ontology.classes) query.on not_sup) seen
+    → AreSeenIn (asked rules query).at rules.table (items_of p.entries ∷ []) seen
     → IsKept (state rules query sub not_sup p seen 0 false false) p
 begun_is_kept rules query sub not_sup p seen limit set numbers h q at_is s n over seen_is =
-    let first : items_of p.entries ≡ start (asked rules query).at sub not_sup = h.trail_is ∙ (λ i. start (at_is i) (s i) (n i)) in
-    searching_is_kept rules query sub not_sup p seen 0 q at_is h.no_steps limit set numbers s n h.is_searching false false
+    let first : items_of p.entries ≡ start (asked rules query).at sub not_sup =
+    h.trail_is ∙ (λ i. start (at_is i) (s i) (n i)) in
+    searching_is_kept rules query sub not_sup p seen 0 q at_is h.no_steps limit set numbers s n h.is_searching false
+    false
     (record { earlier = []; is_run = first; counted = refl; are_over = over; are_seen = seen_is })
 
 -- ---- closing
 
-pub closing_from : (rules : RuleLists) (old mid : ProgressLists) → IsInLimit rules.ontology old.query → rules.set.limit ≡ length rules.ontology.axioms → IsAtQuestion rules old → IsSearching (context_in rules) old
+pub closing_from : (rules : RuleLists) (old mid : ProgressLists) → IsInLimit rules.ontology old.query
+    → rules.set.limit ≡ length rules.ontology.axioms → IsAtQuestion rules old → IsSearching (context_in rules) old
     → IsClosed (context_in rules) old mid → IsClosing rules mid
 closing_from rules old mid limit set at searching h =
     let w = context_in rules in
@@ -127,20 +145,27 @@ closing_from rules old mid limit set at searching h =
           (subst (λ (n : ℕ). IsAsked w mid.query mid.at n old.not_sup) (sym same.sub)
           (subst (λ (n : ℕ). IsAsked w mid.query n old.sub old.not_sup) (sym same.at)
           (subst (λ (q : Query). IsAsked w q old.at old.sub old.not_sup) (sym same.query) searching.standing.asked)));
-      at_is = same.at ∙ at ∙ ap (λ (q : Query). node_in_question (length rules.ontology.individuals) q.on) (sym same.query);
+      at_is =
+          same.at ∙ at ∙ ap (λ (q : Query). node_in_question (length rules.ontology.individuals) q.on) (sym same.query);
       closes = h.closes;
       fit = h.fit;
     }
 
-pub step_closing : (rules : RuleLists) (old mid : ProgressLists) → IsInLimit rules.ontology old.query → rules.set.limit ≡ length rules.ontology.axioms → IsAtQuestion rules old → IsSearching (context_in rules) old
+pub step_closing : (rules : RuleLists) (old mid : ProgressLists) → IsInLimit rules.ontology old.query
+    → rules.set.limit ≡ length rules.ontology.axioms → IsAtQuestion rules old → IsSearching (context_in rules) old
     → (s : Stepped) → s ≡ StepClosed → IsStepped (context_in rules) old mid s → IsClosing rules mid
-step_closing rules old mid limit set at searching s is h = closing_from rules old mid limit set at searching (subst (IsStepped (context_in rules) old mid) is h)
+step_closing rules old mid limit set at searching s is h =
+    closing_from rules old mid limit set at searching (subst (IsStepped (context_in rules) old mid) is h)
 
-pub rest_closing : (rules : RuleLists) (old mid : ProgressLists) → IsInLimit rules.ontology old.query → rules.set.limit ≡ length rules.ontology.axioms → IsAtQuestion rules old → IsSearching (context_in rules) old
+pub rest_closing : (rules : RuleLists) (old mid : ProgressLists) → IsInLimit rules.ontology old.query
+    → rules.set.limit ≡ length rules.ontology.axioms → IsAtQuestion rules old → IsSearching (context_in rules) old
     → (s : Rested) → s ≡ RestClosed → IsRested (context_in rules) old mid s → IsClosing rules mid
-rest_closing rules old mid limit set at searching s is h = closing_from rules old mid limit set at searching (subst (IsRested (context_in rules) old mid) is h)
+rest_closing rules old mid limit set at searching s is h =
+    closing_from rules old mid limit set at searching (subst (IsRested (context_in rules) old mid) is h)
 
-has_closed : (rules : RuleLists) (old mid new : ProgressLists) (r : RefutationLists) → IsClosed (context_in rules) old mid → new ≡ record mid { trace = begun } → Refutes rules mid.query r → HasClosed rules r old new
+has_closed : (rules : RuleLists) (old mid new : ProgressLists) (r : RefutationLists)
+    → IsClosed (context_in rules) old mid → new ≡ record mid { trace = begun } → Refutes rules mid.query r
+    → HasClosed rules r old new
 has_closed rules old mid new r h left refutes =
     subst (λ (p : ProgressLists). HasClosed rules r old p) (sym left) (record {
       entries = h.entries;
@@ -151,23 +176,29 @@ has_closed rules old mid new r h left refutes =
       refutes = subst (λ (q : Query). Refutes rules q r) h.same.query refutes;
     })
 
-pub step_closed : (rules : RuleLists) (old mid new : ProgressLists) (r : RefutationLists) (s : Stepped) → s ≡ StepClosed → IsStepped (context_in rules) old mid s → new ≡ record mid { trace = begun } → Refutes rules mid.query r
+pub step_closed : (rules : RuleLists) (old mid new : ProgressLists) (r : RefutationLists) (s : Stepped) → s ≡ StepClosed
+    → IsStepped (context_in rules) old mid s → new ≡ record mid { trace = begun } → Refutes rules mid.query r
     → HasClosed rules r old new
-step_closed rules old mid new r s is h left refutes = has_closed rules old mid new r (subst (IsStepped (context_in rules) old mid) is h) left refutes
+step_closed rules old mid new r s is h left refutes =
+    has_closed rules old mid new r (subst (IsStepped (context_in rules) old mid) is h) left refutes
 
-pub rest_closed : (rules : RuleLists) (old mid new : ProgressLists) (r : RefutationLists) (s : Rested) → s ≡ RestClosed → IsRested (context_in rules) old mid s → new ≡ record mid { trace = begun } → Refutes rules mid.query r
+pub rest_closed : (rules : RuleLists) (old mid new : ProgressLists) (r : RefutationLists) (s : Rested) → s ≡ RestClosed
+    → IsRested (context_in rules) old mid s → new ≡ record mid { trace = begun } → Refutes rules mid.query r
     → HasClosed rules r old new
-rest_closed rules old mid new r s is h left refutes = has_closed rules old mid new r (subst (IsRested (context_in rules) old mid) is h) left refutes
+rest_closed rules old mid new r s is h left refutes =
+    has_closed rules old mid new r (subst (IsRested (context_in rules) old mid) is h) left refutes
 
 -- ---- blocks
 
-pub advanced_first : (rules : RuleLists) (old new : ProgressLists) (e : Event) → IsAdvanced rules old new e → AreFirstBlocks new.first (facts_in new.entries) new.prints
+pub advanced_first : (rules : RuleLists) (old new : ProgressLists) (e : Event) → IsAdvanced rules old new e
+    → AreFirstBlocks new.first (facts_in new.entries) new.prints
 advanced_first rules old new Moved h = h.1.standing.blocks
 advanced_first rules old new Saturated h = followed_first old new h.0
 advanced_first rules old new (Closed r) h = h.blocks
 
 -- a step after which the blocks of all nodes were found
-module _ (rules : RuleLists) (old mid new : ProgressLists) (h : HasFollowed mid new) (first : AreFirstBlocks new.first (facts_in new.entries) new.prints) where
+module _ (rules : RuleLists) (old mid new : ProgressLists) (h : HasFollowed mid new)
+    (first : AreFirstBlocks new.first (facts_in new.entries) new.prints) where
   abbrev w : SearchContext
   w = context_in rules
 
@@ -188,13 +219,17 @@ module _ (rules : RuleLists) (old mid new : ProgressLists) (h : HasFollowed mid 
         not_sup = ap (λ (q : ProgressLists). q.not_sup) h.same ∙ a.0.same.not_sup;
       };
       standing = still_stands w mid new h.same first a.0.standing;
-      is_legal = subst (λ (es : List Entry). IsLegal w (items_of old.entries) (items_of es)) (sym entries_are) a.0.is_legal;
+      is_legal =
+          subst (λ (es : List Entry). IsLegal w (items_of old.entries) (items_of es)) (sym entries_are) a.0.is_legal;
       counted = steps_are ∙ a.0.counted;
     },
     still_searches w mid new h.same first a.1,
   )
   followed_advanced Saturated a = (
-    record { same = h.same ∙ ap (λ (q : ProgressLists). record q { prints = new.prints }) a.0.same; current = h.current },
+    record {
+      same = h.same ∙ ap (λ (q : ProgressLists). record q { prints = new.prints }) a.0.same;
+      current = h.current;
+    },
     subst (λ (es : List Entry). IsSaturated w (items_of es)) (sym entries_are) a.1,
   )
   followed_advanced (Closed r) a = record {
@@ -208,7 +243,8 @@ module _ (rules : RuleLists) (old mid new : ProgressLists) (h : HasFollowed mid 
 
 -- ---- one call
 
-module _ (rules : RuleLists) (query : Query) (sub not_sup : ℕ) (p p' : ProgressLists) (seen seen' : SeenSets) (steps steps' : ℕ) (ended failed : Bool) where
+module _ (rules : RuleLists) (query : Query) (sub not_sup : ℕ) (p p' : ProgressLists) (seen seen' : SeenSets)
+    (steps steps' : ℕ) (ended failed : Bool) where
   abbrev was : SearchState
   was = state rules query sub not_sup p seen steps ended failed
 
@@ -220,30 +256,39 @@ module _ (rules : RuleLists) (query : Query) (sub not_sup : ℕ) (p p' : Progres
     progress_is = kept.progress whole goes_still
 
     same_stays : IsSameButBlocks p p' → steps' ≡ p'.steps → (goes : Bool) → Stays was (now goes)
-    same_stays same counts goes = record { entries = ap (λ (q : ProgressLists). q.entries) same; steps = counts ∙ ap (λ (q : ProgressLists). q.steps) same ∙ progress_is.steps }
+    same_stays same counts goes = record {
+      entries = ap (λ (q : ProgressLists). q.entries) same;
+      steps = counts ∙ ap (λ (q : ProgressLists). q.steps) same ∙ progress_is.steps;
+    }
 
-    closed_stays : (r : RefutationLists) → HasClosed rules r p p' → steps' ≡ p'.steps → (goes : Bool) → Stays was (now goes)
+    closed_stays : (r : RefutationLists) → HasClosed rules r p p' → steps' ≡ p'.steps → (goes : Bool)
+        → Stays was (now goes)
     closed_stays r h counts goes = record { entries = h.entries; steps = counts ∙ h.steps ∙ progress_is.steps }
 
-    refuted : (r : RefutationLists) → HasClosed rules r p p' → (goes : Bool) → goes ≡ false → IsAtRefutation r (now goes)
+    refuted : (r : RefutationLists) → HasClosed rules r p p' → (goes : Bool) → goes ≡ false
+        → IsAtRefutation r (now goes)
     refuted r h goes is = record {
       has_clash = h.has_clash;
       refutes = subst (λ (q : Query). Refutes rules q r) progress_is.query h.refutes;
       ended = ap not is;
     }
 
-    pub event_is : (e : Event) → IsAdvanced rules p p' e → steps' ≡ p'.steps → (goes : Bool) → goes ≡ goes_on e → IsEvent was (now goes) e
+    pub event_is : (e : Event) → IsAdvanced rules p p' e → steps' ≡ p'.steps → (goes : Bool) → goes ≡ goes_on e
+        → IsEvent was (now goes) e
     event_is Moved h counts goes is = record {
       is_legal = h.0.is_legal;
       counted = counts ∙ h.0.counted ∙ ap (λ (n : ℕ). n + 1) progress_is.steps;
       goes_on = ap not is;
     }
-    event_is Saturated h counts goes is = (same_stays h.0.same counts goes, record { is_saturated = h.1; is_current = h.0.current; ended = ap not is })
+    event_is Saturated h counts goes is =
+        (same_stays h.0.same counts goes, record { is_saturated = h.1; is_current = h.0.current; ended = ap not is })
     event_is (Closed r) h counts goes is = (closed_stays r h counts goes, refuted r h goes is)
 
-    pub end_is : (e : End) → IsSettled rules p p' e → steps' ≡ p'.steps → (goes : Bool) → goes ≡ is_spent e → IsHalted was (now goes) e
+    pub end_is : (e : End) → IsSettled rules p p' e → steps' ≡ p'.steps → (goes : Bool) → goes ≡ is_spent e
+        → IsHalted was (now goes) e
     end_is Spent h counts goes is = (same_stays h.0 counts goes, ap not is, h.2.next, h.2.is_legal)
-    end_is RunSaturated h counts goes is = (same_stays h.0.same counts goes, record { is_saturated = h.1; is_current = h.0.current; ended = ap not is })
+    end_is RunSaturated h counts goes is =
+        (same_stays h.0.same counts goes, record { is_saturated = h.1; is_current = h.0.current; ended = ap not is })
     end_is (RunClosed r) h counts goes is = (closed_stays r h counts goes, refuted r h goes is)
 
     -- ---- what is kept after it
@@ -255,14 +300,23 @@ module _ (rules : RuleLists) (query : Query) (sub not_sup : ℕ) (p p' : Progres
         let run = kept.has_run whole in
         record {
           earlier = run.earlier;
-          is_run = subst (λ (es : List Entry). IsRun w (start (asked rules query).at sub not_sup) (items_of es ∷ run.earlier)) (sym entries) run.is_run;
+          is_run =
+              subst
+              (λ (es : List Entry). IsRun w (start (asked rules query).at sub not_sup) (items_of es ∷ run.earlier))
+              (sym entries) run.is_run;
           counted = run.counted ∙ sym steps_is;
-          are_over = subst (AreOver (room_for (length rules.ontology.classes) query.on not_sup)) (sym seen_is) run.are_over;
-          are_seen = subst (λ (es : List Entry). AreSeenIn (asked rules query).at rules.table (items_of es ∷ run.earlier) seen') (sym entries)
-              (subst (AreSeenIn (asked rules query).at rules.table (items_of p.entries ∷ run.earlier)) (sym seen_is) run.are_seen);
+          are_over =
+              subst (AreOver (room_for (length rules.ontology.classes) query.on not_sup)) (sym seen_is) run.are_over;
+          are_seen =
+              subst
+              (λ (es : List Entry). AreSeenIn (asked rules query).at rules.table (items_of es ∷ run.earlier) seen')
+              (sym entries)
+              (subst (AreSeenIn (asked rules query).at rules.table (items_of p.entries ∷ run.earlier)) (sym seen_is)
+              run.are_seen);
         }
 
-    stays_kept : p'.entries ≡ p.entries → p'.first ≡ p.first → AreFirstBlocks p'.first (facts_in p'.entries) p'.prints → seen' ≡ seen → steps' ≡ steps → (goes : Bool) → goes ≡ false → IsKept (now goes) p'
+    stays_kept : p'.entries ≡ p.entries → p'.first ≡ p.first → AreFirstBlocks p'.first (facts_in p'.entries) p'.prints
+        → seen' ≡ seen → steps' ≡ steps → (goes : Bool) → goes ≡ false → IsKept (now goes) p'
     stays_kept entries first_is first seen_is steps_is goes stops =
         let w = context_in rules in
         record {
@@ -271,8 +325,10 @@ module _ (rules : RuleLists) (query : Query) (sub not_sup : ℕ) (p p' : Progres
           numbers = kept.numbers;
           first_is = λ still. first_is ∙ kept.first_is whole;
           reached = λ still.
-              subst (λ (es : List Entry). IsReached (asked rules query) w.table w.rows steps' (items_of es)) (sym entries)
-              (subst (λ (k : ℕ). IsReached (asked rules query) w.table w.rows k (items_of p.entries)) (sym steps_is) (kept.reached whole));
+              subst (λ (es : List Entry). IsReached (asked rules query) w.table w.rows steps' (items_of es))
+              (sym entries)
+              (subst (λ (k : ℕ). IsReached (asked rules query) w.table w.rows k (items_of p.entries)) (sym steps_is)
+              (kept.reached whole));
           has_run = λ still. same_run entries seen_is steps_is goes;
           blocks = λ still. first;
           progress = λ still goes_again. absurd (ended_now goes stops goes_again);
@@ -284,40 +340,56 @@ module _ (rules : RuleLists) (query : Query) (sub not_sup : ℕ) (p p' : Progres
         ended_now false e h = cc
 
     -- nothing was done but to find blocks
-    rested_kept : IsSameButBlocks p p' → IsSearching (context_in rules) p' → seen' ≡ seen → steps' ≡ steps → (goes : Bool) → IsKept (now goes) p'
+    rested_kept : IsSameButBlocks p p' → IsSearching (context_in rules) p' → seen' ≡ seen → steps' ≡ steps
+        → (goes : Bool) → IsKept (now goes) p'
     rested_kept same h seen_is steps_is goes =
         let is = progress_is in
-        searching_is_kept rules query sub not_sup p' seen' steps' (ap (λ (q : ProgressLists). q.query) same ∙ is.query) (ap (λ (q : ProgressLists). q.at) same ∙ is.at)
+        searching_is_kept rules query sub not_sup p' seen' steps' (ap (λ (q : ProgressLists). q.query) same ∙ is.query)
+        (ap (λ (q : ProgressLists). q.at) same ∙ is.at)
         (ap (λ (q : ProgressLists). q.steps) same ∙ is.steps ∙ sym steps_is) kept.in_limit kept.set
-        kept.numbers (ap (λ (q : ProgressLists). q.sub) same ∙ is.sub) (ap (λ (q : ProgressLists). q.not_sup) same ∙ is.not_sup) h (not goes) false
+        kept.numbers (ap (λ (q : ProgressLists). q.sub) same ∙ is.sub)
+        (ap (λ (q : ProgressLists). q.not_sup) same ∙ is.not_sup) h (not goes) false
         (same_run (ap (λ (q : ProgressLists). q.entries) same) seen_is steps_is goes)
 
     -- a trail that has moved on
-    moved_kept : HasMoved (context_in rules) p p' → IsSearching (context_in rules) p' → HasNotedNew rules p.at (length p.entries) p'.entries seen seen' → steps' ≡ p'.steps → (goes : Bool) → IsKept (now goes) p'
+    moved_kept : HasMoved (context_in rules) p p' → IsSearching (context_in rules) p'
+        → HasNotedNew rules p.at (length p.entries) p'.entries seen seen' → steps' ≡ p'.steps → (goes : Bool)
+        → IsKept (now goes) p'
     moved_kept moved h noted counts goes =
         let is = progress_is in
         let run = kept.has_run whole in
-        searching_is_kept rules query sub not_sup p' seen' steps' (moved.same.query ∙ is.query) (moved.same.at ∙ is.at) (sym counts) kept.in_limit kept.set kept.numbers (moved.same.sub ∙ is.sub) (moved.same.not_sup ∙ is.not_sup) h
+        searching_is_kept rules query sub not_sup p' seen' steps' (moved.same.query ∙ is.query) (moved.same.at ∙ is.at)
+        (sym counts) kept.in_limit kept.set kept.numbers (moved.same.sub ∙ is.sub) (moved.same.not_sup ∙ is.not_sup) h
         (not goes) false
         (record {
           earlier = items_of p.entries ∷ run.earlier;
           is_run = (moved.is_legal, run.is_run);
           counted = omega (arith, run.counted, counts, moved.counted, is.steps);
-          are_over = over_after (room_for (length rules.ontology.classes) query.on not_sup) rules p.at (length p.entries) p'.entries seen seen' run.are_over noted;
-          are_seen = seen_after rules (asked rules query).at p.entries p'.entries run.earlier seen seen' moved.is_legal run.are_seen
+          are_over =
+              over_after (room_for (length rules.ontology.classes) query.on not_sup) rules p.at (length p.entries)
+              p'.entries seen seen' run.are_over noted;
+          are_seen =
+              seen_after rules (asked rules query).at p.entries p'.entries run.earlier seen seen' moved.is_legal
+              run.are_seen
               (subst (λ (x : ℕ). HasNotedNew rules x (length p.entries) p'.entries seen seen') is.at noted);
         })
 
-    pub stepped_kept : (e : Event) → IsAdvanced rules p p' e → IsNotedAfter rules p p' seen seen' e → steps' ≡ p'.steps → (goes : Bool) → goes ≡ goes_on e → IsKept (now goes) p'
+    pub stepped_kept : (e : Event) → IsAdvanced rules p p' e → IsNotedAfter rules p p' seen seen' e → steps' ≡ p'.steps
+        → (goes : Bool) → goes ≡ goes_on e → IsKept (now goes) p'
     stepped_kept Moved h noted counts goes is = moved_kept h.0 h.1 noted counts goes
     stepped_kept Saturated h noted counts goes is =
-        stays_kept (ap (λ (q : ProgressLists). q.entries) h.0.same) (ap (λ (q : ProgressLists). q.first) h.0.same) (followed_first p p' h.0) noted (counts ∙ ap (λ (q : ProgressLists). q.steps) h.0.same ∙ progress_is.steps) goes is
-    stepped_kept (Closed r) h noted counts goes is = stays_kept h.entries h.first h.blocks noted (counts ∙ h.steps ∙ progress_is.steps) goes is
+        stays_kept (ap (λ (q : ProgressLists). q.entries) h.0.same) (ap (λ (q : ProgressLists). q.first) h.0.same)
+        (followed_first p p' h.0) noted (counts ∙ ap (λ (q : ProgressLists). q.steps) h.0.same ∙ progress_is.steps) goes
+        is
+    stepped_kept (Closed r) h noted counts goes is =
+        stays_kept h.entries h.first h.blocks noted (counts ∙ h.steps ∙ progress_is.steps) goes is
 
-    pub settled_kept : (e : End) → IsSettled rules p p' e → seen' ≡ seen → steps' ≡ steps → (goes : Bool) → goes ≡ is_spent e → IsKept (now goes) p'
+    pub settled_kept : (e : End) → IsSettled rules p p' e → seen' ≡ seen → steps' ≡ steps → (goes : Bool)
+        → goes ≡ is_spent e → IsKept (now goes) p'
     settled_kept Spent h same counts goes is = rested_kept h.0 h.1 same counts goes
     settled_kept RunSaturated h same counts goes is =
-        stays_kept (ap (λ (q : ProgressLists). q.entries) h.0.same) (ap (λ (q : ProgressLists). q.first) h.0.same) (followed_first p p' h.0) same counts goes is
+        stays_kept (ap (λ (q : ProgressLists). q.entries) h.0.same) (ap (λ (q : ProgressLists). q.first) h.0.same)
+        (followed_first p p' h.0) same counts goes is
     settled_kept (RunClosed r) h same counts goes is = stays_kept h.entries h.first h.blocks same counts goes is
 
     -- what halts has made no step
@@ -327,7 +399,8 @@ module _ (rules : RuleLists) (query : Query) (sub not_sup : ℕ) (p p' : Progres
     halted_steps (RunClosed r) h = h.steps ∙ progress_is.steps
 
 -- an end, after which the blocks of all nodes were found
-pub followed_end : (fuel : ℕ) (a b c : SearchState) (e : End) → IsEnd fuel a b e → c ≡ record b { prints = c.prints } → HasAllBlocks c → IsEnd fuel a c e
+pub followed_end : (fuel : ℕ) (a b c : SearchState) (e : End) → IsEnd fuel a b e → c ≡ record b { prints = c.prints }
+    → HasAllBlocks c → IsEnd fuel a c e
 followed_end fuel a b c e h same current = subst (λ (s : SearchState). IsEnd fuel a s e) (sym same) (by_kind e h)
   where
     with_all : SearchState
@@ -346,7 +419,8 @@ followed_end fuel a b c e h same current = subst (λ (s : SearchState). IsEnd fu
       },
     )
     by_kind (RunClosed r) h = (runs h.0, record { has_clash = h.1.has_clash; refutes = h.1.refutes; ended = h.1.ended })
-    by_kind Spent h = (runs h.0, record { counted = h.1.counted; goes_on = h.1.goes_on; next = h.1.next; is_legal = h.1.is_legal })
+    by_kind Spent h =
+        (runs h.0, record { counted = h.1.counted; goes_on = h.1.goes_on; next = h.1.next; is_legal = h.1.is_legal })
 
 -- ---- several steps
 
@@ -356,29 +430,42 @@ none_run s = record { count = 0; follows = refl; counted = omega arith }
 pub one_more : (a b c : SearchState) → IsSameSearch a b → Runs a b → IsEvent b c Moved → Runs a c
 one_more a b c same runs moves = record {
   count = suc runs.count;
-  follows = (trail_of b, runs.follows, subst (λ (rules : RuleLists). IsLegal (context_in rules) (trail_of b) (trail_of c)) same.rules moves.is_legal);
+  follows = (
+    trail_of b,
+    runs.follows,
+    subst (λ (rules : RuleLists). IsLegal (context_in rules) (trail_of b) (trail_of c)) same.rules moves.is_legal,
+  );
   counted = omega (arith, runs.counted, moves.counted);
 }
 
 pub stays_run : (a b c : SearchState) → Runs a b → Stays b c → Runs a c
 stays_run a b c runs stays = record {
   count = runs.count;
-  follows = subst (λ (t : List Item). Follows (context_of a) (trail_of a) runs.count t) (sym (ap items_of stays.entries)) runs.follows;
+  follows =
+      subst (λ (t : List Item). Follows (context_of a) (trail_of a) runs.count t) (sym (ap items_of stays.entries))
+      runs.follows;
   counted = stays.steps ∙ runs.counted;
 }
 
-pub last_event : (fuel : ℕ) (a b c : SearchState) (e : Event) → Runs a b → IsEvent b c e → ¬ (e ≡ Moved) → IsWalked fuel a c e
+pub last_event : (fuel : ℕ) (a b c : SearchState) (e : Event) → Runs a b → IsEvent b c e → ¬ (e ≡ Moved)
+    → IsWalked fuel a c e
 last_event fuel a b c Moved runs h other = absurd (other refl)
 last_event fuel a b c Saturated runs h other = (stays_run a b c runs h.0, h.1)
 last_event fuel a b c (Closed r) runs h other = (stays_run a b c runs h.0, h.1)
 
 pub run_ends : (fuel : ℕ) (a b c : SearchState) (e : End) → IsWalked fuel a b Moved → IsHalted b c e → IsEnd fuel a c e
-run_ends fuel a b c Spent walked h = (stays_run a b c walked.0 h.0, record { counted = h.0.steps ∙ walked.1; goes_on = h.1; next = h.2; is_legal = h.3 })
+run_ends fuel a b c Spent walked h =
+    (stays_run a b c walked.0 h.0, record { counted = h.0.steps ∙ walked.1; goes_on = h.1; next = h.2; is_legal = h.3 })
 run_ends fuel a b c RunSaturated walked h = (stays_run a b c walked.0 h.0, h.1)
 run_ends fuel a b c (RunClosed r) walked h = (stays_run a b c walked.0 h.0, h.1)
 
 pub same_search : (a b c : SearchState) → IsSameSearch a b → IsSameSearch b c → IsSameSearch a c
-same_search a b c h k = record { rules = k.rules ∙ h.rules; query = k.query ∙ h.query; sub = k.sub ∙ h.sub; not_sup = k.not_sup ∙ h.not_sup }
+same_search a b c h k = record {
+  rules = k.rules ∙ h.rules;
+  query = k.query ∙ h.query;
+  sub = k.sub ∙ h.sub;
+  not_sup = k.not_sup ∙ h.not_sup;
+}
 
 pub moved_event : (b c : SearchState) (e : Event) → e ≡ Moved → IsEvent b c e → IsEvent b c Moved
 moved_event b c e is h = subst (IsEvent b c) is h

@@ -4,7 +4,8 @@ use Rattle.tableau_specs.specs.Reached.{IsReached}
 use Rattle.completion_tree.specs.Trail.{items_of}
 use Rattle.search_state.specs.Progress.{ProgressLists, asked_by, IsStanding}
 
-pub standing_is_reached : (w : SearchContext) (p : ProgressLists) → IsStanding w p → IsReached (asked_by w p) w.table w.rows p.steps (items_of p.entries)
+pub standing_is_reached : (w : SearchContext) (p : ProgressLists) → IsStanding w p
+    → IsReached (asked_by w p) w.table w.rows p.steps (items_of p.entries)
 standing_is_reached w p h = record {
   is_table = h.asked.is_table;
   is_choice = h.asked.is_choice;

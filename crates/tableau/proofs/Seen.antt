@@ -1,5 +1,6 @@
 -- What is noted of a run is what it has put.
-use Rattle.std.proofs.Common.{◌≡◌, ℕ, ◌+◌, ◌-◌, ◌<◌, ◌≤◌, ◌||◌, min, Bool, false, List, [], ◌∷◌, length, drop, ap, ◌∙◌, sym, arith}
+use Rattle.std.proofs.Common.{◌≡◌, ℕ, ◌+◌, ◌-◌, ◌<◌, ◌≤◌, ◌||◌, min, Bool, false, List, [], ◌∷◌, length, drop, ap, ◌∙◌}
+use Rattle.std.proofs.Common.{sym, arith}
 use Rattle.std.specs.List.{list_any}
 use Rattle.std.proofs.lemmas.List.{length-map}
 use Rattle.std.specs.FinSet as set
@@ -14,7 +15,8 @@ use Rattle.completion_tree.specs.declared.tree.Entry.{Entry}
 use Rattle.completion_tree.specs.Trail.{items_of, item_of}
 use Rattle.seen_concepts.specs.Runs.{was_ever}
 use Rattle.seen_concepts.proofs.Last.{steps_put_last}
-use Rattle.seen_concepts.specs.Seen.{SeenSets, holds, no_classes, nothing_seen, gives_class, gives_complement, AreOver, HasNoted, AreSeenIn}
+use Rattle.seen_concepts.specs.Seen.{SeenSets, holds, no_classes, nothing_seen, gives_class, gives_complement, AreOver}
+use Rattle.seen_concepts.specs.Seen.{HasNoted, AreSeenIn}
 use Rattle.search_rules.specs.RuleLists.{RuleLists, context_in}
 use Rattle.tableau.specs.Inside.{HasNotedNew}
 
@@ -23,26 +25,38 @@ use Rattle.tableau.specs.Inside.{HasNotedNew}
 none_held : (count a : ℕ) → holds (no_classes count) a ≡ false
 none_held count a = set.contains-empty nat_cmp (a + 1)
 
-pub over_at_start : (at : ℕ) (table : List Shape) (fs : List (Fact ℕ)) (count : ℕ) (s : SeenSets) → HasNoted at table fs (nothing_seen count) s → AreOver count s
-over_at_start at table fs count s noted = record { node_limit = noted.at_node.limit; complements_limit = noted.complements.limit }
+pub over_at_start : (at : ℕ) (table : List Shape) (fs : List (Fact ℕ)) (count : ℕ) (s : SeenSets)
+    → HasNoted at table fs (nothing_seen count) s → AreOver count s
+over_at_start at table fs count s noted =
+    record { node_limit = noted.at_node.limit; complements_limit = noted.complements.limit }
 
-pub seen_at_start : (at : ℕ) (table : List Shape) (first : List Item) (count : ℕ) (s : SeenSets) → HasNoted at table (facts_of first) (nothing_seen count) s → AreSeenIn at table (first ∷ []) s
+pub seen_at_start : (at : ℕ) (table : List Shape) (first : List Item) (count : ℕ) (s : SeenSets)
+    → HasNoted at table (facts_of first) (nothing_seen count) s → AreSeenIn at table (first ∷ []) s
 seen_at_start at table first count s noted = record {
   at_node = λ a lt.
       let below : a < count = omega (arith, lt, noted.at_node.limit) in
-      noted.at_node.held a below ∙ ap (λ (b : Bool). list_any (gives_class at table a) (facts_of first) || b) (none_held count a);
+      noted.at_node.held a below
+      ∙ ap (λ (b : Bool). list_any (gives_class at table a) (facts_of first) || b) (none_held count a);
   complements = λ a lt.
       let below : a < count = omega (arith, lt, noted.complements.limit) in
-      noted.complements.held a below ∙ ap (λ (b : Bool). list_any (gives_complement at table a) (facts_of first) || b) (none_held count a);
+      noted.complements.held a below
+      ∙ ap (λ (b : Bool). list_any (gives_complement at table a) (facts_of first) || b) (none_held count a);
 }
 
 -- ---- a step
 
-pub over_after : (count : ℕ) (rules : RuleLists) (at before : ℕ) (new : List Entry) (s s' : SeenSets) → AreOver count s → HasNotedNew rules at before new s s' → AreOver count s'
-over_after count rules at before new s s' over noted = record { node_limit = noted.at_node.limit ∙ over.node_limit; complements_limit = noted.complements.limit ∙ over.complements_limit }
+pub over_after : (count : ℕ) (rules : RuleLists) (at before : ℕ) (new : List Entry) (s s' : SeenSets) → AreOver count s
+    → HasNotedNew rules at before new s s' → AreOver count s'
+over_after count rules at before new s s' over noted = record {
+  node_limit = noted.at_node.limit ∙ over.node_limit;
+  complements_limit = noted.complements.limit ∙ over.complements_limit;
+}
 
-still_ever : (p : Fact ℕ → Bool) (place : ℕ) (w : SearchContext) (old new : List Item) (earlier : List (List Item)) (held held' : Bool) → IsLegal w old new → place ≤ length old → place ≤ length new - 1
-    → held ≡ was_ever p (old ∷ earlier) → held' ≡ (list_any p (facts_of (drop place new)) || held) → held' ≡ was_ever p (new ∷ old ∷ earlier)
+still_ever : (p : Fact ℕ → Bool) (place : ℕ) (w : SearchContext) (old new : List Item) (earlier : List (List Item))
+    (held held' : Bool)
+    → IsLegal w old new → place ≤ length old → place ≤ length new - 1
+    → held ≡ was_ever p (old ∷ earlier) → held' ≡ (list_any p (facts_of (drop place new)) || held)
+    → held' ≡ was_ever p (new ∷ old ∷ earlier)
 still_ever p place w old new earlier held held' legal le last before noted =
     let rest = was_ever p earlier in
     noted ∙ ap (λ (b : Bool). list_any p (facts_of (drop place new)) || b) before
@@ -50,8 +64,10 @@ still_ever p place w old new earlier held held' legal le last before noted =
     ∙ ap (λ (b : Bool). b || rest) (sym (steps_put_last w old new legal place le last p))
     ∙ or_assoc (list_any p (facts_of new)) (list_any p (facts_of old)) rest
 
-pub seen_after : (rules : RuleLists) (at : ℕ) (old new : List Entry) (earlier : List (List Item)) (s s' : SeenSets) → IsLegal (context_in rules) (items_of old) (items_of new)
-    → AreSeenIn at rules.table (items_of old ∷ earlier) s → HasNotedNew rules at (length old) new s s' → AreSeenIn at rules.table (items_of new ∷ items_of old ∷ earlier) s'
+pub seen_after : (rules : RuleLists) (at : ℕ) (old new : List Entry) (earlier : List (List Item)) (s s' : SeenSets)
+    → IsLegal (context_in rules) (items_of old) (items_of new)
+    → AreSeenIn at rules.table (items_of old ∷ earlier) s → HasNotedNew rules at (length old) new s s'
+    → AreSeenIn at rules.table (items_of new ∷ items_of old ∷ earlier) s'
 seen_after rules at old new earlier s s' legal seen noted =
     let place = min (length old) (length new - 1) in
     let le : place ≤ length (items_of old) = omega (arith, length-map old item_of) in
@@ -59,9 +75,11 @@ seen_after rules at old new earlier s s' legal seen noted =
     record {
       at_node = λ a lt.
           let below : a < s.at_node.limit = omega (arith, lt, noted.at_node.limit) in
-          still_ever (gives_class at rules.table a) place (context_in rules) (items_of old) (items_of new) earlier (holds s.at_node a) (holds s'.at_node a) legal le last (seen.at_node a below) (noted.at_node.held a below);
+          still_ever (gives_class at rules.table a) place (context_in rules) (items_of old) (items_of new) earlier
+          (holds s.at_node a) (holds s'.at_node a) legal le last (seen.at_node a below) (noted.at_node.held a below);
       complements = λ a lt.
           let below : a < s.complements.limit = omega (arith, lt, noted.complements.limit) in
-          still_ever (gives_complement at rules.table a) place (context_in rules) (items_of old) (items_of new) earlier (holds s.complements a) (holds s'.complements a) legal le last (seen.complements a below)
+          still_ever (gives_complement at rules.table a) place (context_in rules) (items_of old) (items_of new) earlier
+          (holds s.complements a) (holds s'.complements a) legal le last (seen.complements a below)
           (noted.complements.held a below);
     }

@@ -20,8 +20,10 @@ nodes_of s = node_count_from (context_of s).first (facts_of (trail_of s))
 -- while each mark stands at its first alternative: two steps more than there are concepts, for each node, and one for
 -- each fact that the axioms give
 pub record HasFewSteps (s : SearchState) : Type 0 where
-  pub few : (cs : List Concept) (facts : List (Fact Concept)) → AreItsConcepts s cs → HasFacts (question_of s) facts → AreAtFirst (trail_of s)
+  pub few : (cs : List Concept) (facts : List (Fact Concept)) → AreItsConcepts s cs → HasFacts (question_of s) facts
+      → AreAtFirst (trail_of s)
       → s.steps ≤ nodes_of s * (length cs + 2) + length facts
 
 pub record HasFewMarks (s : SearchState) : Type 0 where
-  pub few : (cs : List Concept) → AreItsConcepts s cs → mark_count (trail_of s) ≤ nodes_of s * (nodes_of s + length cs + 1)
+  pub few : (cs : List Concept) → AreItsConcepts s cs
+      → mark_count (trail_of s) ≤ nodes_of s * (nodes_of s + length cs + 1)

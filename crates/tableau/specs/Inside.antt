@@ -59,7 +59,9 @@ pub record IsClosing (rules : RuleLists) (p : ProgressLists) : Type 0 where
   pub set : rules.set.limit ≡ length rules.ontology.axioms
   pub asked : IsAsked (context_in rules) p.query p.at p.sub p.not_sup
   pub at_is : IsAtQuestion rules p
-  pub closes : leaves (step_of (asked_by (context_in rules) p) rules.table) (start_of (asked_by (context_in rules) p) ∷ []) p.trace.lines ≡ Some []
+  pub closes : leaves (step_of (asked_by (context_in rules) p) rules.table)
+      (start_of (asked_by (context_in rules) p) ∷ []) p.trace.lines
+      ≡ Some []
   pub fit : All (IsFitLine (context_in rules) p.sub p.not_sup) p.trace.lines
 
 -- the trail stays, it has a clash, the blocks that are known are those of the trail, and the refutation is one of the
@@ -80,13 +82,15 @@ IsAdvanced rules old new Saturated = HasFollowed old new × IsSaturated (context
 IsAdvanced rules old new (Closed r) = HasClosed rules r old new
 
 abbrev pub IsSettled : RuleLists → ProgressLists → ProgressLists → End → Type 0
-IsSettled rules old new Spent = IsSameButBlocks old new × IsSearching (context_in rules) new × HasNext (context_in rules) new
+IsSettled rules old new Spent = IsSameButBlocks old new × IsSearching (context_in rules) new
+    × HasNext (context_in rules) new
 IsSettled rules old new RunSaturated = HasFollowed old new × IsSaturated (context_in rules) (items_of new.entries)
 IsSettled rules old new (RunClosed r) = HasClosed rules r old new
 
 -- the facts are noted that a step has put, in a trail that had so many entries before
 abbrev pub HasNotedNew : RuleLists → ℕ → ℕ → List Entry → SeenSets → SeenSets → Type 0
-HasNotedNew rules at before entries old new = HasNoted at rules.table (facts_of (drop (min before (length entries - 1)) (items_of entries))) old new
+HasNotedNew rules at before entries old new =
+    HasNoted at rules.table (facts_of (drop (min before (length entries - 1)) (items_of entries))) old new
 
 abbrev pub IsNotedAfter : RuleLists → ProgressLists → ProgressLists → SeenSets → SeenSets → Event → Type 0
 IsNotedAfter rules p q old new Moved = HasNotedNew rules p.at (length p.entries) q.entries old new
@@ -114,6 +118,7 @@ IsWalked fuel old new (Closed r) = Runs old new × IsAtRefutation r new
 
 -- no step is made, and the search ends where there is none
 abbrev pub IsHalted : SearchState → SearchState → End → Type 0
-IsHalted old new Spent = Stays old new × (new.ended ≡ false) × (next : List Item) × IsLegal (context_of new) (trail_of new) next
+IsHalted old new Spent = Stays old new × (new.ended ≡ false) × (next : List Item)
+    × IsLegal (context_of new) (trail_of new) next
 IsHalted old new RunSaturated = Stays old new × IsAtModel new
 IsHalted old new (RunClosed r) = Stays old new × IsAtRefutation r new

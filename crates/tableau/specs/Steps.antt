@@ -107,14 +107,17 @@ query_for s a = record { sub = s.query.sub; sup = name a; on = Any }
 -- it does not follow from the axioms of the set, and as many legal steps as the search has made decide that
 pub record IsShownApart (s : SearchState) (a : ℕ) : Type 0 where
   pub follows_not : ¬ Entails (named_axioms s.rules.ontology.axioms (member_list s.rules.set)) (query_for s a)
-  pub cost : Costs (question_in s.rules.ontology (member_list s.rules.set) (query_for s a)) (Entails (named_axioms s.rules.ontology.axioms (member_list s.rules.set)) (query_for s a)) s.steps
+  pub cost : Costs (question_in s.rules.ontology (member_list s.rules.set) (query_for s a))
+      (Entails (named_axioms s.rules.ontology.axioms (member_list s.rules.set)) (query_for s a)) s.steps
 
 -- a set of just those classes that were left out, each number greater by one; of each it is shown that the subclass is
 -- not in it
 pub record AreLeftOut (s : SearchState) (classes : Limited) : Type 0 where
   pub limit_is : classes.limit ≡ length s.rules.ontology.classes
-  pub exact : (a : ℕ) → a < length s.rules.ontology.classes → (set.contains classes.members (a + 1) ≡ true ↔ LeavesClassOut s a)
-  pub apart : (a : ℕ) → a < length s.rules.ontology.classes → set.contains classes.members (a + 1) ≡ true → IsShownApart s a
+  pub exact : (a : ℕ) → a < length s.rules.ontology.classes
+      → (set.contains classes.members (a + 1) ≡ true ↔ LeavesClassOut s a)
+  pub apart : (a : ℕ) → a < length s.rules.ontology.classes → set.contains classes.members (a + 1) ≡ true
+      → IsShownApart s a
 
 -- the classes that are left out, or none where the search asks for more than its subclass, or of an individual
 abbrev pub ShowsApart : SearchState → Option Limited → Type 0

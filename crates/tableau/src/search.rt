@@ -183,7 +183,8 @@ impl<'b, A: Allocator + Copy> Search<'b, A> {
     /// The blocks of all nodes of the tree, unless memory was refused.
     pub fn prints(&self) -> &Blocks
         ensures blocks { result.now ≡ self.now.prints }
-        ensures current { self.now.failed ≡ false → IsCurrent self.now.first (facts_in self.now.entries) self.now.prints }
+        ensures current { self.now.failed ≡ false
+            → IsCurrent self.now.first (facts_in self.now.entries) self.now.prints }
     {
         self.walker.prints()
     }

@@ -1,5 +1,6 @@
 -- What is added without a choice as rule lines.
-use Rattle.std.proofs.Common.{◌≡◌, ℕ, zero, suc, ◌+◌, ◌<◌, ◌&&◌, ◌||◌, eqb, cond, ltb, max, ◌++◌, Bool, true, List, [], ◌∷◌, map, get_or, Option, Some, None, refl, ap, ◌∙◌, sym, arith, inl, inr, eq-eqb}
+use Rattle.std.proofs.Common.{◌≡◌, ℕ, zero, suc, ◌+◌, ◌<◌, ◌&&◌, ◌||◌, eqb, cond, ltb, max, ◌++◌, Bool, true, List, []}
+use Rattle.std.proofs.Common.{◌∷◌, map, get_or, Option, Some, None, refl, ap, ◌∙◌, sym, arith, inl, inr, eq-eqb}
 use Rattle.std.specs.List.{list_any, list_all, range_with_len, Contains}
 use Rattle.std.proofs.lemmas.Bool.{cases_Bool, or_cases, eqb-true, ltb-true, and_parts, or_right}
 use Rattle.std.proofs.lemmas.List.{length-map, map-append}
@@ -9,7 +10,8 @@ use Rattle.calculus_specs.specs.Concept.{Concept, top, name, all_of}
 use Rattle.calculus_specs.specs.Shape.{Shape, shape_of}
 use Rattle.calculus_specs.specs.Shape.Shape.{name as name_shape, intersection as and_shape, all_of as all_shape}
 use Rattle.calculus_specs.specs.Tree.{tree_of, trees_of}
-use Rattle.calculus_specs.specs.Rows.{Part, Trigger, IsRowOf, IsChoice, part_at, conjunct_at, are_name_positions, is_some_of, row_concept, row_of}
+use Rattle.calculus_specs.specs.Rows.{Part, Trigger, IsRowOf, IsChoice, part_at, conjunct_at, are_name_positions}
+use Rattle.calculus_specs.specs.Rows.{is_some_of, row_concept, row_of}
 use Rattle.calculus_specs.specs.Rows.Part.{inclusion, range}
 use Rattle.calculus_specs.specs.Rows.Trigger.{always, names, edge, end_of}
 use Rattle.calculus_specs.specs.declared.facts.Fact.{Fact}
@@ -18,8 +20,10 @@ use Rattle.calculus_specs.specs.State.{node_count_from, speaks_below, has, has_t
 use Rattle.calculus_specs.specs.Reading.{read_fact, read_facts}
 use Rattle.calculus_specs.proofs.State.{any-label}
 use Rattle.calculus_specs.specs.Line.Line.{row_line}
-use Rattle.calculus_specs.specs.Rules.{Question, Known, knows, when, with_facts, and_children, all_children, carry_children, row_children, range_children, fact_children}
-use Rattle.tableau_specs.specs.Steps.{SearchContext, IsGiven, below_of, Adds, IsCarried, is_named, has_name, is_triggered, ends_edge}
+use Rattle.calculus_specs.specs.Rules.{Question, Known, knows, when, with_facts, and_children, all_children}
+use Rattle.calculus_specs.specs.Rules.{carry_children, row_children, range_children, fact_children}
+use Rattle.tableau_specs.specs.Steps.{SearchContext, IsGiven, below_of, Adds, IsCarried, is_named, has_name}
+use Rattle.tableau_specs.specs.Steps.{is_triggered, ends_edge}
 use Rattle.tableau_specs.specs.Steps.Adds.{by_and, by_all, by_carry, by_row}
 use Rattle.tableau_specs.proofs.Listed.{listed}
 use Rattle.tableau_specs.specs.Lines.{known_by, children_in, first_passing, first_begin, line_of_row, line_of_give}
@@ -47,7 +51,12 @@ first_passes p (c ∷ cs) h = elim (cases_Bool (p c)) [
       let later : list_any p cs ≡ true = sym (ap (λ (b : Bool). b || list_any p cs) miss) ∙ h in
       let r = first_passes p cs later in
       let z = first_passing p cs in
-      record { passes = ap p e ∙ r.passes; is_in = ap (λ (v : ℕ). list_any (λ d. eqb d v) (c ∷ cs)) e ∙ or_right (eqb c z) (list_any (λ d. eqb d z) cs) r.is_in }
+      record {
+        passes = ap p e ∙ r.passes;
+        is_in =
+            ap (λ (v : ℕ). list_any (λ d. eqb d v) (c ∷ cs)) e
+            ∙ or_right (eqb c z) (list_any (λ d. eqb d z) cs) r.is_in;
+      }
 ]
 
 named_is : (a : ℕ) (s : Shape) → is_named a s ≡ true → s ≡ name_shape a
@@ -66,16 +75,21 @@ module _ (w : SearchContext) (q : Question) (fs : List (Fact ℕ)) (over : IsOve
   state = known_by w.first w.table fs
 
   -- the facts of an intersection's parts
-  parts_read : (x : ℕ) (parts : List ℕ) → map (Has x) (map (λ c. get_or (trees_of w.table) c top) parts) ≡ map (read_fact (tree_of w.table)) (map (Has x) parts)
+  parts_read : (x : ℕ) (parts : List ℕ)
+      → map (Has x) (map (λ c. get_or (trees_of w.table) c top) parts)
+      ≡ map (read_fact (tree_of w.table)) (map (Has x) parts)
   parts_read x [] = refl
   parts_read x (c ∷ cs) = ap (λ (l : List (Fact Concept)). Has x (tree_of w.table c) ∷ l) (parts_read x cs)
 
-  and_adds : (x c d : ℕ) (parts : List ℕ) → (lt : x < node_count_from w.first fs) (h : has fs x c ≡ true) (sh : shape_of w.table c ≡ and_shape parts) (m : Contains parts d)
+  and_adds : (x c d : ℕ) (parts : List ℕ)
+      → (lt : x < node_count_from w.first fs) (h : has fs x c ≡ true) (sh : shape_of w.table c ≡ and_shape parts)
+      (m : Contains parts d)
       → AddIsLine w q fs x d (by_and x c d parts lt h sh m)
   and_adds x c d parts lt h sh m = record {
     child =
         at_shape w q fs over x c (and_shape parts) (and_children state x) lt h sh (λ k. cc)
-        ∙ ap (λ (l : List Concept). Some (with_facts state (map (Has x) l) ∷ [])) (part_list-parts_of (map (λ c. get_or (trees_of w.table) c top) parts))
+        ∙ ap (λ (l : List Concept). Some (with_facts state (map (Has x) l) ∷ []))
+        (part_list-parts_of (map (λ c. get_or (trees_of w.table) c top) parts))
         ∙ ap (λ (l : List (Fact Concept)). Some (with_facts state l ∷ [])) (parts_read x parts);
     is_added = contains_map (Has x) parts d m;
   }
@@ -87,23 +101,36 @@ module _ (w : SearchContext) (q : Question) (fs : List (Fact ℕ)) (over : IsOve
   abbrev child_with : ℕ → Concept → Option (List Known)
   child_with x t = Some (with_facts state (Has x t ∷ []) ∷ [])
 
-  all_adds : (x y c s e : ℕ) → (lt : x < node_count_from w.first fs) (mt : y < node_count_from w.first fs) (h : has fs x c ≡ true) (sh : shape_of w.table c ≡ all_shape s e)
+  all_adds : (x y c s e : ℕ)
+      → (lt : x < node_count_from w.first fs) (mt : y < node_count_from w.first fs) (h : has fs x c ≡ true)
+      (sh : shape_of w.table c ≡ all_shape s e)
       (leads : has_edge fs (λ r. below_of w r s) x y ≡ true) → AddIsLine w q fs y e (by_all x y c s e lt mt h sh leads)
   all_adds x y c s e lt mt h sh leads = record {
     child =
         at_shape w q fs over x c (all_shape s e) (all_children w.theory state x y) lt h sh (λ k. cc)
-        ∙ ap (λ (b : Bool). when (b && has_edge state.facts (λ r. w.theory.below r s) x y) (child_with y (tree_of w.table e))) (is_known w q fs over y mt)
-        ∙ ap (λ (b : Bool). when b (child_with y (tree_of w.table e))) (edge_reads w q fs over (λ r. below_of w r s) x y ∙ leads);
+        ∙ ap (λ (b : Bool). when (b && has_edge state.facts (λ r. w.theory.below r s) x y)
+        (child_with y (tree_of w.table e)))
+        (is_known w q fs over y mt)
+        ∙ ap (λ (b : Bool). when b (child_with y (tree_of w.table e)))
+        (edge_reads w q fs over (λ r. below_of w r s) x y ∙ leads);
     is_added = one (Has y e);
   }
 
-  carry_adds : (x y c s t e d : ℕ) → (h : IsCarried w fs x y c s t e) (sh : shape_of w.table d ≡ all_shape t e) → AddIsLine w q fs y d (by_carry x y c s t e d h sh)
+  carry_adds : (x y c s t e d : ℕ) → (h : IsCarried w fs x y c s t e) (sh : shape_of w.table d ≡ all_shape t e)
+      → AddIsLine w q fs y d (by_carry x y c s t e d h sh)
   carry_adds x y c s t e d h sh =
-      let is_tree : tree_of w.table d ≡ all_of t (tree_of w.table e) = reads w q fs over d (all_shape t e) sh (λ k. cc) in
+      let is_tree : tree_of w.table d ≡ all_of t (tree_of w.table e) =
+      reads w q fs over d (all_shape t e) sh (λ k. cc) in
       record {
         child =
-            at_shape w q fs over x c (all_shape s e) (carry_children w.theory state x y t) h.begin_is_node h.holds h.shape (λ k. cc)
-            ∙ rw (h.transitive, h.role_below, is_known w q fs over y h.end_is_node, edge_reads w q fs over (λ r. below_of w r t) x y ∙ h.edge) refl
+            at_shape w q fs over x c (all_shape s e) (carry_children w.theory state x y t) h.begin_is_node h.holds
+            h.shape (λ k. cc)
+            ∙ rw (
+              h.transitive,
+              h.role_below,
+              is_known w q fs over y h.end_is_node,
+              edge_reads w q fs over (λ r. below_of w r t) x y ∙ h.edge,
+            ) refl
             ∙ ap (child_with y) (sym is_tree);
         is_added = one (Has y d);
       }
@@ -121,11 +148,13 @@ module _ (w : SearchContext) (q : Question) (fs : List (Fact ℕ)) (over : IsOve
       ∙ holds w q fs over x at lt (sym (any-label fs x at) ∙ v.is_in)
   name_holds x _ h = cc
 
-  names_hold : (x : ℕ) (cs : List Concept) (positions : List ℕ) → list_all (λ i. has_name w fs x (conjunct_at cs i)) positions ≡ true
+  names_hold : (x : ℕ) (cs : List Concept) (positions : List ℕ)
+      → list_all (λ i. has_name w fs x (conjunct_at cs i)) positions ≡ true
       → list_all (λ i. has_tree state.facts x (conjunct_at cs i)) positions ≡ true
   names_hold x cs [] h = refl
   names_hold x cs (i ∷ is) h =
-      let t = and_parts (has_name w fs x (conjunct_at cs i)) (list_all (λ j. has_name w fs x (conjunct_at cs j)) is) h in
+      let t =
+      and_parts (has_name w fs x (conjunct_at cs i)) (list_all (λ j. has_name w fs x (conjunct_at cs j)) is) h in
       rw (name_holds x (conjunct_at cs i) t.0) (names_hold x cs is t.1)
 
   -- the line of a row with this trigger adds its concept
@@ -133,9 +162,12 @@ module _ (w : SearchContext) (q : Question) (fs : List (Fact ℕ)) (over : IsOve
   RowIsLine x a p d t = children_in w q fs (line_of_row w fs x a p t) ≡ child_with x (tree_of w.table d)
 
   -- the row line of an inclusion
-  inclusion_adds : (x a p d : ℕ) (cs : List Concept) (right : Concept) (positions : List ℕ) → x < node_count_from w.first fs → part_at w.theory a p ≡ Some (inclusion cs right)
-      → are_name_positions cs positions ≡ true → list_all (λ i. has_tree state.facts x (conjunct_at cs i)) positions ≡ true
-      → tree_of w.table d ≡ row_concept cs right positions → children_in w q fs (row_line x a p positions) ≡ child_with x (tree_of w.table d)
+  inclusion_adds : (x a p d : ℕ) (cs : List Concept) (right : Concept) (positions : List ℕ)
+      → x < node_count_from w.first fs → part_at w.theory a p ≡ Some (inclusion cs right)
+      → are_name_positions cs positions ≡ true
+      → list_all (λ i. has_tree state.facts x (conjunct_at cs i)) positions ≡ true
+      → tree_of w.table d ≡ row_concept cs right positions
+      → children_in w q fs (row_line x a p positions) ≡ child_with x (tree_of w.table d)
   inclusion_adds x a p d cs right positions lt there names' each is_tree =
       let answer = child_with x (row_concept cs right positions) in
       let have : Bool = list_all (λ i. has_tree state.facts x (conjunct_at cs i)) positions in
@@ -146,40 +178,61 @@ module _ (w : SearchContext) (q : Question) (fs : List (Fact ℕ)) (over : IsOve
       ∙ ap (child_with x) (sym is_tree)
 
   -- the range line of a range
-  range_adds : RangesAreFirst w.theory → (x a p r s d : ℕ) (right : Concept) → x < node_count_from w.first fs → part_at w.theory a p ≡ Some (range r right) → s ≡ r
+  range_adds : RangesAreFirst w.theory → (x a p r s d : ℕ) (right : Concept) → x < node_count_from w.first fs
+      → part_at w.theory a p ≡ Some (range r right) → s ≡ r
       → ends_edge w fs s x ≡ true → tree_of w.table d ≡ right → RowIsLine x a p d (end_of s)
   range_adds first x a p r s d right lt there same ends is_tree =
       let z = first_begin w fs s x in
-      let v = first_passes (λ z. has_edge fs (λ p. below_of w p s) z x) (range_with_len 0 (node_count_from w.first fs)) ends in
-      let zt : z < node_count_from w.first fs = omega (arith, in_range_below z 0 (node_count_from w.first fs) v.is_in) in
-      let at_one : part_at w.theory a 1 ≡ Some (range r right) = ap (part_at w.theory a) (sym (first a p r right there)) ∙ there in
+      let v =
+      first_passes (λ z. has_edge fs (λ p. below_of w p s) z x) (range_with_len 0 (node_count_from w.first fs)) ends in
+      let zt : z < node_count_from w.first fs =
+      omega (arith, in_range_below z 0 (node_count_from w.first fs) v.is_in) in
+      let at_one : part_at w.theory a 1 ≡ Some (range r right) =
+      ap (part_at w.theory a) (sym (first a p r right there)) ∙ there in
       let leads : has_edge state.facts (λ p. w.theory.below p r) z x ≡ true =
-      edge_reads w q fs over (λ p. below_of w p r) z x ∙ ap (λ (u : ℕ). has_edge fs (λ p. below_of w p u) z x) (sym same) ∙ v.passes in
+      edge_reads w q fs over (λ p. below_of w p r) z x
+      ∙ ap (λ (u : ℕ). has_edge fs (λ p. below_of w p u) z x) (sym same) ∙ v.passes in
       ap (range_children w.theory state z x) at_one
-      ∙ ap (λ (b : Bool). when (b && knows state x && has_edge state.facts (λ p. w.theory.below p r) z x) (child_with x right)) (is_known w q fs over z zt)
-      ∙ ap (λ (b : Bool). when (b && has_edge state.facts (λ p. w.theory.below p r) z x) (child_with x right)) (is_known w q fs over x lt)
+      ∙ ap (λ (b : Bool). when (b && knows state x && has_edge state.facts (λ p. w.theory.below p r) z x)
+      (child_with x right))
+      (is_known w q fs over z zt)
+      ∙ ap (λ (b : Bool). when (b && has_edge state.facts (λ p. w.theory.below p r) z x) (child_with x right))
+      (is_known w q fs over x lt)
       ∙ ap (λ (b : Bool). when b (child_with x right)) leads
       ∙ ap (child_with x) (sym is_tree)
 
   some_eq : {X : Type 0} (u v : X) → ◌≡◌ {A = Option X} (Some u) (Some v) → v ≡ u
   some_eq u v e = cc
 
-  row_adds : RangesAreFirst w.theory → (x a p d : ℕ) (part : Part) (t : Trigger) → x < node_count_from w.first fs → part_at w.theory a p ≡ Some part → row_of part t ≡ Some (tree_of w.table d)
+  row_adds : RangesAreFirst w.theory → (x a p d : ℕ) (part : Part) (t : Trigger) → x < node_count_from w.first fs
+      → part_at w.theory a p ≡ Some part → row_of part t ≡ Some (tree_of w.table d)
       → is_triggered w fs x (Some part) t ≡ true → RowIsLine x a p d t
   row_adds first x a p d (inclusion cs right) always lt there row used =
       inclusion_adds x a p d cs right [] lt there refl refl (some_eq (row_concept cs right []) (tree_of w.table d) row)
-  row_adds first x a p d (inclusion cs right) (names positions) lt there row used = elim (cases_Bool (are_name_positions cs positions)) [
-    | inl ok ↦
-        let e : Some (row_concept cs right positions) ≡ Some (tree_of w.table d) = ap (λ (b : Bool). cond b (Some (row_concept cs right positions)) None) (sym ok) ∙ row in
-        inclusion_adds x a p d cs right positions lt there ok (names_hold x cs positions used) (some_eq (row_concept cs right positions) (tree_of w.table d) e)
-    | inr bad ↦ (let e : ◌≡◌ {A = Option Concept} None (Some (tree_of w.table d)) = ap (λ (b : Bool). cond b (Some (row_concept cs right positions)) None) (sym bad) ∙ row in cc)
-  ]
-  row_adds first x a p d (inclusion cs right) (edge s) lt there row used = elim (cases_Bool (list_any (is_some_of s) cs)) [
-    | inl ok ↦
-        let e : Some (row_concept cs right []) ≡ Some (tree_of w.table d) = ap (λ (b : Bool). cond b (Some (row_concept cs right [])) None) (sym ok) ∙ row in
-        inclusion_adds x a p d cs right [] lt there refl refl (some_eq (row_concept cs right []) (tree_of w.table d) e)
-    | inr bad ↦ (let e : ◌≡◌ {A = Option Concept} None (Some (tree_of w.table d)) = ap (λ (b : Bool). cond b (Some (row_concept cs right [])) None) (sym bad) ∙ row in cc)
-  ]
+  row_adds first x a p d (inclusion cs right) (names positions) lt there row used =
+      elim (cases_Bool (are_name_positions cs positions)) [
+        | inl ok ↦
+            let e : Some (row_concept cs right positions) ≡ Some (tree_of w.table d) =
+            ap (λ (b : Bool). cond b (Some (row_concept cs right positions)) None) (sym ok) ∙ row in
+            inclusion_adds x a p d cs right positions lt there ok (names_hold x cs positions used)
+            (some_eq (row_concept cs right positions) (tree_of w.table d) e)
+        | inr bad ↦
+            (let e : ◌≡◌ {A = Option Concept} None (Some (tree_of w.table d)) =
+            ap (λ (b : Bool). cond b (Some (row_concept cs right positions)) None) (sym bad) ∙ row in
+            cc)
+      ]
+  row_adds first x a p d (inclusion cs right) (edge s) lt there row used =
+      elim (cases_Bool (list_any (is_some_of s) cs)) [
+        | inl ok ↦
+            let e : Some (row_concept cs right []) ≡ Some (tree_of w.table d) =
+            ap (λ (b : Bool). cond b (Some (row_concept cs right [])) None) (sym ok) ∙ row in
+            inclusion_adds x a p d cs right [] lt there refl refl
+            (some_eq (row_concept cs right []) (tree_of w.table d) e)
+        | inr bad ↦
+            (let e : ◌≡◌ {A = Option Concept} None (Some (tree_of w.table d)) =
+            ap (λ (b : Bool). cond b (Some (row_concept cs right [])) None) (sym bad) ∙ row in
+            cc)
+      ]
   row_adds first x a p d (inclusion cs right) (end_of s) lt there row used = cc
   row_adds first x a p d (range r right) always lt there row used = cc
   row_adds first x a p d (range r right) (names positions) lt there row used = cc
@@ -188,10 +241,14 @@ module _ (w : SearchContext) (q : Question) (fs : List (Fact ℕ)) (over : IsOve
     | inl ok ↦
         let e : Some right ≡ Some (tree_of w.table d) = ap (λ (b : Bool). cond b (Some right) None) (sym ok) ∙ row in
         range_adds first x a p r s d right lt there (eqb-true s r ok) used (some_eq right (tree_of w.table d) e)
-    | inr bad ↦ (let e : ◌≡◌ {A = Option Concept} None (Some (tree_of w.table d)) = ap (λ (b : Bool). cond b (Some right) None) (sym bad) ∙ row in cc)
+    | inr bad ↦
+        (let e : ◌≡◌ {A = Option Concept} None (Some (tree_of w.table d)) =
+        ap (λ (b : Bool). cond b (Some right) None) (sym bad) ∙ row in
+        cc)
   ]
 
-  pub add_is_line : IsChoice w.theory w.table w.rows → RangesAreFirst w.theory → (x d : ℕ) (adds : Adds w fs x d) → AddIsLine w q fs x d adds
+  pub add_is_line : IsChoice w.theory w.table w.rows → RangesAreFirst w.theory → (x d : ℕ) (adds : Adds w fs x d)
+      → AddIsLine w q fs x d adds
   add_is_line choice first x d (by_and x' c d' parts lt h sh m) = and_adds x c d parts lt h sh m
   add_is_line choice first x d (by_all x' y c s e lt mt h sh leads) = all_adds x' x c s d lt mt h sh leads
   add_is_line choice first x d (by_carry x' y c s t e d' carried sh) = carry_adds x' x c s t e d carried sh
@@ -206,9 +263,11 @@ module _ (w : SearchContext) (q : Question) (fs : List (Fact ℕ)) (over : IsOve
 
 -- ---- given facts
 
-count-first : (first : ℕ) (fs : List (Fact ℕ)) (f : Fact ℕ) → speaks_below first f ≡ true → node_count_from first (fs ++ f ∷ []) ≡ node_count_from first fs
+count-first : (first : ℕ) (fs : List (Fact ℕ)) (f : Fact ℕ) → speaks_below first f ≡ true
+    → node_count_from first (fs ++ f ∷ []) ≡ node_count_from first fs
 count-first first [] (Has x c) h = refl
-count-first first [] (Edge r x y) h = let t = and_parts (ltb x first) (ltb y first) h in omega (arith, ltb-true y first t.1)
+count-first first [] (Edge r x y) h =
+    let t = and_parts (ltb x first) (ltb y first) h in omega (arith, ltb-true y first t.1)
 count-first first [] (Apart x y) h = refl
 count-first first [] (Same x y) h = refl
 count-first first (Has v c ∷ fs) f h = count-first first fs f h
@@ -216,15 +275,20 @@ count-first first (Edge s v u ∷ fs) f h = ap (max (u + 1)) (count-first first 
 count-first first (Apart v u ∷ fs) f h = count-first first fs f h
 count-first first (Same v u ∷ fs) f h = count-first first fs f h
 
-pub give_is_line : (w : SearchContext) (q : Question) (fs : List (Fact ℕ)) → 0 < w.first → (f : Fact ℕ) (given : IsGiven w f)
+pub give_is_line : (w : SearchContext) (q : Question) (fs : List (Fact ℕ)) → 0 < w.first
+    → (f : Fact ℕ) (given : IsGiven w f)
     → children_in w q fs (line_of_give w f given) ≡ Some (known_by w.first w.table (fs ++ f ∷ []) ∷ [])
 give_is_line w q fs pos f given =
     let state : Known = known_by w.first w.table fs in
     let g : Fact Concept = read_fact (tree_of w.table) f in
-    let nodes : state.nodes ≡ range_with_len 0 (node_count_from w.first (fs ++ f ∷ [])) = ap (range_with_len 0) (sym (count-first w.first fs f given.on_first)) in
-    let facts : state.facts ++ g ∷ [] ≡ read_facts (tree_of w.table) (fs ++ f ∷ []) = sym (map-append (read_fact (tree_of w.table)) fs (f ∷ [])) in
-    let same : with_facts state (g ∷ []) ≡ known_by w.first w.table (fs ++ f ∷ []) = λ i. record { nodes = nodes i; facts = facts i } in
-    let zero_known : knows state 0 ≡ true = known_in 0 0 (node_count_from w.first fs) (omega arith) (omega (arith, pos, first_le w.first fs)) in
+    let nodes : state.nodes ≡ range_with_len 0 (node_count_from w.first (fs ++ f ∷ [])) =
+    ap (range_with_len 0) (sym (count-first w.first fs f given.on_first)) in
+    let facts : state.facts ++ g ∷ [] ≡ read_facts (tree_of w.table) (fs ++ f ∷ []) =
+    sym (map-append (read_fact (tree_of w.table)) fs (f ∷ [])) in
+    let same : with_facts state (g ∷ []) ≡ known_by w.first w.table (fs ++ f ∷ []) =
+    λ i. record { nodes = nodes i; facts = facts i } in
+    let zero_known : knows state 0 ≡ true =
+    known_in 0 0 (node_count_from w.first fs) (omega arith) (omega (arith, pos, first_le w.first fs)) in
     ap (fact_children state) given.is_there
     ∙ ap (λ (b : Bool). when b (Some (with_facts state (g ∷ []) ∷ []))) zero_known
     ∙ ap (λ (k : Known). Some (k ∷ [])) same

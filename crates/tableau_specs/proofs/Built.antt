@@ -1,6 +1,8 @@
 -- Trails each of whose items rests on what stands before it.
-use Rattle.std.proofs.Common.{◌≡◌, ℕ, ◌<◌, ◌⊎◌, ◌≤◌, List, [], ◌∷◌, ◌++◌, length, take, get_or, refl, ap, sym, subst, arith, inl, inr, length-append}
-use Rattle.std.proofs.lemmas.List.{get_or_append_left, get_or_push, take-append-le, take_at, take-take, get_or-take, length-take-le}
+use Rattle.std.proofs.Common.{◌≡◌, ℕ, ◌<◌, ◌⊎◌, ◌≤◌, List, [], ◌∷◌, ◌++◌, length, take, get_or, refl, ap, sym, subst}
+use Rattle.std.proofs.Common.{arith, inl, inr, length-append}
+use Rattle.std.proofs.lemmas.List.{get_or_append_left, get_or_push, take-append-le, take_at, take-take, get_or-take}
+use Rattle.std.proofs.lemmas.List.{length-take-le}
 use Rattle.std.proofs.lemmas.Bool.{cases_lt}
 use Rattle.calculus_specs.specs.declared.facts.Fact.{Fact}
 use Rattle.calculus_specs.specs.declared.facts.Fact.TheVariants.{Has, Edge, Apart, Same}
@@ -39,7 +41,8 @@ module _ (first : ℕ) (G : Fact ℕ → Type 0) where
   abbrev pub Supports : List (Fact ℕ) → Item → Type 0
   Supports fs (Says (Has x c)) = x < node_count_from first fs
   Supports fs (Says (Edge r x y)) = (x < node_count_from first fs) × ((y ≡ node_count_from first fs) ⊎ G (Edge r x y))
-  Supports fs (Says (Apart y z)) = (y < node_count_from first fs) × (z < node_count_from first fs) × (¬ (rep fs y ≡ rep fs z) ⊎ G (Apart y z))
+  Supports fs (Says (Apart y z)) = (y < node_count_from first fs) × (z < node_count_from first fs)
+      × (¬ (rep fs y ≡ rep fs z) ⊎ G (Apart y z))
   Supports fs (Says (Same y z)) = AreSiblings fs y z ⊎ G (Same y z)
   Supports fs (Mark c) = SupportsBranch fs c.branch
 
@@ -52,8 +55,12 @@ module _ (first : ℕ) (G : Fact ℕ → Type 0) where
   pub built_push : (is : List Item) (i : Item) → IsBuilt is → Supports (facts_of is) i → IsBuilt (is ++ i ∷ [])
   built_push is i h here place d lt =
       elim (cases_lt place (length is)) [
-        | inl low ↦ rw (get_or_append_left is (i ∷ []) d place low, take-append-le place is (i ∷ []) (omega arith)) (h place d low)
-        | inr high ↦ let e : length is ≡ place = omega (arith, length-append is (i ∷ [])) in rw (get_or_push is i d place e, take_at is (i ∷ []) place e) here
+        | inl low ↦
+            rw (get_or_append_left is (i ∷ []) d place low, take-append-le place is (i ∷ []) (omega arith))
+            (h place d low)
+        | inr high ↦
+            let e : length is ≡ place = omega (arith, length-append is (i ∷ [])) in
+            rw (get_or_push is i d place e, take_at is (i ∷ []) place e) here
       ]
 
   pub built_take : (is : List Item) (n : ℕ) → IsBuilt is → n ≤ length is → IsBuilt (take n is)
@@ -68,14 +75,21 @@ module _ (first : ℕ) (G : Fact ℕ → Type 0) where
       rw (get_or_push is i i (length is) refl, take_at is (i ∷ []) (length is) refl) at at
 
   pub built_front : (is : List Item) (i : Item) → IsBuilt (is ++ i ∷ []) → IsBuilt is
-  built_front is i h = subst IsBuilt (take_at is (i ∷ []) (length is) refl) (built_take (is ++ i ∷ []) (length is) h (omega (arith, length-append is (i ∷ []))))
+  built_front is i h =
+      subst IsBuilt (take_at is (i ∷ []) (length is) refl)
+      (built_take (is ++ i ∷ []) (length is) h (omega (arith, length-append is (i ∷ []))))
 
-  one_more : (P : List (Fact ℕ) → Type 0) → ((fs : List (Fact ℕ)) (f : Fact ℕ) → Supports fs (Says f) → P fs → P (fs ++ f ∷ []))
-      → (is : List Item) (i : Item) → (IsBuilt is → P (facts_of is)) → IsBuilt (is ++ i ∷ []) → P (facts_of (is ++ i ∷ []))
-  one_more P step is (Says f) ih h = subst P (sym (facts_of-snoc is f)) (step (facts_of is) f (built_last is (Says f) h) (ih (built_front is (Says f) h)))
+  one_more : (P : List (Fact ℕ) → Type 0)
+      → ((fs : List (Fact ℕ)) (f : Fact ℕ) → Supports fs (Says f) → P fs → P (fs ++ f ∷ []))
+      → (is : List Item) (i : Item) → (IsBuilt is → P (facts_of is)) → IsBuilt (is ++ i ∷ [])
+      → P (facts_of (is ++ i ∷ []))
+  one_more P step is (Says f) ih h =
+      subst P (sym (facts_of-snoc is f))
+      (step (facts_of is) f (built_last is (Says f) h) (ih (built_front is (Says f) h)))
   one_more P step is (Mark c) ih h = subst P (sym (facts_of-mark is c)) (ih (built_front is (Mark c) h))
 
   -- what holds of no facts, and of one fact more that rests on those before it, holds of a built trail
-  pub built_facts : (P : List (Fact ℕ) → Type 0) → P [] → ((fs : List (Fact ℕ)) (f : Fact ℕ) → Supports fs (Says f) → P fs → P (fs ++ f ∷ []))
+  pub built_facts : (P : List (Fact ℕ) → Type 0) → P []
+      → ((fs : List (Fact ℕ)) (f : Fact ℕ) → Supports fs (Says f) → P fs → P (fs ++ f ∷ []))
       → (is : List Item) → IsBuilt is → P (facts_of is)
   built_facts P base step = by_last (λ (is : List Item). IsBuilt is → P (facts_of is)) (λ h. base) (one_more P step)

@@ -10,7 +10,8 @@ use Rattle.tableau_specs.specs.declared.Choice.{Choice}
 use Rattle.tableau_specs.specs.declared.Item.{Item}
 use Rattle.tableau_specs.specs.declared.Item.TheVariants.{Fact as Says, Mark}
 use Rattle.tableau_specs.specs.Items.{facts_of, says}
-use Rattle.tableau_specs.specs.Steps.{SearchContext, Adds, IsGiven, IsCarried, IsLegal, IsSaturated, HasClash, HasPlainClash}
+use Rattle.tableau_specs.specs.Steps.{SearchContext, Adds, IsGiven, IsCarried, IsLegal, IsSaturated, HasClash}
+use Rattle.tableau_specs.specs.Steps.{HasPlainClash}
 use Rattle.tableau_specs.specs.Steps.Adds.{by_carry}
 use Rattle.tableau_specs.specs.Steps.IsLegal.{add, give, generate, choose, back}
 use Rattle.tableau_specs.specs.Reached.{start, Follows}
@@ -26,7 +27,8 @@ module _ (w : SearchContext) (trail : List Item) where
   no_step sat clear new (choose c f nc may one alt) = sat.no_choose c.branch f may alt
   no_step sat clear new (back place c f clash read alt) = clear clash
 
-  module _ (nc : ¬ HasPlainClash w trail) (closed : CarriedAreListed w (facts_of trail)) (stop : (new : List Item) → ¬ IsLegal w trail new) where
+  module _ (nc : ¬ HasPlainClash w trail) (closed : CarriedAreListed w (facts_of trail))
+      (stop : (new : List Item) → ¬ IsLegal w trail new) where
     added : (x d : ℕ) → Adds w (facts_of trail) x d → has (facts_of trail) x d ≡ true
     added x d adds = elim (cases_Bool (has (facts_of trail) x d)) [
       | inl held ↦ held
@@ -34,9 +36,11 @@ module _ (w : SearchContext) (trail : List Item) where
     ]
 
     gave : (f : Fact ℕ) → IsGiven w f → is_so (facts_of trail) f ≡ true
-    gave f given = elim (cases_Bool (is_so (facts_of trail) f)) [ inl so ↦ so | inr out ↦ absurd (stop (trail ++ Says f ∷ []) (give f nc given out)) ]
+    gave f given = elim (cases_Bool (is_so (facts_of trail) f))
+        [ inl so ↦ so | inr out ↦ absurd (stop (trail ++ Says f ∷ []) (give f nc given out)) ]
 
-    carried : (x y c s t e : ℕ) → IsCarried w (facts_of trail) x y c s t e → (d : ℕ) × (shape_of w.table d ≡ all_of t e) × (has (facts_of trail) y d ≡ true)
+    carried : (x y c s t e : ℕ) → IsCarried w (facts_of trail) x y c s t e
+        → (d : ℕ) × (shape_of w.table d ≡ all_of t e) × (has (facts_of trail) y d ≡ true)
     carried x y c s t e h = let n = closed x y c s t e h in (n.0, n.1, added y n.0 (by_carry x y c s t e n.0 h n.1))
 
     abbrev first_of_it : Branch → Choice
@@ -49,11 +53,16 @@ module _ (w : SearchContext) (trail : List Item) where
       no_give = gave;
       no_carry = carried;
       no_generate = λ fs makes. stop (trail ++ says fs) (generate fs nc makes);
-      no_choose = λ b f may alt. stop (trail ++ Mark (first_of_it b) ∷ Says f ∷ []) (choose (first_of_it b) f nc may refl alt);
+      no_choose =
+          λ b f may alt. stop (trail ++ Mark (first_of_it b) ∷ Says f ∷ []) (choose (first_of_it b) f nc may refl alt);
     }
 
-pub end_of_search : (w : SearchContext) (at sub not_sup k : ℕ) (trail : List Item) → at < w.first → Follows w (start at sub not_sup) k trail
+pub end_of_search : (w : SearchContext) (at sub not_sup k : ℕ) (trail : List Item) → at < w.first
+    → Follows w (start at sub not_sup) k trail
     → (IsSaturated w trail → (new : List Item) → ¬ IsLegal w trail new)
-    × (¬ HasPlainClash w trail → CarriedAreListed w (facts_of trail) → ((new : List Item) → ¬ IsLegal w trail new) → IsSaturated w trail)
-end_of_search w at sub not_sup k trail lt r =
-    (λ sat. no_step w trail sat (saturated_clear w at sub not_sup k trail lt r sat), λ nc closed stop. saturated w trail nc closed stop)
+    × (¬ HasPlainClash w trail → CarriedAreListed w (facts_of trail) → ((new : List Item) → ¬ IsLegal w trail new)
+    → IsSaturated w trail)
+end_of_search w at sub not_sup k trail lt r = (
+  λ sat. no_step w trail sat (saturated_clear w at sub not_sup k trail lt r sat),
+  λ nc closed stop. saturated w trail nc closed stop,
+)

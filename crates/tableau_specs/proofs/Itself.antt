@@ -1,5 +1,6 @@
 -- Whether a node is apart from itself once two nodes are one.
-use Rattle.std.proofs.Common.{◌≡◌, ℕ, ◌&&◌, ◌||◌, eqb, Bool, true, false, List, [], ◌∷◌, ◌++◌, refl, ap, ◌∙◌, sym, arith, inl, inr, eq-eqb}
+use Rattle.std.proofs.Common.{◌≡◌, ℕ, ◌&&◌, ◌||◌, eqb, Bool, true, false, List, [], ◌∷◌, ◌++◌, refl, ap, ◌∙◌, sym}
+use Rattle.std.proofs.Common.{arith, inl, inr, eq-eqb}
 use Rattle.std.specs.List.{list_any}
 use Rattle.std.proofs.lemmas.Bool.{eqb-true, or_cases, cases_Bool, and_parts, or_right}
 use Rattle.std.proofs.lemmas.Bool.Decides.{nat_tests}
@@ -27,19 +28,21 @@ kept m n a b [] h = cc
 kept m n a b (Has x c ∷ fs) h = kept m n a b fs h
 kept m n a b (Edge r x y ∷ fs) h = kept m n a b fs h
 kept m n a b (Same x y ∷ fs) h = kept m n a b fs h
-kept m n a b (Apart x y ∷ fs) h = elim (or_cases ((eqb (m x) a && eqb (m y) b) || (eqb (m x) b && eqb (m y) a)) (list_any (gives_apart m a b) fs) h) [
-  | inr later ↦ kept m n a b fs later
-  | inl here ↦ elim (or_cases (eqb (m x) a && eqb (m y) b) (eqb (m x) b && eqb (m y) a) here) [
-    | inl one ↦ record { node = x; at = eqb-true (m x) a (and_parts (eqb (m x) a) (eqb (m y) b) one).0 }
-    | inr other ↦ record { node = y; at = eqb-true (m y) a (and_parts (eqb (m x) b) (eqb (m y) a) other).1 }
-  ]
-]
+kept m n a b (Apart x y ∷ fs) h =
+    elim (or_cases ((eqb (m x) a && eqb (m y) b) || (eqb (m x) b && eqb (m y) a)) (list_any (gives_apart m a b) fs) h) [
+      | inr later ↦ kept m n a b fs later
+      | inl here ↦ elim (or_cases (eqb (m x) a && eqb (m y) b) (eqb (m x) b && eqb (m y) a) here) [
+        | inl one ↦ record { node = x; at = eqb-true (m x) a (and_parts (eqb (m x) a) (eqb (m y) b) one).0 }
+        | inr other ↦ record { node = y; at = eqb-true (m y) a (and_parts (eqb (m x) b) (eqb (m y) a) other).1 }
+      ]
+    ]
 
 merged_ends : (b c : ℕ) → merged b c b ≡ merged b c c
 merged_ends b c = grind (arith, nat_tests)
 
 -- nodes that are apart stay apart
-stays : (m : ℕ → ℕ) (b c : ℕ) (f : Fact ℕ) → gives_apart m b c f ≡ true → gives_apart (λ x. merged b c (m x)) (merged b c b) (merged b c c) f ≡ true
+stays : (m : ℕ → ℕ) (b c : ℕ) (f : Fact ℕ) → gives_apart m b c f ≡ true
+    → gives_apart (λ x. merged b c (m x)) (merged b c b) (merged b c c) f ≡ true
 stays m b c (Has x d) h = cc
 stays m b c (Edge r x y) h = cc
 stays m b c (Same x y) h = cc
@@ -53,10 +56,12 @@ stays m b c (Apart x y) h = elim (or_cases (eqb (m x) b && eqb (m y) c) (eqb (m 
       let t = and_parts (eqb (m x) c) (eqb (m y) b) other in
       let p = eq-eqb (merged b c (m x)) (merged b c c) (ap (merged b c) (eqb-true (m x) c t.0)) in
       let q = eq-eqb (merged b c (m y)) (merged b c b) (ap (merged b c) (eqb-true (m y) b t.1)) in
-      or_right (eqb (merged b c (m x)) (merged b c b) && eqb (merged b c (m y)) (merged b c c)) (eqb (merged b c (m x)) (merged b c c) && eqb (merged b c (m y)) (merged b c b)) (rw (p, q) refl)
+      or_right (eqb (merged b c (m x)) (merged b c b) && eqb (merged b c (m y)) (merged b c c))
+      (eqb (merged b c (m x)) (merged b c c) && eqb (merged b c (m y)) (merged b c b)) (rw (p, q) refl)
 ]
 
-module _ (first : ℕ) (below : ℕ → ℕ → Bool) (table : List Shape) (fs : List (Fact ℕ)) (y z : ℕ) (speak : speak_of_nodes first fs ≡ true) (none : ¬ IsPlainClash first below table fs) where
+module _ (first : ℕ) (below : ℕ → ℕ → Bool) (table : List Shape) (fs : List (Fact ℕ)) (y z : ℕ)
+    (speak : speak_of_nodes first fs ≡ true) (none : ¬ IsPlainClash first below table fs) where
   abbrev joined : List (Fact ℕ)
   joined = fs ++ Same y z ∷ []
 
@@ -76,13 +81,15 @@ module _ (first : ℕ) (below : ℕ → ℕ → Bool) (table : List Shape) (fs :
     | inl held ↦
         let k = kept m 0 a a fs held in
         let node = apart_are_nodes m (node_count_from first fs) a a fs (rep-le fs) speak held in
-        let there : are_apart fs a a ≡ true = ap (λ (v : ℕ). list_any (gives_apart m v v) fs) (ap m (sym k.at) ∙ rep-rep k.node ∙ k.at) ∙ held in
+        let there : are_apart fs a a ≡ true =
+        ap (λ (v : ℕ). list_any (gives_apart m v v) fs) (ap m (sym k.at) ∙ rep-rep k.node ∙ k.at) ∙ held in
         absurd (none (plain_differ a a node.0 node.0 there refl))
   ]
 
   itself : are_apart joined y y ≡ list_any (gives_apart M (M y) (M y)) fs
   itself =
-      ap (λ (r : ℕ → ℕ). list_any (gives_apart r (r y) (r y)) joined) (reps-snoc fs (Same y z)) ∙ any-snoc (gives_apart M (M y) (M y)) fs (Same y z) ∙ or-false (list_any (gives_apart M (M y) (M y)) fs)
+      ap (λ (r : ℕ → ℕ). list_any (gives_apart r (r y) (r y)) joined) (reps-snoc fs (Same y z))
+      ∙ any-snoc (gives_apart M (M y) (M y)) fs (Same y z) ∙ or-false (list_any (gives_apart M (M y) (M y)) fs)
 
   same : are_apart joined y y ≡ are_apart fs y z
   same = elim (cases_Bool (are_apart fs y z)) [

@@ -21,9 +21,11 @@ module _ (w : SearchContext) where
   is_other : (fs : List (Fact ℕ)) (y p : ℕ) → parent_from w.first fs y ≡ Some p → w.first ≤ y
   is_other fs y p h = (origin_of_parent w.first fs y p h).0
 
-  not_under : (fs : List (Fact ℕ)) (x y : ℕ) → ((v p : ℕ) → parent_from w.first fs v ≡ Some p → p < v) → LeadsDown w fs x y → rep fs x ≡ x → rep fs y ≡ y → block_of w.first fs x ≡ Clear
+  not_under : (fs : List (Fact ℕ)) (x y : ℕ) → ((v p : ℕ) → parent_from w.first fs v ≡ Some p → p < v)
+      → LeadsDown w fs x y → rep fs x ≡ x → rep fs y ≡ y → block_of w.first fs x ≡ Clear
       → ¬ (block_of w.first fs y ≡ Under)
-  not_under fs x y less (inl k) rx ry clear e = let c = (blocks_say w.first fs less).0 y (omega (arith, k.ends_first, ry)) in cc
+  not_under fs x y less (inl k) rx ry clear e =
+      let c = (blocks_say w.first fs less).0 y (omega (arith, k.ends_first, ry)) in cc
   not_under fs x y less (inr h) rx ry clear e =
       let is_parent : parent_from w.first fs y ≡ Some h.up = ap (parent_from w.first fs) (sym ry) ∙ h.is_parent in
       let s = subst (BlockSays w.first fs y) e ((blocks_say w.first fs less).1 y (is_other fs y h.up is_parent)) in
@@ -31,10 +33,13 @@ module _ (w : SearchContext) where
       let p : s.0 ≡ h.up = cc in
       s.2 (ap (λ (v : ℕ). block_of w.first fs v) (ap (rep fs) p ∙ h.is_joined ∙ rx) ∙ clear)
 
-pub clear_has_none_under : (w : SearchContext) (at sub not_sup k : ℕ) (trail : List Item) → at < w.first → Follows w (start at sub not_sup) k trail
-    → (roles : ℕ → Bool) (x y : ℕ) → rep (facts_of trail) x ≡ x → block_of w.first (facts_of trail) x ≡ Clear → is_successor (facts_of trail) roles x y ≡ true
+pub clear_has_none_under : (w : SearchContext) (at sub not_sup k : ℕ) (trail : List Item) → at < w.first
+    → Follows w (start at sub not_sup) k trail
+    → (roles : ℕ → Bool) (x y : ℕ) → rep (facts_of trail) x ≡ x → block_of w.first (facts_of trail) x ≡ Clear
+    → is_successor (facts_of trail) roles x y ≡ true
     → ¬ (block_of w.first (facts_of trail) y ≡ Under)
 clear_has_none_under w at sub not_sup k trail lt r roles x y rx clear next =
     let fs = facts_of trail in
-    not_under w fs x y (parents_less w at sub not_sup k trail lt r) (successor_is_child w at sub not_sup k trail lt r roles x y (successor_has_edge fs roles x y next)) rx
+    not_under w fs x y (parents_less w at sub not_sup k trail lt r)
+    (successor_is_child w at sub not_sup k trail lt r roles x y (successor_has_edge fs roles x y next)) rx
     (successor_is_rep fs roles x y next) clear

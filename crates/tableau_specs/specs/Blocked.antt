@@ -1,5 +1,6 @@
 -- Which representatives are blocked, by recursion on the number of the node. Each of the `first` first nodes is clear.
-use Rattle.std.specs.Prelude.{ℕ, zero, suc, ◌+◌, ◌==◌, nat_lt, ◌&&◌, Bool, true, false, List, [], ◌∷◌, ◌++◌, Option, Some, None, if◌then◌else◌, slice_index_or}
+use Rattle.std.specs.Prelude.{ℕ, zero, suc, ◌+◌, ◌==◌, nat_lt, ◌&&◌, Bool, true, false, List, [], ◌∷◌, ◌++◌, Option}
+use Rattle.std.specs.Prelude.{Some, None, if◌then◌else◌, slice_index_or}
 use Rattle.calculus_specs.specs.declared.facts.Fact.{Fact}
 use Rattle.calculus_specs.specs.Joins.{rep}
 use Rattle.calculus_specs.specs.State.{parent_from, is_label_part}
@@ -28,7 +29,8 @@ blocked_from fs blocks x z (suc n) = if may_block fs blocks x z then By z else b
 -- the block of node x, where `blocks` are those of the nodes below it
 abbrev pub block_at : ℕ → List (Fact ℕ) → List Block → ℕ → Block
 block_at first fs blocks x =
-    if nat_lt x first then Clear else (if is_parent_clear fs blocks (parent_from first fs x) then blocked_from fs blocks x 0 x else Under)
+    if nat_lt x first then Clear
+    else (if is_parent_clear fs blocks (parent_from first fs x) then blocked_from fs blocks x 0 x else Under)
 
 -- the blocks of the first n nodes
 abbrev pub blocks_to : ℕ → List (Fact ℕ) → ℕ → List Block

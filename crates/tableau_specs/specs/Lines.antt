@@ -13,7 +13,9 @@ use Rattle.calculus_specs.specs.declared.facts.Fact.TheVariants.{Has, Apart, Sam
 use Rattle.calculus_specs.specs.State.{node_count_from, has_edge}
 use Rattle.calculus_specs.specs.Reading.{read_facts}
 use Rattle.calculus_specs.specs.Line.{Line}
-use Rattle.calculus_specs.specs.Line.Line.{and_line, or_line, all_line, carry_line, row_line, range_line, some_line, least_line, choose_line, pair_line, bottom_line, clash_line, most_line, fact_line, differ_line}
+use Rattle.calculus_specs.specs.Line.Line.{and_line, or_line, all_line, carry_line, row_line, range_line, some_line}
+use Rattle.calculus_specs.specs.Line.Line.{least_line, choose_line, pair_line, bottom_line, clash_line, most_line}
+use Rattle.calculus_specs.specs.Line.Line.{fact_line, differ_line}
 use Rattle.calculus_specs.specs.Rules.{Known, with_facts, children_of, Question}
 use Rattle.tableau_specs.specs.declared.Branch.{Branch}
 use Rattle.tableau_specs.specs.declared.Branch.TheVariants.{Or, Choose, Pair}
@@ -27,7 +29,8 @@ use Rattle.tableau_specs.specs.Steps.Generates.{by_some, by_least}
 
 -- their nodes, and themselves over trees
 abbrev pub known_by : ℕ → List Shape → List (Fact ℕ) → Known
-known_by first table fs = record { nodes = range_with_len 0 (node_count_from first fs); facts = read_facts (tree_of table) fs }
+known_by first table fs =
+    record { nodes = range_with_len 0 (node_count_from first fs); facts = read_facts (tree_of table) fs }
 
 -- the concept of a number of the table
 abbrev pub concept_in : List Shape → ℕ → Option Concept
@@ -43,7 +46,8 @@ children_in w q fs line = children_of (asked_in w q) (concept_in w.table) (known
 
 -- ---- clashes
 
-abbrev pub line_of_clash : (first : ℕ) (below : ℕ → ℕ → Bool) (table : List Shape) (fs : List (Fact ℕ)) → IsClash first below table fs → Line
+abbrev pub line_of_clash : (first : ℕ) (below : ℕ → ℕ → Bool) (table : List Shape) (fs : List (Fact ℕ))
+    → IsClash first below table fs → Line
 line_of_clash first below table fs (of_bottom x c lt h sh) = bottom_line x
 line_of_clash first below table fs (of_names x c d a lt h sh g th) = clash_line x c
 line_of_clash first below table fs (of_most x c n s e ys lt h sh len all apart) = most_line x c ys
@@ -58,7 +62,8 @@ first_passing p (x ∷ xs) = if p x then x else first_passing p xs
 
 -- the first node from which an edge below s leads to x
 abbrev pub first_begin : SearchContext → List (Fact ℕ) → ℕ → ℕ → ℕ
-first_begin w fs s x = first_passing (λ z. has_edge fs (λ r. below_of w r s) z x) (range_with_len 0 (node_count_from w.first fs))
+first_begin w fs s x =
+    first_passing (λ z. has_edge fs (λ r. below_of w r s) z x) (range_with_len 0 (node_count_from w.first fs))
 
 -- the line of a row at x, by its axiom, its part and its trigger
 abbrev pub line_of_row : SearchContext → List (Fact ℕ) → ℕ → ℕ → ℕ → Trigger → Line

@@ -20,9 +20,11 @@ module _ (first : ℕ) (below : ℕ → ℕ → Bool) (table : List Shape) (fs :
   pub data ClashesBy (x d : ℕ) : Type 0 where
     by_bottom : shape_of table d ≡ bottom → ClashesBy x d
     by_name : (c a : ℕ) → shape_of table d ≡ name a → has fs x c ≡ true → shape_of table c ≡ not_name a → ClashesBy x d
-    by_complement : (c a : ℕ) → shape_of table d ≡ not_name a → has fs x c ≡ true → shape_of table c ≡ name a → ClashesBy x d
+    by_complement : (c a : ℕ) → shape_of table d ≡ not_name a → has fs x c ≡ true → shape_of table c ≡ name a
+        → ClashesBy x d
     by_most : (n s e : ℕ) → IsOverrun x d n s e → ClashesBy x d
-    by_filler : (z c n s : ℕ) → z < node_count_from first fs → has_edge fs (λ r. below r s) z x ≡ true → IsOverrun z c n s d → ClashesBy x d
+    by_filler : (z c n s : ℕ) → z < node_count_from first fs → has_edge fs (λ r. below r s) z x ≡ true
+        → IsOverrun z c n s d → ClashesBy x d
 
   -- that new nodes with concept e are at the ends of edges of role s from x makes a plain clash: e is bottom, or x has
   -- an 'at most' of too many, of a role above s, whose filler is e or top
@@ -33,16 +35,19 @@ module _ (first : ℕ) (below : ℕ → ℕ → Bool) (table : List Shape) (fs :
   -- that nodes y and z are apart makes a plain clash: a node with edges to both has an 'at most' of too many, whose
   -- filler both have, or they are one
   pub data ClashesByApart (y z : ℕ) : Type 0 where
-    apart_overrun : (x c n s e : ℕ) → x < node_count_from first fs → has_edge fs (λ r. below r s) x y ≡ true → has fs y e ≡ true → has_edge fs (λ r. below r s) x z ≡ true → has fs z e ≡ true
+    apart_overrun : (x c n s e : ℕ) → x < node_count_from first fs → has_edge fs (λ r. below r s) x y ≡ true
+        → has fs y e ≡ true → has_edge fs (λ r. below r s) x z ≡ true → has fs z e ≡ true
         → IsOverrun x c n s e → ClashesByApart y z
     apart_differ : rep fs y ≡ rep fs z → ClashesByApart y z
 
   -- that node y is one with another makes a plain clash: it is apart from itself, or has a class and the class's
   -- complement, or an 'at most' of too many, or a node with an edge to it has one whose filler it has
   pub data ClashesByJoin (y : ℕ) : Type 0 where
-    join_names : (c d a : ℕ) → has fs y c ≡ true → shape_of table c ≡ name a → has fs y d ≡ true → shape_of table d ≡ not_name a → ClashesByJoin y
+    join_names : (c d a : ℕ) → has fs y c ≡ true → shape_of table c ≡ name a → has fs y d ≡ true
+        → shape_of table d ≡ not_name a → ClashesByJoin y
     join_most : (c n s e : ℕ) → IsOverrun y c n s e → ClashesByJoin y
-    join_filler : (x c n s e : ℕ) → x < node_count_from first fs → has_edge fs (λ r. below r s) x y ≡ true → has fs y e ≡ true → IsOverrun x c n s e → ClashesByJoin y
+    join_filler : (x c n s e : ℕ) → x < node_count_from first fs → has_edge fs (λ r. below r s) x y ≡ true
+        → has fs y e ≡ true → IsOverrun x c n s e → ClashesByJoin y
     join_differ : are_apart fs y y ≡ true → ClashesByJoin y
 
   -- that an edge of role r leads from x to y makes a plain clash: x has an 'at most' of too many, of a role above r,

@@ -79,9 +79,13 @@ is_table = record {
 
 pub is_choice : IsChoice theory table (row ∷ [])
 is_choice = record {
-  rows_fit = All-cons (IsRowOf theory table) row [] (record { part = inclusion_of (name 10) (name 11); is_there = refl; listed = lit< tt; is_right = refl }) (All-nil (IsRowOf theory table));
+  rows_fit =
+      All-cons (IsRowOf theory table) row []
+      (record { part = inclusion_of (name 10) (name 11); is_there = refl; listed = lit< tt; is_right = refl })
+      (All-nil (IsRowOf theory table));
   each_once =
-      All-cons (λ n. count_by (λ r. is_row_of r n) (row ∷ []) ≡ 1) (record { axiom_number = 1; part_number = 1; part = inclusion_of (name 10) (name 11) }) [] refl
+      All-cons (λ n. count_by (λ r. is_row_of r n) (row ∷ []) ≡ 1)
+      (record { axiom_number = 1; part_number = 1; part = inclusion_of (name 10) (name 11) }) [] refl
       (All-nil (λ n. count_by (λ r. is_row_of r n) (row ∷ []) ≡ 1));
 }
 
@@ -126,7 +130,8 @@ no_plain_clash (plain_names x c d a lt h sh g th) =
     let e : a ≡ 11 = subst IsOfEleven th (of_eleven d) in
     let k : c ≡ 2 = eleven_is_two c (sh ∙ ap name_shape e) in
     let z : x ≡ 0 = omega (arith, lt) in
-    let f : has (facts_of first) 0 2 ≡ true = ap (λ (y : ℕ). has (facts_of first) y 2) (sym z) ∙ ap (has (facts_of first) x) (sym k) ∙ h in
+    let f : has (facts_of first) 0 2 ≡ true =
+    ap (λ (y : ℕ). has (facts_of first) y 2) (sym z) ∙ ap (has (facts_of first) x) (sym k) ∙ h in
     cc
 no_plain_clash (plain_differ y z lt mt apart same) = cc
 no_plain_clash (plain_most x c n s e lt h sh more every) = subst IsPlain sh (plain_each c)
@@ -154,4 +159,5 @@ clashes = of_names 0 2 3 11 (lit< tt) refl refl refl refl
 
 -- one step decides, where the answer is yes
 pub one_step : (IsEntailed : Type 0) → IsEntailed → Costs (on_any theory (name 10) (name 11)) IsEntailed 1
-one_step IsEntailed yes' = record { table = table; rows = row ∷ []; trail = second; reached = reached; ends = inr (clashes, yes') }
+one_step IsEntailed yes' =
+    record { table = table; rows = row ∷ []; trail = second; reached = reached; ends = inr (clashes, yes') }

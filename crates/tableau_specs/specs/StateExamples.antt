@@ -28,13 +28,16 @@ same_role r s = r == s
 -- nodes 1 to 3 are made below node 0 by role 7 with concept 1, then a mark stands, and then node 4 is made in the same
 -- way
 abbrev marked : List Item
-marked = says (fresh_facts 0 7 1 1 3) ++ Mark (record { line = 5; branch = Pair 4 1; alternative = 1 }) ∷ says (fresh_facts 0 7 1 4 1)
+marked =
+    says (fresh_facts 0 7 1 1 3)
+    ++ Mark (record { line = 5; branch = Pair 4 1; alternative = 1 }) ∷ says (fresh_facts 0 7 1 4 1)
 
 pub nine_items_before_the_mark : length (says (fresh_facts 0 7 1 1 3)) ≡ 9
 nine_items_before_the_mark = refl
 
 pub marks_are_no_facts : facts_of marked
-    ≡ Edge 7 0 1 ∷ Has 1 1 ∷ Edge 7 0 2 ∷ Has 2 1 ∷ Edge 7 0 3 ∷ Has 3 1 ∷ Apart 1 2 ∷ Apart 1 3 ∷ Apart 2 3 ∷ Edge 7 0 4 ∷ Has 4 1 ∷ []
+    ≡ Edge 7 0 1 ∷ Has 1 1 ∷ Edge 7 0 2 ∷ Has 2 1 ∷ Edge 7 0 3 ∷ Has 3 1 ∷ Apart 1 2 ∷ Apart 1 3 ∷ Apart 2 3
+    ∷ Edge 7 0 4 ∷ Has 4 1 ∷ []
 marks_are_no_facts = refl
 
 pub five_nodes : node_count_from 1 (facts_of marked) ≡ 5

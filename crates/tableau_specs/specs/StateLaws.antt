@@ -11,7 +11,8 @@ use Rattle.tableau_specs.specs.Clash.{IsClash, IsPlainClash}
 
 -- where a search finds a clash, some rule line without children has its premises
 abbrev pub PlainClashIsClash : Type 0
-PlainClashIsClash = (first : ℕ) (below : ℕ → ℕ → Bool) (table : List Shape) (fs : List (Fact ℕ)) → IsPlainClash first below table fs → IsClash first below table fs
+PlainClashIsClash = (first : ℕ) (below : ℕ → ℕ → Bool) (table : List Shape) (fs : List (Fact ℕ))
+    → IsPlainClash first below table fs → IsClash first below table fs
 
 -- ---- blocked nodes
 
@@ -29,11 +30,13 @@ pub record MayBlock (first : ℕ) (fs : List (Fact ℕ)) (x z : ℕ) : Type 0 wh
 -- what each answer says of a node that is no first node
 abbrev pub BlockSays : ℕ → List (Fact ℕ) → ℕ → Block → Type 0
 BlockSays first fs x Clear = ParentIsClear first fs x × ((z : ℕ) → ¬ MayBlock first fs x z)
-BlockSays first fs x (By z) = ParentIsClear first fs x × MayBlock first fs x z × ((v : ℕ) → v < z → ¬ MayBlock first fs x v)
+BlockSays first fs x (By z) = ParentIsClear first fs x × MayBlock first fs x z
+    × ((v : ℕ) → v < z → ¬ MayBlock first fs x v)
 BlockSays first fs x Under = (p : ℕ) × (parent_from first fs x ≡ Some p) × ¬ (block_of first fs (rep fs p) ≡ Clear)
 
 -- where parents are less than their nodes, as they are in each trail that a search reaches, first nodes are clear, and
 -- any other node is what its block says
 abbrev pub BlocksSayWhatTheyMean : Type 0
 BlocksSayWhatTheyMean = (first : ℕ) (fs : List (Fact ℕ)) → ((x p : ℕ) → parent_from first fs x ≡ Some p → p < x)
-    → ((x : ℕ) → x < first → block_of first fs x ≡ Clear) × ((x : ℕ) → first ≤ x → BlockSays first fs x (block_of first fs x))
+    → ((x : ℕ) → x < first → block_of first fs x ≡ Clear)
+    × ((x : ℕ) → first ≤ x → BlockSays first fs x (block_of first fs x))

@@ -1,12 +1,14 @@
 -- Worked examples. The table's numbers are: 0 top, 1 a class, 2 its complement, 3 another class, 4 the union of 2 and
 -- 3, 5 the intersection of 1 and 3, 6 'some of role 7 in 1', 7 'at least 2 of role 7 in 1'. There are no rows.
-use Rattle.std.specs.Prelude.{◌≡◌, ◌<◌, ℕ, zero, suc, ◌+◌, Bool, true, false, ◌==◌, nat_lt, ◌&&◌, List, [], ◌∷◌, ◌++◌, slice_get, Option, Some, None, refl}
+use Rattle.std.specs.Prelude.{◌≡◌, ◌<◌, ℕ, zero, suc, ◌+◌, Bool, true, false, ◌==◌, nat_lt, ◌&&◌, List, [], ◌∷◌, ◌++◌}
+use Rattle.std.specs.Prelude.{slice_get, Option, Some, None, refl}
 use Rattle.std.specs.List.{list_all, range_with_len}
 use Rattle.std.proofs.Common.{lit<, ap, sym, subst, ◌∙◌, arith}
 use Rattle.std.proofs.lemmas.List.Elements.{All-nil, All-cons}
 use Rattle.calculus_specs.specs.Concept.{Concept}
 use Rattle.calculus_specs.specs.Shape.{Shape, shape_of}
-use Rattle.calculus_specs.specs.Shape.Shape.{top, bottom, name, not_name, intersection, union, some_of, at_least, at_most}
+use Rattle.calculus_specs.specs.Shape.Shape.{top, bottom, name, not_name, intersection, union, some_of, at_least}
+use Rattle.calculus_specs.specs.Shape.Shape.{at_most}
 use Rattle.calculus_specs.specs.declared.facts.Fact.{Fact}
 use Rattle.calculus_specs.specs.declared.facts.Fact.TheVariants.{Has, Edge, Apart, Same}
 use Rattle.calculus_specs.specs.Joins.{rep}
@@ -29,10 +31,18 @@ use Rattle.tableau_specs.specs.Reached.{start, Follows}
 use Rattle.std.proofs.lemmas.Bool.Decides.{nat_tests}
 
 abbrev table : List Shape
-table = top ∷ name 10 ∷ not_name 10 ∷ name 11 ∷ union (2 ∷ 3 ∷ []) ∷ intersection (1 ∷ 3 ∷ []) ∷ some_of 7 1 ∷ at_least 2 7 1 ∷ []
+table =
+    top ∷ name 10 ∷ not_name 10 ∷ name 11 ∷ union (2 ∷ 3 ∷ []) ∷ intersection (1 ∷ 3 ∷ []) ∷ some_of 7 1
+    ∷ at_least 2 7 1 ∷ []
 
 abbrev context : SearchContext
-context = record { theory = record { parts = []; below = λ r s. r == s; is_transitive = λ r. false }; table = table; rows = []; first = 1; fact_of = λ a p. None }
+context = record {
+  theory = record { parts = []; below = λ r s. r == s; is_transitive = λ r. false };
+  table = table;
+  rows = [];
+  first = 1;
+  fact_of = λ a p. None;
+}
 
 -- ---- Choose and Back
 
@@ -89,17 +99,20 @@ only_two (suc (suc (suc (suc (suc (suc (suc zero))))))) = tt
 only_two (suc (suc (suc (suc (suc (suc (suc (suc c)))))))) = tt
 
 -- so node 0 alone has no plain clash where it does not have 2
-no_plain : (is : List Item) → node_count_from 1 (facts_of is) ≡ 1 → has (facts_of is) 0 2 ≡ false → are_apart (facts_of is) 0 0 ≡ false → ¬ HasPlainClash context is
+no_plain : (is : List Item) → node_count_from 1 (facts_of is) ≡ 1 → has (facts_of is) 0 2 ≡ false
+    → are_apart (facts_of is) 0 0 ≡ false → ¬ HasPlainClash context is
 no_plain is one out none (plain_bottom x c lt h sh) = subst IsPlain sh (plain_table c)
 no_plain is one out none (plain_names x c d a lt h sh g th) =
     let e : d ≡ 2 = subst (λ (s : Shape). IsNegative s d) th (only_two d) in
     let z : x ≡ 0 = omega (arith, lt, one) in
-    let k : has (facts_of is) 0 2 ≡ true = ap (λ (y : ℕ). has (facts_of is) y 2) (sym z) ∙ ap (λ (f : ℕ). has (facts_of is) x f) (sym e) ∙ g in
+    let k : has (facts_of is) 0 2 ≡ true =
+    ap (λ (y : ℕ). has (facts_of is) y 2) (sym z) ∙ ap (λ (f : ℕ). has (facts_of is) x f) (sym e) ∙ g in
     cc
 no_plain is one out none (plain_differ y z lt mt apart same) =
     let a : y ≡ 0 = omega (arith, lt, one) in
     let b : z ≡ 0 = omega (arith, mt, one) in
-    let k : are_apart (facts_of is) 0 0 ≡ true = ap (λ (v : ℕ). are_apart (facts_of is) v 0) (sym a) ∙ ap (λ (v : ℕ). are_apart (facts_of is) y v) (sym b) ∙ apart in
+    let k : are_apart (facts_of is) 0 0 ≡ true =
+    ap (λ (v : ℕ). are_apart (facts_of is) v 0) (sym a) ∙ ap (λ (v : ℕ). are_apart (facts_of is) y v) (sym b) ∙ apart in
     cc
 no_plain is one out none (plain_most x c n s e lt h sh more every) = subst IsPlain sh (plain_table c)
 
@@ -107,7 +120,10 @@ no_plain is one out none (plain_most x c n s e lt h sh more every) = subst IsPla
 pub chooses : IsLegal context undecided first_taken
 chooses =
     choose (choice 1) (Has 0 2) (no_plain undecided refl refl refl)
-    (on_union 0 4 (2 ∷ 3 ∷ []) (lit< tt) refl refl (All-cons (λ d. has (facts_of undecided) 0 d ≡ false) 2 (3 ∷ []) refl (All-cons (λ d. has (facts_of undecided) 0 d ≡ false) 3 [] refl (All-nil (λ d. has (facts_of undecided) 0 d ≡ false)))))
+    (on_union 0 4 (2 ∷ 3 ∷ []) (lit< tt) refl refl
+    (All-cons (λ d. has (facts_of undecided) 0 d ≡ false) 2 (3 ∷ []) refl
+    (All-cons (λ d. has (facts_of undecided) 0 d ≡ false) 3 [] refl
+    (All-nil (λ d. has (facts_of undecided) 0 d ≡ false)))))
     refl (of_union 0 4 0 2 (2 ∷ 3 ∷ []) refl refl)
 
 pub two_steps : Follows context (start 0 4 1) 2 second_taken
@@ -120,7 +136,8 @@ abbrev half : List Item
 half = start 0 5 1
 
 pub adds_the_rest : IsLegal context half (half ++ Says (Has 0 3) ∷ [])
-adds_the_rest = add 0 3 (no_plain half refl refl refl) (by_and 0 5 3 (1 ∷ 3 ∷ []) (lit< tt) refl refl (1, lit< tt, refl)) refl
+adds_the_rest =
+    add 0 3 (no_plain half refl refl refl) (by_and 0 5 3 (1 ∷ 3 ∷ []) (lit< tt) refl refl (1, lit< tt, refl)) refl
 
 -- 1 is a part of the intersection too, but it adds nothing, and no other step comes to the same
 one_said : (new : List (Fact ℕ)) → says new ≡ Says (Has 0 1) ∷ [] → new ≡ Has 0 1 ∷ []
@@ -145,10 +162,12 @@ not_again : (new : List Item) → IsLegal context half new → ¬ (new ≡ half 
 not_again new (add x d nc adds out) e =
     let p : x ≡ 0 = cc in
     let q : d ≡ 1 = cc in
-    let k : has (facts_of half) 0 1 ≡ false = ap (λ (y : ℕ). has (facts_of half) y 1) (sym p) ∙ ap (λ (f : ℕ). has (facts_of half) x f) (sym q) ∙ out in
+    let k : has (facts_of half) 0 1 ≡ false =
+    ap (λ (y : ℕ). has (facts_of half) y 1) (sym p) ∙ ap (λ (f : ℕ). has (facts_of half) x f) (sym q) ∙ out in
     cc
 not_again new (give f nc given out) e = (let k = given.is_there in cc)
-not_again new (generate fs nc makes) e = let k : says fs ≡ Says (Has 0 1) ∷ [] = cc in generates_no_concept (facts_of half) fs makes (one_said fs k)
+not_again new (generate fs nc makes) e =
+    let k : says fs ≡ Says (Has 0 1) ∷ [] = cc in generates_no_concept (facts_of half) fs makes (one_said fs k)
 not_again new (choose c f nc may one alt) e = cc
 not_again new (back place c f clash read alt) e = absurd (no_mark place c read)
 
@@ -159,7 +178,9 @@ adds_nothing h = not_again (half ++ Says (Has 0 1) ∷ []) h refl
 
 -- node 0 has 'some of role 7 in 1', and no successor yet
 pub generates : IsLegal context (start 0 6 6) (start 0 6 6 ++ Says (Edge 7 0 1) ∷ Says (Has 1 1) ∷ [])
-generates = generate (Edge 7 0 1 ∷ Has 1 1 ∷ []) (no_plain (start 0 6 6) refl refl refl) (by_some 0 6 7 1 (record { is_node = lit< tt; is_rep = refl; is_clear = refl }) refl refl refl)
+generates =
+    generate (Edge 7 0 1 ∷ Has 1 1 ∷ []) (no_plain (start 0 6 6) refl refl refl)
+    (by_some 0 6 7 1 (record { is_node = lit< tt; is_rep = refl; is_clear = refl }) refl refl refl)
 
 -- ---- 'at least'
 
@@ -173,7 +194,9 @@ generates_two =
     generate (fresh_facts 0 7 1 1 2) (no_plain (start 0 7 7) refl refl refl)
     (by_least 0 7 2 7 1 (record { is_node = lit< tt; is_rep = refl; is_clear = refl }) refl refl (λ y.
     let fs = facts_of (start 0 7 7) in
-    no_run (nat_lt y 1) (has fs y 1) (list_all (is_filled_successor 1 (below_of context) fs 0 7 1) (range_with_len (y + 1) 1)) (all_apart fs (range_with_len y 2))))
+    no_run (nat_lt y 1) (has fs y 1)
+    (list_all (is_filled_successor 1 (below_of context) fs 0 7 1) (range_with_len (y + 1) 1))
+    (all_apart fs (range_with_len y 2))))
 
 -- node 1 is 'some of role 7 in 1' of node 0, nodes 2 and 3 are 'at least 2', and node 2 has been joined to node 1
 abbrev joined : List (Fact ℕ)
@@ -214,8 +237,10 @@ makes_none_again new (by_least x c n s e at h sh none) eq =
     let shape = subst IsLeast sh (only_least c) in
     let begins : x ≡ 0 = begins_at_zero x s e n shape.0 eq in
     let f : is_run context joined 0 7 1 2 2 ≡ false =
-    ap (λ (v : ℕ). is_run context joined v 7 1 2 2) (sym begins) ∙ ap (λ (r : ℕ). is_run context joined x r 1 2 2) (sym shape.1)
-    ∙ ap (λ (d : ℕ). is_run context joined x s d 2 2) (sym shape.2) ∙ ap (λ (m : ℕ). is_run context joined x s e m 2) (sym shape.0) ∙ none 2 in
+    ap (λ (v : ℕ). is_run context joined v 7 1 2 2) (sym begins)
+    ∙ ap (λ (r : ℕ). is_run context joined x r 1 2 2) (sym shape.1)
+    ∙ ap (λ (d : ℕ). is_run context joined x s d 2 2) (sym shape.2)
+    ∙ ap (λ (m : ℕ). is_run context joined x s e m 2) (sym shape.0) ∙ none 2 in
     cc
 
 -- ---- given facts
@@ -244,8 +269,10 @@ abbrev joined_again : List Item
 joined_again = parted ++ Says (Same 1 0) ∷ []
 
 -- a state with three nodes, of which none has 2, and none that is apart from itself has no plain clash
-no_plain_of_three : (is : List Item) → node_count_from 3 (facts_of is) ≡ 3 → ((x : ℕ) → x < 3 → has (facts_of is) x 2 ≡ false)
-    → ((y z : ℕ) → y < 3 → z < 3 → rep (facts_of is) y ≡ rep (facts_of is) z → are_apart (facts_of is) y z ≡ false) → ¬ HasPlainClash with_individuals is
+no_plain_of_three : (is : List Item) → node_count_from 3 (facts_of is) ≡ 3
+    → ((x : ℕ) → x < 3 → has (facts_of is) x 2 ≡ false)
+    → ((y z : ℕ) → y < 3 → z < 3 → rep (facts_of is) y ≡ rep (facts_of is) z → are_apart (facts_of is) y z ≡ false)
+    → ¬ HasPlainClash with_individuals is
 no_plain_of_three is three out none (plain_bottom x c lt h sh) = subst IsPlain sh (plain_table c)
 no_plain_of_three is three out none (plain_names x c d a lt h sh g th) =
     let e : d ≡ 2 = subst (λ (s : Shape). IsNegative s d) th (only_two d) in
@@ -253,7 +280,8 @@ no_plain_of_three is three out none (plain_names x c d a lt h sh g th) =
     let l = out x (omega (arith, lt, three)) in
     cc
 no_plain_of_three is three out none (plain_most x c n s e lt h sh more every) = subst IsPlain sh (plain_table c)
-no_plain_of_three is three out none (plain_differ y z lt mt apart same) = let l = none y z (omega (arith, lt, three)) (omega (arith, mt, three)) same in cc
+no_plain_of_three is three out none (plain_differ y z lt mt apart same) =
+    let l = none y z (omega (arith, lt, three)) (omega (arith, mt, three)) same in cc
 
 asked_out : (x : ℕ) → x < 3 → has (facts_of asked) x 2 ≡ false
 asked_out zero lt = refl

@@ -43,13 +43,16 @@ IsOn w n (Says (Same y z)) = (y < n) × (z < n)
 IsOn w n (Mark c) = BranchIsOn n c.branch
 
 abbrev pub NodesStandBefore : Type 0
-NodesStandBefore = (w : SearchContext) (at sub not_sup k : ℕ) (trail : List Item) → at < w.first → Follows w (start at sub not_sup) k trail
-    → (place : ℕ) (item : Item) → slice_get trail place ≡ Some item → IsOn w (node_count_from w.first (facts_of (take place trail))) item
+NodesStandBefore = (w : SearchContext) (at sub not_sup k : ℕ) (trail : List Item) → at < w.first
+    → Follows w (start at sub not_sup) k trail
+    → (place : ℕ) (item : Item) → slice_get trail place ≡ Some item
+    → IsOn w (node_count_from w.first (facts_of (take place trail))) item
 
 -- ---- where there is no plain clash, or nothing is given, no node is apart from itself
 
 abbrev pub NoneIsApartFromItself : Type 0
-NoneIsApartFromItself = (w : SearchContext) (at sub not_sup k : ℕ) (trail : List Item) → at < w.first → Follows w (start at sub not_sup) k trail
+NoneIsApartFromItself = (w : SearchContext) (at sub not_sup k : ℕ) (trail : List Item) → at < w.first
+    → Follows w (start at sub not_sup) k trail
     → ¬ HasPlainClash w trail ⊎ ((f : Fact ℕ) → ¬ IsGiven w f) → (x : ℕ) → are_apart (facts_of trail) x x ≡ false
 
 -- ---- joined nodes are successors of one node, or given as one
@@ -63,8 +66,10 @@ pub record AreSiblings (fs : List (Fact ℕ)) (y z : ℕ) : Type 0 where
   pub not_apart : are_apart fs y z ≡ false
 
 abbrev pub JoinsAreOfSiblings : Type 0
-JoinsAreOfSiblings = (w : SearchContext) (at sub not_sup k : ℕ) (trail : List Item) → at < w.first → Follows w (start at sub not_sup) k trail
-    → (place y z : ℕ) → slice_get trail place ≡ Some (Says (Same y z)) → AreSiblings (facts_of (take place trail)) y z ⊎ IsGiven w (Same y z)
+JoinsAreOfSiblings = (w : SearchContext) (at sub not_sup k : ℕ) (trail : List Item) → at < w.first
+    → Follows w (start at sub not_sup) k trail
+    → (place y z : ℕ) → slice_get trail place ≡ Some (Says (Same y z))
+    → AreSiblings (facts_of (take place trail)) y z ⊎ IsGiven w (Same y z)
 
 -- y is a child of x, read through joins: the representative of y has a parent, which is joined to x
 pub record IsChild (first : ℕ) (fs : List (Fact ℕ)) (x y : ℕ) : Type 0 where
@@ -88,19 +93,23 @@ abbrev pub LeadsDown : SearchContext → List (Fact ℕ) → ℕ → ℕ → Typ
 LeadsDown w fs x y = IsGivenEdge w fs x y ⊎ IsChild w.first fs x y
 
 abbrev pub SuccessorsAreChildren : Type 0
-SuccessorsAreChildren = (w : SearchContext) (at sub not_sup k : ℕ) (trail : List Item) → at < w.first → Follows w (start at sub not_sup) k trail
+SuccessorsAreChildren = (w : SearchContext) (at sub not_sup k : ℕ) (trail : List Item) → at < w.first
+    → Follows w (start at sub not_sup) k trail
     → (roles : ℕ → Bool) (x y : ℕ) → has_edge (facts_of trail) roles x y ≡ true → LeadsDown w (facts_of trail) x y
 
 -- a parent is less than its node, so that blocked nodes are found by recursion on the number
 abbrev pub ParentsAreLess : Type 0
-ParentsAreLess = (w : SearchContext) (at sub not_sup k : ℕ) (trail : List Item) → at < w.first → Follows w (start at sub not_sup) k trail
+ParentsAreLess = (w : SearchContext) (at sub not_sup k : ℕ) (trail : List Item) → at < w.first
+    → Follows w (start at sub not_sup) k trail
     → (x p : ℕ) → parent_from w.first (facts_of trail) x ≡ Some p → p < x
 
 -- ---- below a clear node no successor is under a block
 
 abbrev pub ClearHasNoneUnder : Type 0
-ClearHasNoneUnder = (w : SearchContext) (at sub not_sup k : ℕ) (trail : List Item) → at < w.first → Follows w (start at sub not_sup) k trail
-    → (roles : ℕ → Bool) (x y : ℕ) → rep (facts_of trail) x ≡ x → block_of w.first (facts_of trail) x ≡ Clear → is_successor (facts_of trail) roles x y ≡ true
+ClearHasNoneUnder = (w : SearchContext) (at sub not_sup k : ℕ) (trail : List Item) → at < w.first
+    → Follows w (start at sub not_sup) k trail
+    → (roles : ℕ → Bool) (x y : ℕ) → rep (facts_of trail) x ≡ x → block_of w.first (facts_of trail) x ≡ Clear
+    → is_successor (facts_of trail) roles x y ≡ true
     → ¬ (block_of w.first (facts_of trail) y ≡ Under)
 
 -- ---- the concepts of a trail are in the table
@@ -132,7 +141,8 @@ TablesMayGrow = (q : Question) (table more : List Shape) (rows : List Row) (k : 
 -- ---- a saturated trail has no clash of any kind
 
 abbrev pub SaturatedHasNoClash : Type 0
-SaturatedHasNoClash = (w : SearchContext) (at sub not_sup k : ℕ) (trail : List Item) → at < w.first → Follows w (start at sub not_sup) k trail → IsSaturated w trail → ¬ HasClash w trail
+SaturatedHasNoClash = (w : SearchContext) (at sub not_sup k : ℕ) (trail : List Item) → at < w.first
+    → Follows w (start at sub not_sup) k trail → IsSaturated w trail → ¬ HasClash w trail
 
 -- ---- saturated trails are those from which no step is legal
 
@@ -141,6 +151,8 @@ abbrev pub CarriedAreListed : SearchContext → List (Fact ℕ) → Type 0
 CarriedAreListed w fs = (x y c s t e : ℕ) → IsCarried w fs x y c s t e → (d : ℕ) × (shape_of w.table d ≡ all_of t e)
 
 abbrev pub SaturatedIsTheEnd : Type 0
-SaturatedIsTheEnd = (w : SearchContext) (at sub not_sup k : ℕ) (trail : List Item) → at < w.first → Follows w (start at sub not_sup) k trail
+SaturatedIsTheEnd = (w : SearchContext) (at sub not_sup k : ℕ) (trail : List Item) → at < w.first
+    → Follows w (start at sub not_sup) k trail
     → (IsSaturated w trail → (new : List Item) → ¬ IsLegal w trail new)
-    × (¬ HasPlainClash w trail → CarriedAreListed w (facts_of trail) → ((new : List Item) → ¬ IsLegal w trail new) → IsSaturated w trail)
+    × (¬ HasPlainClash w trail → CarriedAreListed w (facts_of trail) → ((new : List Item) → ¬ IsLegal w trail new)
+    → IsSaturated w trail)

@@ -1,9 +1,11 @@
 -- The steps of a search. The table of legal steps fixes no strategy.
-use Rattle.std.specs.Prelude.{◌≡◌, ℕ, ◌+◌, ◌<◌, ◌==◌, ◌&&◌, Bool, true, false, List, [], ◌∷◌, ◌++◌, length, take, Option, Some, slice_get, All, Contains}
+use Rattle.std.specs.Prelude.{◌≡◌, ℕ, ◌+◌, ◌<◌, ◌==◌, ◌&&◌, Bool, true, false, List, [], ◌∷◌, ◌++◌, length, take}
+use Rattle.std.specs.Prelude.{Option, Some, slice_get, All, Contains}
 use Rattle.std.specs.List.{list_any, list_all, range_with_len}
 use Rattle.calculus_specs.specs.Concept.{Concept, name}
 use Rattle.calculus_specs.specs.Shape.{Shape, shape_of}
-use Rattle.calculus_specs.specs.Shape.Shape.{name as name_shape, intersection, union, some_of, all_of, at_least, at_most}
+use Rattle.calculus_specs.specs.Shape.Shape.{name as name_shape, intersection, union, some_of, all_of, at_least}
+use Rattle.calculus_specs.specs.Shape.Shape.{at_most}
 use Rattle.calculus_specs.specs.Tree.{tree_of, IsComplement}
 use Rattle.calculus_specs.specs.Rows.{Part, Theory, part_at, conjunct_at, Trigger, Row}
 use Rattle.calculus_specs.specs.Rows.Part.{inclusion}
@@ -11,7 +13,8 @@ use Rattle.calculus_specs.specs.Rows.Trigger.{always, names, edge, end_of}
 use Rattle.calculus_specs.specs.declared.facts.Fact.{Fact}
 use Rattle.calculus_specs.specs.declared.facts.Fact.TheVariants.{Has, Apart, Same}
 use Rattle.calculus_specs.specs.Joins.{rep}
-use Rattle.calculus_specs.specs.State.{node_count_from, has, label, has_edge, is_successor, are_apart, all_apart, fresh_facts, is_so, speaks_below}
+use Rattle.calculus_specs.specs.State.{node_count_from, has, label, has_edge, is_successor, are_apart, all_apart}
+use Rattle.calculus_specs.specs.State.{fresh_facts, is_so, speaks_below}
 use Rattle.calculus_specs.specs.Reading.{read_fact, is_fact_listed}
 use Rattle.tableau_specs.specs.declared.Branch.{Branch}
 use Rattle.tableau_specs.specs.declared.Branch.TheVariants.{Or, Choose, Pair}
@@ -54,11 +57,13 @@ has_names w fs x positions _ = false
 
 -- whether some node is the end of an edge below s from x
 abbrev pub begins_edge : SearchContext → List (Fact ℕ) → ℕ → ℕ → Bool
-begins_edge w fs s x = list_any (λ y. has_edge fs (λ r. below_of w r s) x y) (range_with_len 0 (node_count_from w.first fs))
+begins_edge w fs s x =
+    list_any (λ y. has_edge fs (λ r. below_of w r s) x y) (range_with_len 0 (node_count_from w.first fs))
 
 -- whether x is the end of an edge below s
 abbrev pub ends_edge : SearchContext → List (Fact ℕ) → ℕ → ℕ → Bool
-ends_edge w fs s x = list_any (λ z. has_edge fs (λ r. below_of w r s) z x) (range_with_len 0 (node_count_from w.first fs))
+ends_edge w fs s x =
+    list_any (λ z. has_edge fs (λ r. below_of w r s) z x) (range_with_len 0 (node_count_from w.first fs))
 
 abbrev pub is_triggered : SearchContext → List (Fact ℕ) → ℕ → Option Part → Trigger → Bool
 is_triggered w fs x part always = true
@@ -75,7 +80,9 @@ is_used_at w fs row x = is_triggered w fs x (part_at w.theory row.axiom_number r
 -- whether the n nodes from y on are successors of x with the filler e, and pairwise apart. None need be a
 -- representative: nodes that were made for 'at least n' stay such a run, whatever they are joined to later
 abbrev pub is_run : SearchContext → List (Fact ℕ) → ℕ → ℕ → ℕ → ℕ → ℕ → Bool
-is_run w fs x s e n y = list_all (is_filled_successor w.first (below_of w) fs x s e) (range_with_len y n) && all_apart fs (range_with_len y n)
+is_run w fs x s e n y =
+    list_all (is_filled_successor w.first (below_of w) fs x s e) (range_with_len y n)
+    && all_apart fs (range_with_len y n)
 
 -- ---- given facts
 
@@ -102,11 +109,14 @@ module _ (w : SearchContext) (fs : List (Fact ℕ)) where
 
   -- a rule that makes no branch gives node x the concept d
   pub data Adds : ℕ → ℕ → Type 0 where
-    by_and : (x c d : ℕ) (parts : List ℕ) → x < node_count_from w.first fs → has fs x c ≡ true → shape_of w.table c ≡ intersection parts → Contains parts d → Adds x d
-    by_all : (x y c s e : ℕ) → x < node_count_from w.first fs → y < node_count_from w.first fs → has fs x c ≡ true → shape_of w.table c ≡ all_of s e
+    by_and : (x c d : ℕ) (parts : List ℕ) → x < node_count_from w.first fs → has fs x c ≡ true
+        → shape_of w.table c ≡ intersection parts → Contains parts d → Adds x d
+    by_all : (x y c s e : ℕ) → x < node_count_from w.first fs → y < node_count_from w.first fs → has fs x c ≡ true
+        → shape_of w.table c ≡ all_of s e
         → has_edge fs (λ r. below_of w r s) x y ≡ true → Adds y e
     by_carry : (x y c s t e d : ℕ) → IsCarried x y c s t e → shape_of w.table d ≡ all_of t e → Adds y d
-    by_row : (x : ℕ) (row : Row) → x < node_count_from w.first fs → Contains w.rows row → is_used_at w fs row x ≡ true → Adds x row.concept
+    by_row : (x : ℕ) (row : Row) → x < node_count_from w.first fs → Contains w.rows row → is_used_at w fs row x ≡ true
+        → Adds x row.concept
 
   -- ---- Generate
 
@@ -118,7 +128,8 @@ module _ (w : SearchContext) (fs : List (Fact ℕ)) where
 
   -- a rule makes new nodes with these facts
   pub data Generates : List (Fact ℕ) → Type 0 where
-    by_some : (x c s e : ℕ) → IsOpen x → has fs x c ≡ true → shape_of w.table c ≡ some_of s e → filled_successors w.first (below_of w) fs x s e ≡ []
+    by_some : (x c s e : ℕ) → IsOpen x → has fs x c ≡ true → shape_of w.table c ≡ some_of s e
+        → filled_successors w.first (below_of w) fs x s e ≡ []
         → Generates (fresh_facts x s e (node_count_from w.first fs) 1)
     by_least : (x c n s e : ℕ) → IsOpen x → has fs x c ≡ true → shape_of w.table c ≡ at_least n s e
         → ((y : ℕ) → is_run w fs x s e n y ≡ false) → Generates (fresh_facts x s e (node_count_from w.first fs) n)
@@ -127,18 +138,25 @@ module _ (w : SearchContext) (fs : List (Fact ℕ)) where
 
   -- there is something to choose
   pub data MayBranch : Branch → Type 0 where
-    on_union : (x c : ℕ) (parts : List ℕ) → x < node_count_from w.first fs → has fs x c ≡ true → shape_of w.table c ≡ union parts
+    on_union : (x c : ℕ) (parts : List ℕ) → x < node_count_from w.first fs → has fs x c ≡ true
+        → shape_of w.table c ≡ union parts
         → All (λ d. has fs x d ≡ false) parts → MayBranch (Or x c)
-    on_filler : (x c n s e y : ℕ) → x < node_count_from w.first fs → has fs x c ≡ true → shape_of w.table c ≡ at_most n s e
-        → is_successor fs (λ r. below_of w r s) x y ≡ true → has fs y e ≡ false → ((d : ℕ) → IsComplement w.table e d → has fs y d ≡ false)
+    on_filler : (x c n s e y : ℕ) → x < node_count_from w.first fs → has fs x c ≡ true
+        → shape_of w.table c ≡ at_most n s e
+        → is_successor fs (λ r. below_of w r s) x y ≡ true → has fs y e ≡ false
+        → ((d : ℕ) → IsComplement w.table e d → has fs y d ≡ false)
         → MayBranch (Choose y e)
-    on_pair : (x c n s e y z : ℕ) → x < node_count_from w.first fs → has fs x c ≡ true → shape_of w.table c ≡ at_most n s e
-        → n < length (filled_successors w.first (below_of w) fs x s e) → Contains (filled_successors w.first (below_of w) fs x s e) y → Contains (filled_successors w.first (below_of w) fs x s e) z
+    on_pair : (x c n s e y z : ℕ) → x < node_count_from w.first fs → has fs x c ≡ true
+        → shape_of w.table c ≡ at_most n s e
+        → n < length (filled_successors w.first (below_of w) fs x s e)
+        → Contains (filled_successors w.first (below_of w) fs x s e) y
+        → Contains (filled_successors w.first (below_of w) fs x s e) z
         → ¬ (y ≡ z) → are_apart fs y z ≡ false → MayBranch (Pair y z)
 
 -- the fact of an alternative, from 1, of a branch
 pub data IsAlternative (table : List Shape) : Branch → ℕ → Fact ℕ → Type 0 where
-  of_union : (x c k d : ℕ) (parts : List ℕ) → shape_of table c ≡ union parts → slice_get parts k ≡ Some d → IsAlternative table (Or x c) (k + 1) (Has x d)
+  of_union : (x c k d : ℕ) (parts : List ℕ) → shape_of table c ≡ union parts → slice_get parts k ≡ Some d
+      → IsAlternative table (Or x c) (k + 1) (Has x d)
   of_filler : (y e : ℕ) → IsAlternative table (Choose y e) 1 (Has y e)
   of_complement : (y e d : ℕ) → IsComplement table e d → IsAlternative table (Choose y e) 2 (Has y d)
   of_joining : (y z : ℕ) → IsAlternative table (Pair y z) 1 (Same y z)
@@ -163,9 +181,11 @@ module _ (w : SearchContext) where
         → IsLegal old (old ++ Says f ∷ [])
     generate : (new : List (Fact ℕ)) → ¬ HasPlainClash old → Generates w (facts_of old) new
         → IsLegal old (old ++ says new)
-    choose : (c : Choice) (f : Fact ℕ) → ¬ HasPlainClash old → MayBranch w (facts_of old) c.branch → c.alternative ≡ 1 → IsAlternative w.table c.branch 1 f
+    choose : (c : Choice) (f : Fact ℕ) → ¬ HasPlainClash old → MayBranch w (facts_of old) c.branch → c.alternative ≡ 1
+        → IsAlternative w.table c.branch 1 f
         → IsLegal old (old ++ Mark c ∷ Says f ∷ [])
-    back : (place : ℕ) (c : Choice) (f : Fact ℕ) → HasClash old → slice_get old place ≡ Some (Mark c) → IsAlternative w.table c.branch (c.alternative + 1) f
+    back : (place : ℕ) (c : Choice) (f : Fact ℕ) → HasClash old → slice_get old place ≡ Some (Mark c)
+        → IsAlternative w.table c.branch (c.alternative + 1) f
         → IsLegal old (take place old ++ Mark (next_choice c) ∷ Says f ∷ [])
 
   -- there is no plain clash, and nothing to add, to make or to choose, and each given fact is so; a concept that is to

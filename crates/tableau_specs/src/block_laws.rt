@@ -5,7 +5,9 @@
 //! blocking by earlier nodes; F. Baader, M. Buchheit and B. Hollunder, *Cardinality Restrictions on Concepts*,
 //! Artificial Intelligence 88, 1996). So a new fact leaves the blocks of all nodes below those of which it says
 //! something new.
-ghost use Rattle.tableau_specs.specs.BlockLaws.{BlocksFollowWhatStandsBelow, OneFactLeavesBlocksBelow, FactsLeaveBlocksBelow, FactsLeaveNodesBelow, NewNodesLeaveBlocks, EdgesToFirstLeaveBlocks};
+ghost use Rattle.tableau_specs.specs.BlockLaws.{BlocksFollowWhatStandsBelow, OneFactLeavesBlocksBelow};
+ghost use Rattle.tableau_specs.specs.BlockLaws.{FactsLeaveBlocksBelow, FactsLeaveNodesBelow, NewNodesLeaveBlocks};
+ghost use Rattle.tableau_specs.specs.BlockLaws.{EdgesToFirstLeaveBlocks};
 
 /// Where two lists of facts agree on the nodes below a bound, these nodes have the same blocks by both.
 pub fn blocks_follow_what_stands_below()

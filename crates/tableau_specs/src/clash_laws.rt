@@ -1,5 +1,7 @@
 //! Where a step of a search can make a plain clash: laws by which a search looks near what has changed alone.
-ghost use Rattle.tableau_specs.specs.ClashLaws.{ConceptClashesThere, NewNodesClashThere, ApartClashesThere, JoinClashesThere, JoinedAreApartAsBefore, EdgeClashesThere, ReachedSpeakOfNodes, NoClashBeforeMarks};
+ghost use Rattle.tableau_specs.specs.ClashLaws.{ConceptClashesThere, NewNodesClashThere, ApartClashesThere};
+ghost use Rattle.tableau_specs.specs.ClashLaws.{JoinClashesThere, JoinedAreApartAsBefore, EdgeClashesThere};
+ghost use Rattle.tableau_specs.specs.ClashLaws.{ReachedSpeakOfNodes, NoClashBeforeMarks};
 
 /// Where there is no plain clash, a concept more makes one exactly where it clashes at its node.
 pub fn a_concept_clashes_at_its_node()

@@ -1,5 +1,6 @@
 //! Laws that make a closed search a refutation: each clash and each step is a rule line.
-ghost use Rattle.tableau_specs.specs.LineLaws.{ClashesAreLines, ChildlessLinesAreClashes, AddsAreLines, GivesAreLines, GeneratesAreLines, BranchesAreLines};
+ghost use Rattle.tableau_specs.specs.LineLaws.{ClashesAreLines, ChildlessLinesAreClashes, AddsAreLines, GivesAreLines};
+ghost use Rattle.tableau_specs.specs.LineLaws.{GeneratesAreLines, BranchesAreLines};
 
 /// The line of a clash has its premises and no children.
 pub fn clashes_are_lines()

@@ -1,5 +1,8 @@
 //! Laws of the trails that legal steps reach.
-ghost use Rattle.tableau_specs.specs.StepLaws.{NodesStandBefore, NoneIsApartFromItself, JoinsAreOfSiblings, SuccessorsAreChildren, ParentsAreLess, ClearHasNoneUnder, NumbersAreListed, KeptKindsStay, TablesMayGrow, SaturatedHasNoClash, SaturatedIsTheEnd};
+ghost use Rattle.tableau_specs.specs.StepLaws.{NodesStandBefore, NoneIsApartFromItself, JoinsAreOfSiblings};
+ghost use Rattle.tableau_specs.specs.StepLaws.{SuccessorsAreChildren, ParentsAreLess, ClearHasNoneUnder};
+ghost use Rattle.tableau_specs.specs.StepLaws.{NumbersAreListed, KeptKindsStay, TablesMayGrow, SaturatedHasNoClash};
+ghost use Rattle.tableau_specs.specs.StepLaws.{SaturatedIsTheEnd};
 
 /// Each item of a reached trail speaks of nodes that stand before it.
 pub fn nodes_stand_before_they_are_spoken_of()

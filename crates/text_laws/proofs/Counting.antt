@@ -1,5 +1,6 @@
 -- What counts keep while tests hold.
-use Rattle.std.proofs.Common.{◌≡◌, ℕ, ◌+◌, ◌≤◌, Bool, true, false, cond, List, [], ◌∷◌, ◌++◌, length, position, Option, Some, None, Result, Ok, Err, refl, sym, ◌∙◌, arith}
+use Rattle.std.proofs.Common.{◌≡◌, ℕ, ◌+◌, ◌≤◌, Bool, true, false, cond, List, [], ◌∷◌, ◌++◌, length, position, Option}
+use Rattle.std.proofs.Common.{Some, None, Result, Ok, Err, refl, sym, ◌∙◌, arith}
 use Rattle.std.specs.List.{list_all}
 use Rattle.std.specs.Str.{bytes_eq}
 use Rattle.std.proofs.lemmas.List.Folds.{list_all-append}
@@ -8,7 +9,8 @@ use Rattle.shq_terms.specs.Names.{with_at, with_name}
 use Rattle.shq_terms.specs.Distinct.{AreDistinct}
 use Rattle.shq_terms.proofs.Distinct.{pushed_distinct}
 use Rattle.ofn_expressions.specs.Counts.{Counts}
-use Rattle.ofn_expressions.specs.Walk.{Test, numbered, parts, nodes, class, role, individual, holds, refusal, counts_after, after_all, outcomes, first_failing, verdict, walked}
+use Rattle.ofn_expressions.specs.Walk.{Test, numbered, parts, nodes, class, role, individual, holds, refusal}
+use Rattle.ofn_expressions.specs.Walk.{counts_after, after_all, outcomes, first_failing, verdict, walked}
 use Rattle.ofn_expressions.specs.Names.{Prefix}
 use Rattle.ofn_expressions.specs.Classes.{Keeps}
 use Rattle.ofn_expressions.specs.declared.refusal.Refusal.{Refusal}
@@ -29,7 +31,8 @@ pub record Both (s : Counts) (ts us : List Test) (new : Counts) : Type 0 where
   pub first : walked s ts ≡ Ok mid
   pub second : walked mid us ≡ Ok new
 
-holds_by : (b : Bool) (r : Result Counts Refusal) (e : Refusal) (new : Counts) → cond b r (Err e) ≡ Ok new → (b ≡ true) × (r ≡ Ok new)
+holds_by : (b : Bool) (r : Result Counts Refusal) (e : Refusal) (new : Counts) → cond b r (Err e) ≡ Ok new
+    → (b ≡ true) × (r ≡ Ok new)
 holds_by true r e new h = (refl, h)
 holds_by false r e new h = let clash : ◌≡◌ {A = Result Counts Refusal} (Err e) (Ok new) = h in absurd (cc clash)
 
@@ -38,9 +41,11 @@ held s t ts new h =
     let both = holds_by (holds s t) (walked (counts_after s t) ts) (refusal t) new (sym (walked-cons s t ts) ∙ h) in
     record { now = both.0; later = both.1 }
 
-then_by : (s : Counts) (ts us : List Test) (new : Counts) (r : Result Counts Refusal) → walked s ts ≡ r → then r us ≡ Ok new → Both s ts us new
+then_by : (s : Counts) (ts us : List Test) (new : Counts) (r : Result Counts Refusal) → walked s ts ≡ r →
+    then r us ≡ Ok new → Both s ts us new
 then_by s ts us new (Ok mid) first second = record { mid = mid; first = first; second = second }
-then_by s ts us new (Err e) first second = let clash : ◌≡◌ {A = Result Counts Refusal} (Err e) (Ok new) = second in absurd (cc clash)
+then_by s ts us new (Err e) first second =
+    let clash : ◌≡◌ {A = Result Counts Refusal} (Err e) (Ok new) = second in absurd (cc clash)
 
 pub both : (s : Counts) (ts us : List Test) (new : Counts) → walked s (ts ++ us) ≡ Ok new → Both s ts us new
 both s ts us new h = then_by s ts us new (walked s ts) refl (sym (walked_append s ts us) ∙ h)
@@ -61,7 +66,8 @@ pub walked_after : (s : Counts) (ts : List Test) (t : Counts) → walked s ts �
 walked_after s ts t h = verdict_ok (first_failing (outcomes s ts)) (after_all s ts) t h
 
 -- names that were listed are kept
-pub keeps_before : (s mid new final : Counts) (us : List Test) → walked mid us ≡ Ok new → Keeps new final → Keeps mid final
+pub keeps_before : (s mid new final : Counts) (us : List Test) → walked mid us ≡ Ok new → Keeps new final
+    → Keeps mid final
 keeps_before s mid new final us second keeps = keeps_keeps mid new final (walked_keeps mid us new second) keeps
 
 -- ---- counts of what can be written
@@ -80,12 +86,15 @@ pub record IsWithin (s : Counts) : Type 0 where
   pub few_parts : s.parts ≤ 500000
   pub few_nodes : s.nodes ≤ 262144
 
-all_with : (p : List ℕ → Bool) (names : List (List ℕ)) (w : List ℕ) → list_all p names ≡ true → p w ≡ true → list_all p (with_name names w) ≡ true
+all_with : (p : List ℕ → Bool) (names : List (List ℕ)) (w : List ℕ) → list_all p names ≡ true → p w ≡ true
+    → list_all p (with_name names w) ≡ true
 all_with p names w all good = by (position (bytes_eq w) names)
   where
     by : (r : Option ℕ) → list_all p (with_at r names w) ≡ true
     by (Some k) = all
-    by None = list_all-append p names (w ∷ []) ∙ and_from (list_all p names) (list_all p (w ∷ [])) all (and_from (p w) true good refl)
+    by None =
+        list_all-append p names (w ∷ [])
+        ∙ and_from (list_all p names) (list_all p (w ∷ [])) all (and_from (p w) true good refl)
 
 distinct_with : (names : List (List ℕ)) (w : List ℕ) → AreDistinct names → AreDistinct (with_name names w)
 distinct_with names w distinct = by (position (bytes_eq w) names) refl
@@ -94,7 +103,8 @@ distinct_with names w distinct = by (position (bytes_eq w) names) refl
     by (Some k) found = distinct
     by None found = pushed_distinct names w found distinct
 
-pub class_within : (s : Counts) (n : ℕ) (w : List ℕ) → holds s (class n w) ≡ true → is_class_iri w ≡ true → IsWithin s → IsWithin (counts_after s (class n w))
+pub class_within : (s : Counts) (n : ℕ) (w : List ℕ) → holds s (class n w) ≡ true → is_class_iri w ≡ true → IsWithin s
+    → IsWithin (counts_after s (class n w))
 class_within s n w h good within = record {
   class_iris = all_with is_class_iri s.classes w within.class_iris good;
   role_iris = within.role_iris;
@@ -110,7 +120,8 @@ class_within s n w h good within = record {
   few_nodes = within.few_nodes;
 }
 
-pub role_within : (s : Counts) (n : ℕ) (w : List ℕ) → holds s (role n w) ≡ true → is_role_iri w ≡ true → IsWithin s → IsWithin (counts_after s (role n w))
+pub role_within : (s : Counts) (n : ℕ) (w : List ℕ) → holds s (role n w) ≡ true → is_role_iri w ≡ true → IsWithin s
+    → IsWithin (counts_after s (role n w))
 role_within s n w h good within = record {
   class_iris = within.class_iris;
   role_iris = all_with is_role_iri s.roles w within.role_iris good;
@@ -126,7 +137,8 @@ role_within s n w h good within = record {
   few_nodes = within.few_nodes;
 }
 
-pub individual_within : (s : Counts) (n : ℕ) (w : List ℕ) → holds s (individual n w) ≡ true → is_iri w ≡ true → IsWithin s → IsWithin (counts_after s (individual n w))
+pub individual_within : (s : Counts) (n : ℕ) (w : List ℕ) → holds s (individual n w) ≡ true → is_iri w ≡ true
+    → IsWithin s → IsWithin (counts_after s (individual n w))
 individual_within s n w h good within = record {
   class_iris = within.class_iris;
   role_iris = within.role_iris;
@@ -142,7 +154,8 @@ individual_within s n w h good within = record {
   few_nodes = within.few_nodes;
 }
 
-pub nodes_within : (s : Counts) (n k : ℕ) → holds s (nodes n k) ≡ true → IsWithin s → IsWithin (counts_after s (nodes n k))
+pub nodes_within : (s : Counts) (n k : ℕ) → holds s (nodes n k) ≡ true → IsWithin s
+    → IsWithin (counts_after s (nodes n k))
 nodes_within s n k h within = record {
   class_iris = within.class_iris;
   role_iris = within.role_iris;
@@ -158,7 +171,8 @@ nodes_within s n k h within = record {
   few_nodes = true_le (s.nodes + k) 262144 h;
 }
 
-pub numbered_within : (s : Counts) (n : ℕ) → holds s (numbered n) ≡ true → IsWithin s → IsWithin (counts_after s (numbered n))
+pub numbered_within : (s : Counts) (n : ℕ) → holds s (numbered n) ≡ true → IsWithin s
+    → IsWithin (counts_after s (numbered n))
 numbered_within s n h within = record {
   class_iris = within.class_iris;
   role_iris = within.role_iris;
@@ -174,7 +188,8 @@ numbered_within s n h within = record {
   few_nodes = within.few_nodes;
 }
 
-pub parts_within : (s : Counts) (n k : ℕ) → holds s (parts n k) ≡ true → IsWithin s → IsWithin (counts_after s (parts n k))
+pub parts_within : (s : Counts) (n k : ℕ) → holds s (parts n k) ≡ true → IsWithin s
+    → IsWithin (counts_after s (parts n k))
 parts_within s n k h within = record {
   class_iris = within.class_iris;
   role_iris = within.role_iris;
@@ -202,7 +217,8 @@ pub record Rises (ps : List Prefix) (s new : Counts) (x p n : ℕ) : Type 0 wher
 pub rises_not : (ps : List Prefix) (s : Counts) → Rises ps s s 0 0 0
 rises_not ps s = record { axioms = omega arith; parts = omega arith; nodes = omega arith; within = λ prefixes h. h }
 
-pub rises_both : (ps : List Prefix) (s mid new : Counts) (x p n y q m : ℕ) → Rises ps s mid x p n → Rises ps mid new y q m → Rises ps s new (x + y) (p + q) (n + m)
+pub rises_both : (ps : List Prefix) (s mid new : Counts) (x p n y q m : ℕ) → Rises ps s mid x p n
+    → Rises ps mid new y q m → Rises ps s new (x + y) (p + q) (n + m)
 rises_both ps s mid new x p n y q m first second = record {
   axioms = omega (arith, first.axioms, second.axioms);
   parts = omega (arith, first.parts, second.parts);
@@ -210,7 +226,8 @@ rises_both ps s mid new x p n y q m first second = record {
   within = λ prefixes h. second.within prefixes (first.within prefixes h);
 }
 
-pub rises_as : (ps : List Prefix) (s new : Counts) (x p n y q m : ℕ) → x ≡ y → p ≡ q → n ≡ m → Rises ps s new x p n → Rises ps s new y q m
+pub rises_as : (ps : List Prefix) (s new : Counts) (x p n y q m : ℕ) → x ≡ y → p ≡ q → n ≡ m → Rises ps s new x p n
+    → Rises ps s new y q m
 rises_as ps s new x p n y q m a b c rises = record {
   axioms = omega (arith, a, rises.axioms);
   parts = omega (arith, b, rises.parts);
@@ -218,20 +235,44 @@ rises_as ps s new x p n y q m a b c rises = record {
   within = rises.within;
 }
 
-pub rises_nodes : (ps : List Prefix) (s : Counts) (n k : ℕ) → holds s (nodes n k) ≡ true → Rises ps s (counts_after s (nodes n k)) 0 0 k
-rises_nodes ps s n k h = record { axioms = omega arith; parts = omega arith; nodes = refl; within = λ prefixes. nodes_within s n k h }
+pub rises_nodes : (ps : List Prefix) (s : Counts) (n k : ℕ) → holds s (nodes n k) ≡ true
+    → Rises ps s (counts_after s (nodes n k)) 0 0 k
+rises_nodes ps s n k h =
+    record { axioms = omega arith; parts = omega arith; nodes = refl; within = λ prefixes. nodes_within s n k h }
 
-pub rises_class : (ps : List Prefix) (s : Counts) (n : ℕ) (w : List ℕ) → holds s (class n w) ≡ true → (AreGoodPrefixes ps → is_class_iri w ≡ true) → Rises ps s (counts_after s (class n w)) 0 0 0
-rises_class ps s n w h good = record { axioms = omega arith; parts = omega arith; nodes = omega arith; within = λ prefixes. class_within s n w h (good prefixes) }
+pub rises_class : (ps : List Prefix) (s : Counts) (n : ℕ) (w : List ℕ) → holds s (class n w) ≡ true
+    → (AreGoodPrefixes ps → is_class_iri w ≡ true) → Rises ps s (counts_after s (class n w)) 0 0 0
+rises_class ps s n w h good = record {
+  axioms = omega arith;
+  parts = omega arith;
+  nodes = omega arith;
+  within = λ prefixes. class_within s n w h (good prefixes);
+}
 
-pub rises_role : (ps : List Prefix) (s : Counts) (n : ℕ) (w : List ℕ) → holds s (role n w) ≡ true → (AreGoodPrefixes ps → is_role_iri w ≡ true) → Rises ps s (counts_after s (role n w)) 0 0 0
-rises_role ps s n w h good = record { axioms = omega arith; parts = omega arith; nodes = omega arith; within = λ prefixes. role_within s n w h (good prefixes) }
+pub rises_role : (ps : List Prefix) (s : Counts) (n : ℕ) (w : List ℕ) → holds s (role n w) ≡ true
+    → (AreGoodPrefixes ps → is_role_iri w ≡ true) → Rises ps s (counts_after s (role n w)) 0 0 0
+rises_role ps s n w h good = record {
+  axioms = omega arith;
+  parts = omega arith;
+  nodes = omega arith;
+  within = λ prefixes. role_within s n w h (good prefixes);
+}
 
-pub rises_individual : (ps : List Prefix) (s : Counts) (n : ℕ) (w : List ℕ) → holds s (individual n w) ≡ true → (AreGoodPrefixes ps → is_iri w ≡ true) → Rises ps s (counts_after s (individual n w)) 0 0 0
-rises_individual ps s n w h good = record { axioms = omega arith; parts = omega arith; nodes = omega arith; within = λ prefixes. individual_within s n w h (good prefixes) }
+pub rises_individual : (ps : List Prefix) (s : Counts) (n : ℕ) (w : List ℕ) → holds s (individual n w) ≡ true
+    → (AreGoodPrefixes ps → is_iri w ≡ true) → Rises ps s (counts_after s (individual n w)) 0 0 0
+rises_individual ps s n w h good = record {
+  axioms = omega arith;
+  parts = omega arith;
+  nodes = omega arith;
+  within = λ prefixes. individual_within s n w h (good prefixes);
+}
 
-pub rises_numbered : (ps : List Prefix) (s : Counts) (n : ℕ) → holds s (numbered n) ≡ true → Rises ps s (counts_after s (numbered n)) 1 0 0
-rises_numbered ps s n h = record { axioms = refl; parts = omega arith; nodes = omega arith; within = λ prefixes. numbered_within s n h }
+pub rises_numbered : (ps : List Prefix) (s : Counts) (n : ℕ) → holds s (numbered n) ≡ true
+    → Rises ps s (counts_after s (numbered n)) 1 0 0
+rises_numbered ps s n h =
+    record { axioms = refl; parts = omega arith; nodes = omega arith; within = λ prefixes. numbered_within s n h }
 
-pub rises_parts : (ps : List Prefix) (s : Counts) (n k : ℕ) → holds s (parts n k) ≡ true → Rises ps s (counts_after s (parts n k)) 0 k 0
-rises_parts ps s n k h = record { axioms = omega arith; parts = refl; nodes = omega arith; within = λ prefixes. parts_within s n k h }
+pub rises_parts : (ps : List Prefix) (s : Counts) (n k : ℕ) → holds s (parts n k) ≡ true
+    → Rises ps s (counts_after s (parts n k)) 0 k 0
+rises_parts ps s n k h =
+    record { axioms = omega arith; parts = refl; nodes = omega arith; within = λ prefixes. parts_within s n k h }

@@ -1,7 +1,8 @@
 -- Lists of names of which one stands in front of the other.
 use Rattle.std.proofs.Common.{◌≡◌, ◌≤◌, List, [], ◌∷◌, length, take, refl, ◌∙◌, arith}
 
-pub front : {A : Type 0} (xs ys zs : List A) → take (length xs) ys ≡ xs → take (length ys) zs ≡ ys → take (length xs) zs ≡ xs
+pub front : {A : Type 0} (xs ys zs : List A) → take (length xs) ys ≡ xs → take (length ys) zs ≡ ys
+    → take (length xs) zs ≡ xs
 front [] ys zs a b = refl
 front (x ∷ xs) [] zs a b = let clash : [] ≡ x ∷ xs = a in absurd (cc clash)
 front (x ∷ xs) (y ∷ ys) [] a b = let clash : [] ≡ y ∷ ys = b in absurd (cc clash)
@@ -16,4 +17,5 @@ front (x ∷ xs) (y ∷ ys) (z ∷ zs) a b =
 pub no_longer : {A : Type 0} (xs ys : List A) → take (length xs) ys ≡ xs → length xs ≤ length ys
 no_longer [] ys first = omega arith
 no_longer (x ∷ xs) [] first = let clash : [] ≡ x ∷ xs = first in absurd (cc clash)
-no_longer (x ∷ xs) (y ∷ ys) first = let rest : take (length xs) ys ≡ xs = cc first in omega (arith, no_longer xs ys rest)
+no_longer (x ∷ xs) (y ∷ ys) first =
+    let rest : take (length xs) ys ≡ xs = cc first in omega (arith, no_longer xs ys rest)

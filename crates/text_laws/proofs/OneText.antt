@@ -9,7 +9,9 @@ use Rattle.text_laws.proofs.Read.{written_is_read}
 
 same_read : (text : List ℕ) (o p : Listed) → IsDocumentOf text o → IsDocumentOf text p → AreSame o p
 same_read text o p first second =
-    let read : first.read ≡ second.read = (documents text first.read second.read first.kept second.kept first.end second.end first.is_document second.is_document).0 in
+    let read : first.read ≡ second.read =
+    (documents text first.read second.read first.kept second.kept first.end second.end first.is_document
+    second.is_document).0 in
     record {
       classes = sym first.classes ∙ ap (λ (l : Listed). l.classes) read ∙ second.classes;
       roles = sym first.roles ∙ ap (λ (l : Listed). l.roles) read ∙ second.roles;
@@ -18,4 +20,6 @@ same_read text o p first second =
     }
 
 pub one_text : (o p : Listed) → CanBeWritten o → CanBeWritten p → ontology_text o ≡ ontology_text p → AreSame o p
-one_text o p first second same = same_read (ontology_text p) o p (subst (λ t. IsDocumentOf t o) same (written_is_read o first)) (written_is_read p second)
+one_text o p first second same =
+    same_read (ontology_text p) o p (subst (λ t. IsDocumentOf t o) same (written_is_read o first))
+    (written_is_read p second)

@@ -1,14 +1,18 @@
 -- The limits of expressions and axioms as a walk over their items meets them, all in one test.
-use Rattle.std.proofs.Common.{◌≡◌, ℕ, ◌+◌, ◌-◌, Bool, true, false, ◌&&◌, List, [], ◌∷◌, length, refl, ap, sym, ◌∙◌, arith}
+use Rattle.std.proofs.Common.{◌≡◌, ℕ, ◌+◌, ◌-◌, Bool, true, false, ◌&&◌, List, [], ◌∷◌, length, refl, ap, sym, ◌∙◌}
+use Rattle.std.proofs.Common.{arith}
 use Rattle.std.specs.Prelude.{nat_le}
 use Rattle.std.specs.List.{list_all}
 use Rattle.std.proofs.lemmas.Bool.{and_parts}
 use Rattle.std.proofs.Math.Bool.{and_assoc}
-use Rattle.shq_terms.specs.Concept.{Concept, top, bottom, name, complement, intersection, union, some_of, all_of, at_least, at_most, exactly, Parts, no_parts, part, parts_of, part_list}
+use Rattle.shq_terms.specs.Concept.{Concept, top, bottom, name, complement, intersection, union, some_of, all_of}
+use Rattle.shq_terms.specs.Concept.{at_least, at_most, exactly, Parts, no_parts, part, parts_of, part_list}
 use Rattle.shq_terms.proofs.Bools.{and_turned, and_exchange}
 use Rattle.shq_terms.specs.Listed.{Listed}
 use Rattle.shq_terms.specs.declared.axioms.Axiom.{Axiom}
-use Rattle.shq_terms.specs.declared.axioms.Axiom.TheVariants.{SubClassOf, EquivalentClasses, DisjointClasses, DisjointUnion, SubRole, EquivalentRoles, Domain, Range, Functional, Transitive, Member, Pair, SameAll, Different}
+use Rattle.shq_terms.specs.declared.axioms.Axiom.TheVariants.{SubClassOf, EquivalentClasses, DisjointClasses}
+use Rattle.shq_terms.specs.declared.axioms.Axiom.TheVariants.{DisjointUnion, SubRole, EquivalentRoles, Domain, Range}
+use Rattle.shq_terms.specs.declared.axioms.Axiom.TheVariants.{Functional, Transitive, Member, Pair, SameAll, Different}
 use Rattle.shq_terms.specs.declared.axioms.Numbered.{Numbered}
 use Rattle.shq_nnf.specs.Counts.{has_counts_within, have_counts_within}
 use Rattle.shq_nnf.specs.Facts.{facts_of}
@@ -104,26 +108,43 @@ mutual
   whole_is bottom = refl
   whole_is (name a) = refl
   whole_is (complement c) = whole_is c
-  whole_is (intersection cs) = ap (λ b. nat_le 2 (length (part_list cs)) && b) (all_whole_is cs) ∙ sym (and_assoc (nat_le 2 (length (part_list cs))) (have_enough_parts cs) (have_counts_within 100 cs))
-  whole_is (union cs) = ap (λ b. nat_le 2 (length (part_list cs)) && b) (all_whole_is cs) ∙ sym (and_assoc (nat_le 2 (length (part_list cs))) (have_enough_parts cs) (have_counts_within 100 cs))
+  whole_is (intersection cs) =
+      ap (λ b. nat_le 2 (length (part_list cs)) && b) (all_whole_is cs)
+      ∙ sym (and_assoc (nat_le 2 (length (part_list cs))) (have_enough_parts cs) (have_counts_within 100 cs))
+  whole_is (union cs) =
+      ap (λ b. nat_le 2 (length (part_list cs)) && b) (all_whole_is cs)
+      ∙ sym (and_assoc (nat_le 2 (length (part_list cs))) (have_enough_parts cs) (have_counts_within 100 cs))
   whole_is (some_of r c) = whole_is c
   whole_is (all_of r c) = whole_is c
-  whole_is (at_least n r c) = ap (λ b. nat_le n 100 && b) (whole_is c) ∙ and_turned (nat_le n 100) (has_enough_parts c) (has_counts_within 100 c)
-  whole_is (at_most n r c) = ap (λ b. nat_le n 100 && b) (whole_is c) ∙ and_turned (nat_le n 100) (has_enough_parts c) (has_counts_within 100 c)
-  whole_is (exactly n r c) = ap (λ b. nat_le n 100 && b) (whole_is c) ∙ and_turned (nat_le n 100) (has_enough_parts c) (has_counts_within 100 c)
+  whole_is (at_least n r c) =
+      ap (λ b. nat_le n 100 && b) (whole_is c)
+      ∙ and_turned (nat_le n 100) (has_enough_parts c) (has_counts_within 100 c)
+  whole_is (at_most n r c) =
+      ap (λ b. nat_le n 100 && b) (whole_is c)
+      ∙ and_turned (nat_le n 100) (has_enough_parts c) (has_counts_within 100 c)
+  whole_is (exactly n r c) =
+      ap (λ b. nat_le n 100 && b) (whole_is c)
+      ∙ and_turned (nat_le n 100) (has_enough_parts c) (has_counts_within 100 c)
 
   pub all_whole_is : (cs : Parts) → are_whole cs ≡ (have_enough_parts cs && have_counts_within 100 cs)
   all_whole_is no_parts = refl
-  all_whole_is (part c cs) = (λ i. whole_is c i && all_whole_is cs i) ∙ and_exchange (has_enough_parts c) (has_counts_within 100 c) (have_enough_parts cs) (have_counts_within 100 cs)
+  all_whole_is (part c cs) =
+      (λ i. whole_is c i && all_whole_is cs i)
+      ∙ and_exchange (has_enough_parts c) (has_counts_within 100 c) (have_enough_parts cs) (have_counts_within 100 cs)
 
-many_whole : (enough : Bool) (cs : Parts) → (enough && are_whole cs) ≡ ((enough && have_enough_parts cs) && have_counts_within 100 cs)
-many_whole enough cs = ap (λ b. enough && b) (all_whole_is cs) ∙ sym (and_assoc enough (have_enough_parts cs) (have_counts_within 100 cs))
+many_whole : (enough : Bool) (cs : Parts)
+    → (enough && are_whole cs) ≡ ((enough && have_enough_parts cs) && have_counts_within 100 cs)
+many_whole enough cs =
+    ap (λ b. enough && b) (all_whole_is cs) ∙ sym (and_assoc enough (have_enough_parts cs) (have_counts_within 100 cs))
 
 no_name : (enough whole : Bool) → (enough && (false && whole)) ≡ false
 no_name true whole = refl
 no_name false whole = refl
 
-union_whole : (c : Concept) (cs : List Concept) → is_whole_axiom (DisjointUnion c cs) ≡ (is_readable (DisjointUnion c cs) && (has_enough_items (DisjointUnion c cs) && axiom_has_counts_within 100 (DisjointUnion c cs)))
+union_whole : (c : Concept) (cs : List Concept)
+    → is_whole_axiom (DisjointUnion c cs)
+    ≡ (is_readable (DisjointUnion c cs)
+    && (has_enough_items (DisjointUnion c cs) && axiom_has_counts_within 100 (DisjointUnion c cs)))
 union_whole top cs = many_whole (nat_le 2 (length cs)) (parts_of cs)
 union_whole bottom cs = many_whole (nat_le 2 (length cs)) (parts_of cs)
 union_whole (name a) cs = many_whole (nat_le 2 (length cs)) (parts_of cs)
@@ -136,8 +157,11 @@ union_whole (at_least n r c) cs = no_name (nat_le 2 (length cs)) (are_whole (par
 union_whole (at_most n r c) cs = no_name (nat_le 2 (length cs)) (are_whole (parts_of cs))
 union_whole (exactly n r c) cs = no_name (nat_le 2 (length cs)) (are_whole (parts_of cs))
 
-axiom_whole_is : (a : Axiom) → is_whole_axiom a ≡ (is_readable a && (has_enough_items a && axiom_has_counts_within 100 a))
-axiom_whole_is (SubClassOf c d) = (λ i. whole_is c i && whole_is d i) ∙ and_exchange (has_enough_parts c) (has_counts_within 100 c) (has_enough_parts d) (has_counts_within 100 d)
+axiom_whole_is : (a : Axiom)
+    → is_whole_axiom a ≡ (is_readable a && (has_enough_items a && axiom_has_counts_within 100 a))
+axiom_whole_is (SubClassOf c d) =
+    (λ i. whole_is c i && whole_is d i)
+    ∙ and_exchange (has_enough_parts c) (has_counts_within 100 c) (has_enough_parts d) (has_counts_within 100 d)
 axiom_whole_is (EquivalentClasses cs) = many_whole (nat_le 2 (length cs)) (parts_of cs)
 axiom_whole_is (DisjointClasses cs) = many_whole (nat_le 2 (length cs)) (parts_of cs)
 axiom_whole_is (DisjointUnion c cs) = union_whole c cs
@@ -176,7 +200,8 @@ axioms_whole_are (a ∷ xs) =
     ∙ and_exchange n (e && k) (all_readable xs) (all_enough xs && all_counts xs)
     ∙ ap (λ b. (n && all_readable xs) && b) (and_exchange e k (all_enough xs) (all_counts xs))
 
-whole_from_limits : (xs : List Numbered) → all_readable xs ≡ true → all_enough xs ≡ true → all_counts xs ≡ true → all_whole xs ≡ true
+whole_from_limits : (xs : List Numbered) → all_readable xs ≡ true → all_enough xs ≡ true → all_counts xs ≡ true
+    → all_whole xs ≡ true
 whole_from_limits xs readable enough counts = axioms_whole_are xs ∙ (λ i. readable i && (enough i && counts i))
 
 pub whole_of : (o : Listed) → CanBeWritten o → all_whole o.axioms ≡ true
@@ -199,7 +224,8 @@ parts_are : (a : Axiom) → counted_parts a ≡ length (axiom_parts a) + length 
 parts_are (SubClassOf c d) = refl
 parts_are (EquivalentClasses cs) = omega (arith, length_equivalent cs)
 parts_are (DisjointClasses cs) = let pairs = pairs_counted cs (length cs) refl in omega (arith, pairs)
-parts_are (DisjointUnion c cs) = let pairs = pairs_counted cs (length cs) refl in omega (arith, pairs, length_union c cs)
+parts_are (DisjointUnion c cs) =
+    let pairs = pairs_counted cs (length cs) refl in omega (arith, pairs, length_union c cs)
 parts_are (SubRole r s) = refl
 parts_are (EquivalentRoles rs) = refl
 parts_are (Domain r c) = refl
@@ -219,7 +245,8 @@ held_is : (a : Axiom) → counted_parts a ≡ parts_in a
 held_is (SubClassOf c d) = refl
 held_is (EquivalentClasses cs) = refl
 held_is (DisjointClasses cs) = refl
-held_is (DisjointUnion c cs) = let less : length cs ≡ length cs + 1 - 1 = omega arith in ap (λ n. length cs + 1 + pair_count n) less
+held_is (DisjointUnion c cs) =
+    let less : length cs ≡ length cs + 1 - 1 = omega arith in ap (λ n. length cs + 1 + pair_count n) less
 held_is (SubRole r s) = refl
 held_is (EquivalentRoles rs) = refl
 held_is (Domain r c) = refl

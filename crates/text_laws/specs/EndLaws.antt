@@ -6,9 +6,11 @@ use Rattle.ofn_reader.specs.Documents.{IsDocument}
 
 -- the end of a document is a place of its text
 abbrev pub DocumentsEndInTheirText : Type 0
-DocumentsEndInTheirText = (text : List ℕ) (o : Listed) (kept : DocumentContext) (end : ℕ) → IsDocument text o kept end → end ≤ length text
+DocumentsEndInTheirText = (text : List ℕ) (o : Listed) (kept : DocumentContext) (end : ℕ) → IsDocument text o kept end
+    → end ≤ length text
 
 -- the text up to there, with any other text behind it, is the same document, which ends at the same place
 abbrev pub TextsBehindDocumentsAreNotRead : Type 0
 TextsBehindDocumentsAreNotRead =
-    (text : List ℕ) (o : Listed) (kept : DocumentContext) (end : ℕ) → IsDocument text o kept end → (more : List ℕ) → IsDocument (take end text ++ more) o kept end
+    (text : List ℕ) (o : Listed) (kept : DocumentContext) (end : ℕ) → IsDocument text o kept end → (more : List ℕ)
+    → IsDocument (take end text ++ more) o kept end

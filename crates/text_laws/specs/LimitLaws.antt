@@ -18,7 +18,8 @@ use Rattle.ofn_reader.specs.Additions.{IsAddition, added_to}
 
 -- the ontology of a document
 abbrev pub DocumentsAreInLimit : Type 0
-DocumentsAreInLimit = (text : List ℕ) (o : Listed) (kept : DocumentContext) (end : ℕ) → IsDocument text o kept end → IsOntologyInLimit o
+DocumentsAreInLimit = (text : List ℕ) (o : Listed) (kept : DocumentContext) (end : ℕ) → IsDocument text o kept end
+    → IsOntologyInLimit o
 
 -- the ontology with the names that it and a query on it list together
 abbrev pub with_names : Listed → Counts → Listed
@@ -28,13 +29,15 @@ with_names o after = record o { classes = after.classes; roles = after.roles; in
 abbrev pub QueriesAreInLimit : Type 0
 QueriesAreInLimit =
     (text : List ℕ) (o : Listed) (kept : DocumentContext) (end : ℕ) → IsDocument text o kept end
-    → (query : List ℕ) (after : Counts) (q : Query) → IsQuery kept.prefixes o.axioms (query_start o kept.nodes) query after q → IsInLimit (with_names o after) q
+    → (query : List ℕ) (after : Counts) (q : Query)
+    → IsQuery kept.prefixes o.axioms (query_start o kept.nodes) query after q → IsInLimit (with_names o after) q
 
 -- with a class expression, asked whether it has no element
 abbrev pub ClassesAreInLimit : Type 0
 ClassesAreInLimit =
     (text : List ℕ) (o : Listed) (kept : DocumentContext) (end : ℕ) → IsDocument text o kept end
-    → (class : List ℕ) (after : Counts) (c : Concept) → IsClass kept.prefixes o.axioms (query_start o kept.nodes) class after c
+    → (class : List ℕ) (after : Counts) (c : Concept)
+    → IsClass kept.prefixes o.axioms (query_start o kept.nodes) class after c
     → IsInLimit (with_names o after) (record { sub = c; sup = bottom; on = Any })
 
 -- the names of both can be written into a certificate and read back
@@ -46,48 +49,58 @@ pub record AreWritable (o : Listed) : Type 0 where
 abbrev pub QueriesListNames : Type 0
 QueriesListNames =
     (text : List ℕ) (o : Listed) (kept : DocumentContext) (end : ℕ) → IsDocument text o kept end
-    → (query : List ℕ) (after : Counts) (q : Query) → IsQuery kept.prefixes o.axioms (query_start o kept.nodes) query after q → AreWritable (with_names o after)
+    → (query : List ℕ) (after : Counts) (q : Query)
+    → IsQuery kept.prefixes o.axioms (query_start o kept.nodes) query after q → AreWritable (with_names o after)
 
 abbrev pub ClassesListNames : Type 0
 ClassesListNames =
     (text : List ℕ) (o : Listed) (kept : DocumentContext) (end : ℕ) → IsDocument text o kept end
-    → (class : List ℕ) (after : Counts) (c : Concept) → IsClass kept.prefixes o.axioms (query_start o kept.nodes) class after c → AreWritable (with_names o after)
+    → (class : List ℕ) (after : Counts) (c : Concept)
+    → IsClass kept.prefixes o.axioms (query_start o kept.nodes) class after c → AreWritable (with_names o after)
 
 -- ---- any ontology within the limits
 
 -- an ontology within the limits, with an axiom that is put into it, is within them
 abbrev pub AdditionsStayInLimit : Type 0
 AdditionsStayInLimit =
-    (ps : List Prefix) (o : Listed) (text : List ℕ) (behind : Counts) (a : Axiom) → IsOntologyInLimit o → IsAddition ps o.axioms (counts_of o) text behind a → IsOntologyInLimit (added_to o behind a)
+    (ps : List Prefix) (o : Listed) (text : List ℕ) (behind : Counts) (a : Axiom) → IsOntologyInLimit o
+    → IsAddition ps o.axioms (counts_of o) text behind a → IsOntologyInLimit (added_to o behind a)
 
 -- so is one with a query on it, however many nodes were counted before, where it lists the names of both
 abbrev pub QueriesStayInLimit : Type 0
 QueriesStayInLimit =
-    (ps : List Prefix) (o : Listed) (nodes : ℕ) (query : List ℕ) (after : Counts) (q : Query) → IsOntologyInLimit o → IsQuery ps o.axioms (query_start o nodes) query after q → IsInLimit (with_names o after) q
+    (ps : List Prefix) (o : Listed) (nodes : ℕ) (query : List ℕ) (after : Counts) (q : Query) → IsOntologyInLimit o
+    → IsQuery ps o.axioms (query_start o nodes) query after q → IsInLimit (with_names o after) q
 
 abbrev pub ClassesStayInLimit : Type 0
 ClassesStayInLimit =
-    (ps : List Prefix) (o : Listed) (nodes : ℕ) (class : List ℕ) (after : Counts) (c : Concept) → IsOntologyInLimit o → IsClass ps o.axioms (query_start o nodes) class after c
+    (ps : List Prefix) (o : Listed) (nodes : ℕ) (class : List ℕ) (after : Counts) (c : Concept) → IsOntologyInLimit o
+    → IsClass ps o.axioms (query_start o nodes) class after c
     → IsInLimit (with_names o after) (record { sub = c; sup = bottom; on = Any })
 
 -- with as many names alone as the ontology had, it is as before the query
 abbrev pub QueriesAreCutAgain : Type 0
 QueriesAreCutAgain =
-    (ps : List Prefix) (o : Listed) (nodes : ℕ) (query : List ℕ) (after : Counts) (q : Query) → IsQuery ps o.axioms (query_start o nodes) query after q
+    (ps : List Prefix) (o : Listed) (nodes : ℕ) (query : List ℕ) (after : Counts) (q : Query)
+    → IsQuery ps o.axioms (query_start o nodes) query after q
     → with_names_cut (with_names o after) (length o.classes) (length o.roles) (length o.individuals) ≡ o
 
 -- an ontology within the limits of which names are cut that no axiom uses is within them
 abbrev pub CutsStayInLimit : Type 0
 CutsStayInLimit =
-    (o : Listed) (classes roles individuals : ℕ) → IsOntologyInLimit o → classes ≤ length o.classes → roles ≤ length o.roles → individuals ≤ length o.individuals → all_use_listed classes roles individuals o.axioms ≡ true
+    (o : Listed) (classes roles individuals : ℕ) → IsOntologyInLimit o → classes ≤ length o.classes
+    → roles ≤ length o.roles → individuals ≤ length o.individuals
+    → all_use_listed classes roles individuals o.axioms ≡ true
     → IsOntologyInLimit (with_names_cut o classes roles individuals)
 
 -- ---- counts
 
 -- what was counted of a document is what its ontology holds, and queries go on from its nodes
 abbrev pub DocumentsAreCounted : Type 0
-DocumentsAreCounted = (text : List ℕ) (o : Listed) (kept : DocumentContext) (end : ℕ) → (d : IsDocument text o kept end) → (d.behind ≡ counts_of o) × (kept.nodes ≡ (counts_of o).nodes)
+DocumentsAreCounted = (text : List ℕ) (o : Listed) (kept : DocumentContext) (end : ℕ) → (d : IsDocument text o kept end)
+    → (d.behind ≡ counts_of o) × (kept.nodes ≡ (counts_of o).nodes)
 
 -- so it is of an ontology and an axiom that is put into it
 abbrev pub AdditionsAreCounted : Type 0
-AdditionsAreCounted = (ps : List Prefix) (o : Listed) (text : List ℕ) (behind : Counts) (a : Axiom) → IsAddition ps o.axioms (counts_of o) text behind a → behind ≡ counts_of (added_to o behind a)
+AdditionsAreCounted = (ps : List Prefix) (o : Listed) (text : List ℕ) (behind : Counts) (a : Axiom)
+    → IsAddition ps o.axioms (counts_of o) text behind a → behind ≡ counts_of (added_to o behind a)

@@ -2,11 +2,14 @@
 use Rattle.std.specs.Prelude.{◌≡◌, ℕ, ◌+◌, ◌≤◌, max, Bool, true, false, not, ◌&&◌, List, nat_le, is_none}
 use Rattle.std.specs.List.{list_all}
 use Rattle.std.specs.Str.{is_utf8}
-use Rattle.shq_terms.specs.Concept.{Concept, top, bottom, name, complement, intersection, union, some_of, all_of, at_least, at_most, exactly, Parts, no_parts, part, parts_of}
+use Rattle.shq_terms.specs.Concept.{Concept, top, bottom, name, complement, intersection, union, some_of, all_of}
+use Rattle.shq_terms.specs.Concept.{at_least, at_most, exactly, Parts, no_parts, part, parts_of}
 use Rattle.shq_terms.specs.Listed.{Listed}
 use Rattle.shq_terms.specs.Distinct.{AreDistinct}
 use Rattle.shq_terms.specs.declared.axioms.Axiom.{Axiom}
-use Rattle.shq_terms.specs.declared.axioms.Axiom.TheVariants.{SubClassOf, EquivalentClasses, DisjointClasses, DisjointUnion, SubRole, EquivalentRoles, Domain, Range, Functional, Transitive, Member, Pair, SameAll, Different}
+use Rattle.shq_terms.specs.declared.axioms.Axiom.TheVariants.{SubClassOf, EquivalentClasses, DisjointClasses}
+use Rattle.shq_terms.specs.declared.axioms.Axiom.TheVariants.{DisjointUnion, SubRole, EquivalentRoles, Domain, Range}
+use Rattle.shq_terms.specs.declared.axioms.Axiom.TheVariants.{Functional, Transitive, Member, Pair, SameAll, Different}
 use Rattle.shq_terms.specs.declared.axioms.Numbered.{Numbered}
 use Rattle.ontology_limits.specs.Limits.{IsOntologyInLimit}
 use Rattle.ofn_tree.specs.Lexemes.{is_iri_byte}

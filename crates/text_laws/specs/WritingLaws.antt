@@ -38,11 +38,13 @@ WrittenOntologiesAreRead = (o : Listed) → CanBeWritten o → IsDocumentOf (ont
 
 -- what a document says meets that condition
 abbrev pub DocumentsCanBeWritten : Type 0
-DocumentsCanBeWritten = (text : List ℕ) (o : Listed) (kept : DocumentContext) (end : ℕ) → IsDocument text o kept end → CanBeWritten o
+DocumentsCanBeWritten = (text : List ℕ) (o : Listed) (kept : DocumentContext) (end : ℕ) → IsDocument text o kept end
+    → CanBeWritten o
 
 -- so each ontology that is read is read again from its canonical text
 abbrev pub DocumentsAreReadAgain : Type 0
-DocumentsAreReadAgain = (text : List ℕ) (o : Listed) (kept : DocumentContext) (end : ℕ) → IsDocument text o kept end → IsDocumentOf (ontology_text o) o
+DocumentsAreReadAgain = (text : List ℕ) (o : Listed) (kept : DocumentContext) (end : ℕ) → IsDocument text o kept end
+    → IsDocumentOf (ontology_text o) o
 
 -- the names and axioms of two ontologies are the same, on whatever lines
 pub record AreSame (o p : Listed) : Type 0 where
@@ -53,7 +55,8 @@ pub record AreSame (o p : Listed) : Type 0 where
 
 -- the canonical text tells two ontologies apart
 abbrev pub EqualTextsSayTheSame : Type 0
-EqualTextsSayTheSame = (o p : Listed) → CanBeWritten o → CanBeWritten p → ontology_text o ≡ ontology_text p → AreSame o p
+EqualTextsSayTheSame = (o p : Listed) → CanBeWritten o → CanBeWritten p → ontology_text o ≡ ontology_text p
+    → AreSame o p
 
 -- ---- class expressions and queries
 
@@ -66,14 +69,17 @@ KnowsOwl ps = prefix_iri ps (codes "owl") ≡ Some owl_iri
 
 -- so it does in each document, whatever other prefixes it declares
 abbrev pub DocumentsKnowOwl : Type 0
-DocumentsKnowOwl = (text : List ℕ) (o : Listed) (kept : DocumentContext) (end : ℕ) → IsDocument text o kept end → KnowsOwl kept.prefixes
+DocumentsKnowOwl = (text : List ℕ) (o : Listed) (kept : DocumentContext) (end : ℕ) → IsDocument text o kept end
+    → KnowsOwl kept.prefixes
 
 -- The text of a class expression over the names of an ontology is that expression, and lists no other name, where the
 -- limits leave room: its text is short enough for a query, at most 64 brackets are open at once, and its expressions
 -- fit beside those that were counted.
 abbrev pub ClassTextsAreRead : Type 0
 ClassTextsAreRead =
-    (o : Listed) (c : Concept) (ps : List Prefix) (nodes : ℕ) → CanBeWritten o → IsInLimit o (record { sub = c; sup = bottom; on = Any }) → KnowsOwl ps → length (concept_text o c) ≤ 2 ^ 24 → brackets c ≤ 64 → nodes + expressions c ≤ 262144
+    (o : Listed) (c : Concept) (ps : List Prefix) (nodes : ℕ) → CanBeWritten o
+    → IsInLimit o (record { sub = c; sup = bottom; on = Any }) → KnowsOwl ps → length (concept_text o c) ≤ 2 ^ 24
+    → brackets c ≤ 64 → nodes + expressions c ≤ 262144
     → IsClass ps o.axioms (query_start o nodes) (concept_text o c) (query_start o (nodes + expressions c)) c
 
 -- the axiom that a query asks for, by what it speaks of
@@ -98,5 +104,8 @@ HasAxiom q = HasAxiomOn q.on q.sub
 -- the same of a query
 abbrev pub QueryTextsAreRead : Type 0
 QueryTextsAreRead =
-    (o : Listed) (q : Query) (ps : List Prefix) (nodes : ℕ) → CanBeWritten o → IsInLimit o q → HasAxiom q → KnowsOwl ps → length (query_text o q) ≤ 2 ^ 24 → axiom_brackets (query_axiom q) ≤ 64
-    → nodes + axiom_expressions (query_axiom q) ≤ 262144 → IsQuery ps o.axioms (query_start o nodes) (query_text o q) (query_start o (nodes + axiom_expressions (query_axiom q))) q
+    (o : Listed) (q : Query) (ps : List Prefix) (nodes : ℕ) → CanBeWritten o → IsInLimit o q → HasAxiom q → KnowsOwl ps
+    → length (query_text o q) ≤ 2 ^ 24 → axiom_brackets (query_axiom q) ≤ 64
+    → nodes + axiom_expressions (query_axiom q) ≤ 262144
+    → IsQuery ps o.axioms (query_start o nodes) (query_text o q)
+    (query_start o (nodes + axiom_expressions (query_axiom q))) q

@@ -2,7 +2,10 @@
 //!
 //! A reader tests each limit where the text meets it: the number of a group's items at its name, a cardinality at its
 //! number, counts as they grow, and simple roles at the end. Here is what these tests say of the values that were read.
-ghost use Rattle.text_laws.specs.LimitLaws.{DocumentsAreInLimit, QueriesAreInLimit, ClassesAreInLimit, QueriesListNames, ClassesListNames, AdditionsStayInLimit, QueriesStayInLimit, ClassesStayInLimit, QueriesAreCutAgain, CutsStayInLimit, DocumentsAreCounted, AdditionsAreCounted};
+ghost use Rattle.text_laws.specs.LimitLaws.{DocumentsAreInLimit, QueriesAreInLimit, ClassesAreInLimit};
+ghost use Rattle.text_laws.specs.LimitLaws.{QueriesListNames, ClassesListNames, AdditionsStayInLimit};
+ghost use Rattle.text_laws.specs.LimitLaws.{QueriesStayInLimit, ClassesStayInLimit, QueriesAreCutAgain};
+ghost use Rattle.text_laws.specs.LimitLaws.{CutsStayInLimit, DocumentsAreCounted, AdditionsAreCounted};
 
 /// The ontology of a document (OWL 2 Structural Specification, section 3.7) is within the limits.
 pub fn documents_are_in_limit()

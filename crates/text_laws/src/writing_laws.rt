@@ -1,6 +1,8 @@
 //! What is written of an ontology, and of class expressions over its names, is read again.
 // What is written of an ontology is read again.
-ghost use Rattle.text_laws.specs.WritingLaws.{WrittenOntologiesAreRead, DocumentsCanBeWritten, DocumentsAreReadAgain, EqualTextsSayTheSame, DocumentsKnowOwl, ClassTextsAreRead, QueryTextsAreRead};
+ghost use Rattle.text_laws.specs.WritingLaws.{WrittenOntologiesAreRead, DocumentsCanBeWritten, DocumentsAreReadAgain};
+ghost use Rattle.text_laws.specs.WritingLaws.{EqualTextsSayTheSame, DocumentsKnowOwl, ClassTextsAreRead};
+ghost use Rattle.text_laws.specs.WritingLaws.{QueryTextsAreRead};
 
 /// The canonical text of an ontology is a document (OWL 2 Structural Specification, section 3.7), which lists the same
 /// classes, roles and individuals in the same order, and the same axioms in the same order. The names of the ontology

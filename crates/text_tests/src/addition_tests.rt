@@ -159,7 +159,8 @@ const LIMITS: &[(&str, &str, u32, &str, &str, &str, Refusal)] = &[
         "<0> ",
         1_000,
         "))",
-        "DifferentIndividuals(<0> <0> <0> <0> <0> <0> <0> <0> <0> <0> <0> <0> <0> <0> <0> <0> <0> <0> <0> <0> <0> <0> <0> <0> <0> <0> <0> <0> <0> <0> <0> <0>)",
+        "DifferentIndividuals(<0> <0> <0> <0> <0> <0> <0> <0> <0> <0> <0> <0> <0> <0> <0> <0> <0> <0> <0> <0> <0> <0> \
+            <0> <0> <0> <0> <0> <0> <0> <0> <0> <0>)",
         "SameIndividual(<0> <0> <0> <0> <0> <0>)",
         Refusal::Limit(Which::Parts, 1),
     ),
@@ -168,7 +169,8 @@ const LIMITS: &[(&str, &str, u32, &str, &str, &str, Refusal)] = &[
         ":A ",
         1_000,
         "))",
-        "DisjointClasses(:A :A :A :A :A :A :A :A :A :A :A :A :A :A :A :A :A :A :A :A :A :A :A :A :A :A :A :A :A :A :A :A)",
+        "DisjointClasses(:A :A :A :A :A :A :A :A :A :A :A :A :A :A :A :A :A :A :A :A :A :A :A :A :A :A :A :A :A :A :A \
+            :A)",
         "EquivalentClasses(:A :A :A :A :A)",
         Refusal::Limit(Which::Parts, 1),
     ),

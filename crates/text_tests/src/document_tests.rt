@@ -188,20 +188,29 @@ pub(crate) const KINDS: &[(u32, &str)] = &[
 /// Documents, and what is written of each.
 const WRITTEN: &[(&str, &str)] = &[
     (
-        "Prefix(:=<p#>)\n# Class: :A (:A)\nOntology(<p>\nAnnotationAssertion(rdfs:label :A \"a \\\"s\\\" # one\"@en)\nSubClassOf(Annotation(rdfs:comment \"x\") :A :B))",
+        "Prefix(:=<p#>)\n# Class: :A (:A)\nOntology(<p>\nAnnotationAssertion(rdfs:label :A \"a \\\"s\\\" # one\"@en)\n\
+            SubClassOf(Annotation(rdfs:comment \"x\") :A :B))",
         "Ontology(\nDeclaration(Class(<p#A>))\nDeclaration(Class(<p#B>))\nSubClassOf(<p#A> <p#B>)\n)\n",
     ),
     (
         "Ontology(SubClassOf(<A> ObjectMaxCardinality(007 <r>)))",
-        "Ontology(\nDeclaration(Class(<A>))\nDeclaration(ObjectProperty(<r>))\nSubClassOf(<A> ObjectMaxCardinality(7 <r> owl:Thing))\n)\n",
+        "Ontology(\nDeclaration(Class(<A>))\nDeclaration(ObjectProperty(<r>))\n\
+            SubClassOf(<A> ObjectMaxCardinality(7 <r> owl:Thing))\n)\n",
     ),
     (
-        "Ontology(Declaration(Class(<A>))Declaration(ObjectProperty(<R>))Declaration(ObjectProperty(<S>))Declaration(Class(<B>))SubClassOf(<B> <A>)FunctionalObjectProperty(<R>))",
-        "Ontology(\nDeclaration(Class(<A>))\nDeclaration(Class(<B>))\nDeclaration(ObjectProperty(<R>))\nDeclaration(ObjectProperty(<S>))\nSubClassOf(<B> <A>)\nFunctionalObjectProperty(<R>)\n)\n",
+        "Ontology(Declaration(Class(<A>))Declaration(ObjectProperty(<R>))Declaration(ObjectProperty(<S>))\
+            Declaration(Class(<B>))SubClassOf(<B> <A>)FunctionalObjectProperty(<R>))",
+        "Ontology(\nDeclaration(Class(<A>))\nDeclaration(Class(<B>))\nDeclaration(ObjectProperty(<R>))\n\
+            Declaration(ObjectProperty(<S>))\nSubClassOf(<B> <A>)\nFunctionalObjectProperty(<R>)\n)\n",
     ),
     (
-        "Prefix(_:=<p>)Ontology(Declaration(NamedIndividual(<_:b>))DifferentIndividuals(<c> <_:b>)ObjectPropertyAssertion(<R> <a> <c>)ClassAssertion(ObjectComplementOf(_:A) <a>)SameIndividual(<b> <c> <b>))",
-        "Ontology(\nDeclaration(Class(<pA>))\nDeclaration(ObjectProperty(<R>))\nDeclaration(NamedIndividual(<_:b>))\nDeclaration(NamedIndividual(<c>))\nDeclaration(NamedIndividual(<a>))\nDeclaration(NamedIndividual(<b>))\nDifferentIndividuals(<c> <_:b>)\nObjectPropertyAssertion(<R> <a> <c>)\nClassAssertion(ObjectComplementOf(<pA>) <a>)\nSameIndividual(<b> <c> <b>)\n)\n",
+        "Prefix(_:=<p>)Ontology(Declaration(NamedIndividual(<_:b>))DifferentIndividuals(<c> \
+            <_:b>)ObjectPropertyAssertion(<R> <a> <c>)ClassAssertion(ObjectComplementOf(_:A) <a>)SameIndividual(<b> \
+            <c> <b>))",
+        "Ontology(\nDeclaration(Class(<pA>))\nDeclaration(ObjectProperty(<R>))\nDeclaration(NamedIndividual(<_:b>))\n\
+            Declaration(NamedIndividual(<c>))\nDeclaration(NamedIndividual(<a>))\nDeclaration(NamedIndividual(<b>))\n\
+            DifferentIndividuals(<c> <_:b>)\nObjectPropertyAssertion(<R> <a> <c>)\n\
+            ClassAssertion(ObjectComplementOf(<pA>) <a>)\nSameIndividual(<b> <c> <b>)\n)\n",
     ),
 ];
 
@@ -507,14 +516,18 @@ const REFUSALS: &[(&str, &str, u32, &str, Option<Refusal>)] = &[
         DIFFERENT,
         "<0> ",
         1_000,
-        ")SameIndividual(\n<0> <1>)ClassAssertion(<0>\n<0>)DisjointClasses(\n<0> <1> <2> <0> <1> <2> <0> <1> <2> <0> <1> <2> <0> <1> <2> <0> <1> <2> <0> <1> <2> <0> <1> <2> <0> <1> <2> <0> <1> <2> <0> <1>))",
+        ")SameIndividual(\n<0> <1>)ClassAssertion(<0>\n<0>)DisjointClasses(\n\
+            <0> <1> <2> <0> <1> <2> <0> <1> <2> <0> <1> <2> <0> <1> <2> <0> <1> <2> <0> <1> <2> <0> <1> <2> <0> <1> \
+            <2> <0> <1> <2> <0> <1>))",
         None,
     ),
     (
         DIFFERENT,
         "<0> ",
         1_000,
-        ")SameIndividual(\n<0> <1> <0> <1> <0>)ClassAssertion(<0>\n<0>)DisjointClasses(\n<0> <1> <2> <0> <1> <2> <0> <1> <2> <0> <1> <2> <0> <1> <2> <0> <1> <2> <0> <1> <2> <0> <1> <2> <0> <1> <2> <0> <1> <2> <0> <1>))",
+        ")SameIndividual(\n<0> <1> <0> <1> <0>)ClassAssertion(<0>\n<0>)DisjointClasses(\n\
+            <0> <1> <2> <0> <1> <2> <0> <1> <2> <0> <1> <2> <0> <1> <2> <0> <1> <2> <0> <1> <2> <0> <1> <2> <0> <1> \
+            <2> <0> <1> <2> <0> <1>))",
         Some(Refusal::Limit(Which::Parts, 4)),
     ),
     (

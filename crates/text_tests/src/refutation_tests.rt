@@ -15,11 +15,16 @@ const CHAIN: &[u8] =
 
 // Two successors, where one is allowed.
 const SUCCESSORS: &[u8] =
-    b"refutation\naxioms 1 2 3 4\nconcept 1 name <B>\nconcept 2 name <C>\nconcept 3 some <R> 1\nconcept 4 some <R> 2\nconcept 5 top\nconcept 6 most 1 <R> 5\nstart\nrow 0 1 1 1\nrow 0 2 1 1\nrow 0 3 1 1\nsome 0 1 3\nsome 0 2 4\npair 1 2\nrow 1 4 1 1\nclash 1 2\nmost 0 6 1 2\nend\n";
+    b"refutation\naxioms 1 2 3 4\nconcept 1 name <B>\nconcept 2 name <C>\nconcept 3 some <R> 1\nconcept 4 some <R> 2\n\
+        concept 5 top\nconcept 6 most 1 <R> 5\nstart\nrow 0 1 1 1\nrow 0 2 1 1\nrow 0 3 1 1\nsome 0 1 3\nsome 0 2 4\n\
+        pair 1 2\nrow 1 4 1 1\nclash 1 2\nmost 0 6 1 2\nend\n";
 
 // One line of each other kind.
 const OTHERS: &[u8] =
-    b"refutation\naxioms\nconcept 1 not <A>\nconcept 2 name <A>\nconcept 3 and 2 1\nconcept 4 or 1 3\nconcept 5 all <R> 4\nconcept 6 least 101 <R> 3\nconcept 7 bottom\nand 0 3\nor 4294967295 4\nall 0 1 5\ncarry 0 1 <R> 5\nrow 2 1 1\nrange 0 1 4\nleast 0 1 6\nchoose 0 1\nbottom 0\nfact 3 4294967295\ndiffer 0 0\nend\n";
+    b"refutation\naxioms\nconcept 1 not <A>\nconcept 2 name <A>\nconcept 3 and 2 1\nconcept 4 or 1 3\n\
+        concept 5 all <R> 4\nconcept 6 least 101 <R> 3\nconcept 7 bottom\nand 0 3\nor 4294967295 4\nall 0 1 5\n\
+        carry 0 1 <R> 5\nrow 2 1 1\nrange 0 1 4\nleast 0 1 6\nchoose 0 1\nbottom 0\nfact 3 4294967295\ndiffer 0 0\n\
+        end\n";
 
 /// The line of the axioms, and the one before it.
 const HEAD: &[u8] = b"refutation\naxioms 2\n";

@@ -1,5 +1,6 @@
 -- The lines of a workload as phrases.
-use Rattle.std.proofs.Common.{◌≡◌, ℕ, zero, suc, ◌+◌, List, [], ◌∷◌, ◌++◌, length, drop, refl, ap, sym, ◌∙◌, append_assoc, append-nil, length-append, arith, codes, decimal}
+use Rattle.std.proofs.Common.{◌≡◌, ℕ, zero, suc, ◌+◌, List, [], ◌∷◌, ◌++◌, length, drop, refl, ap, sym, ◌∙◌}
+use Rattle.std.proofs.Common.{append_assoc, append-nil, length-append, arith, codes, decimal}
 use Rattle.std.proofs.Math.Seq.{drop-append_seam}
 use Rattle.workload.specs.WorkloadText as text
 use Rattle.workload.specs.WorkloadText.{kernel_text, groups_text, group_text, workload_text}
@@ -34,19 +35,24 @@ kernel_phrases =
 -- ---- a group, by the digits of its number
 
 abbrev pub some_phrase : List ℕ → Phrase
-some_phrase d = sub_phrase (65 ∷ d) (call (codes "ObjectSomeValuesFrom") (two (local_word (codes "r")) (local_word (66 ∷ d))))
+some_phrase d =
+    sub_phrase (65 ∷ d) (call (codes "ObjectSomeValuesFrom") (two (local_word (codes "r")) (local_word (66 ∷ d))))
 
 abbrev pub two_phrase : List ℕ → Phrase
-two_phrase d = sub_phrase (65 ∷ d) (call (codes "ObjectMinCardinality") (three (word (codes "2")) (local_word (codes "s")) (local_word (66 ∷ d))))
+two_phrase d =
+    sub_phrase (65 ∷ d)
+    (call (codes "ObjectMinCardinality") (three (word (codes "2")) (local_word (codes "s")) (local_word (66 ∷ d))))
 
 abbrev pub all_phrase : List ℕ → Phrase
-all_phrase d = sub_phrase (66 ∷ d) (call (codes "ObjectAllValuesFrom") (two (local_word (codes "r")) (local_word (67 ∷ d))))
+all_phrase d =
+    sub_phrase (66 ∷ d) (call (codes "ObjectAllValuesFrom") (two (local_word (codes "r")) (local_word (67 ∷ d))))
 
 abbrev pub either_phrase : List ℕ → Phrase
 either_phrase d = sub_phrase (67 ∷ d) (call (codes "ObjectUnionOf") (two (local_word (65 ∷ d)) (local_word (68 ∷ d))))
 
 abbrev pub group_phrases : ℕ → List Phrase
-group_phrases k = some_phrase (decimal k) ∷ two_phrase (decimal k) ∷ all_phrase (decimal k) ∷ either_phrase (decimal k) ∷ []
+group_phrases k =
+    some_phrase (decimal k) ∷ two_phrase (decimal k) ∷ all_phrase (decimal k) ∷ either_phrase (decimal k) ∷ []
 
 abbrev pub workload_phrases : ℕ → List Phrase
 workload_phrases zero = kernel_phrases
@@ -55,23 +61,30 @@ workload_phrases (suc n) = workload_phrases n ++ group_phrases (n + 1)
 -- ---- their texts
 
 -- the brackets behind the last name, and all brackets of `++` to the right
-two_holes : (f d s : List ℕ) → f ++ ((d ++ (s ++ (((d ++ []) ++ 41 ∷ []) ++ []))) ++ 41 ∷ []) ≡ f ++ d ++ s ++ d ++ (41 ∷ (41 ∷ []))
+two_holes : (f d s : List ℕ)
+    → f ++ ((d ++ (s ++ (((d ++ []) ++ 41 ∷ []) ++ []))) ++ 41 ∷ []) ≡ f ++ d ++ s ++ d ++ (41 ∷ (41 ∷ []))
 two_holes f d s = simp (append_assoc, append-nil) refl
 
-three_holes : (f d s t : List ℕ) → f ++ ((d ++ (s ++ (((d ++ (t ++ (d ++ []))) ++ 41 ∷ []) ++ []))) ++ 41 ∷ []) ≡ f ++ d ++ s ++ d ++ t ++ d ++ (41 ∷ (41 ∷ []))
+three_holes : (f d s t : List ℕ)
+    → f ++ ((d ++ (s ++ (((d ++ (t ++ (d ++ []))) ++ 41 ∷ []) ++ []))) ++ 41 ∷ [])
+    ≡ f ++ d ++ s ++ d ++ t ++ d ++ (41 ∷ (41 ∷ []))
 three_holes f d s t = simp (append_assoc, append-nil) refl
 
 module _ (d : List ℕ) where
-  some_written : text_of (some_phrase d) ≡ codes "SubClassOf(:A" ++ d ++ codes " ObjectSomeValuesFrom(:r :B" ++ d ++ codes "))"
+  some_written : text_of (some_phrase d)
+      ≡ codes "SubClassOf(:A" ++ d ++ codes " ObjectSomeValuesFrom(:r :B" ++ d ++ codes "))"
   some_written = two_holes (codes "SubClassOf(:A") d (codes " ObjectSomeValuesFrom(:r :B")
 
-  two_written : text_of (two_phrase d) ≡ codes "SubClassOf(:A" ++ d ++ codes " ObjectMinCardinality(2 :s :B" ++ d ++ codes "))"
+  two_written : text_of (two_phrase d)
+      ≡ codes "SubClassOf(:A" ++ d ++ codes " ObjectMinCardinality(2 :s :B" ++ d ++ codes "))"
   two_written = two_holes (codes "SubClassOf(:A") d (codes " ObjectMinCardinality(2 :s :B")
 
-  all_written : text_of (all_phrase d) ≡ codes "SubClassOf(:B" ++ d ++ codes " ObjectAllValuesFrom(:r :C" ++ d ++ codes "))"
+  all_written : text_of (all_phrase d)
+      ≡ codes "SubClassOf(:B" ++ d ++ codes " ObjectAllValuesFrom(:r :C" ++ d ++ codes "))"
   all_written = two_holes (codes "SubClassOf(:B") d (codes " ObjectAllValuesFrom(:r :C")
 
-  either_written : text_of (either_phrase d) ≡ codes "SubClassOf(:C" ++ d ++ codes " ObjectUnionOf(:A" ++ d ++ codes " :D" ++ d ++ codes "))"
+  either_written : text_of (either_phrase d)
+      ≡ codes "SubClassOf(:C" ++ d ++ codes " ObjectUnionOf(:A" ++ d ++ codes " :D" ++ d ++ codes "))"
   either_written = three_holes (codes "SubClassOf(:C") d (codes " ObjectUnionOf(:A") (codes " :D")
 
 -- lines one after another
@@ -80,12 +93,16 @@ four a b c d = simp (append_assoc, append-nil) refl
 
 group_written : (k : ℕ) → lines_text (group_phrases k) ≡ group_text k
 group_written k =
-    (λ i. line (some_written (decimal k) i) ++ (line (two_written (decimal k) i) ++ (line (all_written (decimal k) i) ++ (line (either_written (decimal k) i) ++ []))))
+    (λ i. line (some_written (decimal k) i)
+    ++ (line (two_written (decimal k) i)
+    ++ (line (all_written (decimal k) i) ++ (line (either_written (decimal k) i) ++ []))))
     ∙ four (line (text.some_text k)) (line (text.two_text k)) (line (text.all_text k)) (line (text.either_text k))
 
 lines_append : (ps qs : List Phrase) → lines_text (ps ++ qs) ≡ lines_text ps ++ lines_text qs
 lines_append [] qs = refl
-lines_append (p ∷ ps) qs = ap (λ l. line (text_of p) ++ l) (lines_append ps qs) ∙ sym (append_assoc (line (text_of p)) (lines_text ps) (lines_text qs))
+lines_append (p ∷ ps) qs =
+    ap (λ l. line (text_of p) ++ l) (lines_append ps qs)
+    ∙ sym (append_assoc (line (text_of p)) (lines_text ps) (lines_text qs))
 
 -- ---- the whole text
 
@@ -95,10 +112,17 @@ ontology_iri = codes "http://example.org/w"
 -- some text behind the two lines that begin a document, and behind it the bracket that closes it
 abbrev pub opened : List ℕ → List ℕ
 opened inner =
-    codes "Prefix" ++ (40 ∷ (58 ∷ (61 ∷ (iri_text prefix_iri_of_workloads ++ (41 ∷ (10 ∷ (codes "Ontology" ++ (40 ∷ (iri_text ontology_iri ++ (10 ∷ (inner ++ (41 ∷ (10 ∷ [])))))))))))))
+    codes "Prefix"
+    ++ (40 ∷ (58
+    ∷ (61 ∷ (iri_text prefix_iri_of_workloads
+    ++ (41 ∷ (10 ∷ (codes "Ontology" ++ (40 ∷ (iri_text ontology_iri ++ (10 ∷ (inner ++ (41 ∷ (10 ∷ [])))))))))))))
 
 abbrev pub header : List ℕ
-header = codes "Prefix" ++ (40 ∷ (58 ∷ (61 ∷ (iri_text prefix_iri_of_workloads ++ (41 ∷ (10 ∷ (codes "Ontology" ++ (40 ∷ (iri_text ontology_iri ++ (10 ∷ []))))))))))
+header =
+    codes "Prefix"
+    ++ (40 ∷ (58
+    ∷ (61 ∷ (iri_text prefix_iri_of_workloads
+    ++ (41 ∷ (10 ∷ (codes "Ontology" ++ (40 ∷ (iri_text ontology_iri ++ (10 ∷ []))))))))))
 
 kernel_written : kernel_text ≡ header ++ lines_text kernel_phrases
 kernel_written = refl
@@ -113,7 +137,9 @@ front_written (suc n) =
 
 pub text_is : (n : ℕ) → workload_text n ≡ opened (lines_text (workload_phrases n))
 unfolding workload_text
-text_is n = ap (λ l. l ++ (41 ∷ (10 ∷ []))) (front_written n) ∙ append_assoc header (lines_text (workload_phrases n)) (41 ∷ (10 ∷ []))
+text_is n =
+    ap (λ l. l ++ (41 ∷ (10 ∷ []))) (front_written n)
+    ∙ append_assoc header (lines_text (workload_phrases n)) (41 ∷ (10 ∷ []))
 
 -- ---- what stands behind the last bracket
 
@@ -121,6 +147,8 @@ text_is n = ap (λ l. l ++ (41 ∷ (10 ∷ []))) (front_written n) ∙ append_as
 pub behind_bracket : (inner : List ℕ) → drop (66 + length inner + 1) (opened inner) ≡ 10 ∷ []
 behind_bracket inner =
     let front : List ℕ = (header ++ inner) ++ 41 ∷ [] in
-    let whole : front ++ 10 ∷ [] ≡ opened inner = append_assoc (header ++ inner) (41 ∷ []) (10 ∷ []) ∙ append_assoc header inner (41 ∷ (10 ∷ [])) in
-    let size : length front ≡ 66 + length inner + 1 = omega (arith, length-append (header ++ inner) (41 ∷ []), length-append header inner) in
+    let whole : front ++ 10 ∷ [] ≡ opened inner =
+    append_assoc (header ++ inner) (41 ∷ []) (10 ∷ []) ∙ append_assoc header inner (41 ∷ (10 ∷ [])) in
+    let size : length front ≡ 66 + length inner + 1 =
+    omega (arith, length-append (header ++ inner) (41 ∷ []), length-append header inner) in
     (λ i. drop (sym size i) (sym whole i)) ∙ drop-append_seam front (10 ∷ [])

@@ -1,6 +1,7 @@
 -- The lines of a workload may stand in a text: they are UTF-8, their names and IRIs are whole, and few brackets are
 -- open.
-use Rattle.std.proofs.Common.{◌≡◌, ℕ, zero, suc, ◌+◌, ◌≤◌, true, ◌&&◌, List, [], ◌∷◌, ◌++◌, refl, arith, codes, decimal, nat_lt}
+use Rattle.std.proofs.Common.{◌≡◌, ℕ, zero, suc, ◌+◌, ◌≤◌, true, ◌&&◌, List, [], ◌∷◌, ◌++◌, refl, arith, codes, decimal}
+use Rattle.std.proofs.Common.{nat_lt}
 use Rattle.std.specs.List.{list_all}
 use Rattle.std.specs.Str.{IsUtf8}
 use Rattle.std.specs.Str.Parse.{AllDigits}
@@ -15,7 +16,8 @@ use Rattle.ofn_writer.specs.Canonical.{line}
 use Rattle.text_laws.proofs.Phrases.{Phrase, word, call, text_of, can_stand, all_can_stand, lines_text, lines_items}
 use Rattle.text_laws.proofs.Terms.{one, two, three, Stands, AllStand, stands_call, stand_more, stand_one, low_text}
 use Rattle.text_laws.proofs.Texts.{AllText, text_utf8}
-use Rattle.workload.proofs.Lines.{local_word, sub_phrase, both_phrase, kernel_phrases, some_phrase, two_phrase, all_phrase, either_phrase, group_phrases, workload_phrases, opened, header}
+use Rattle.workload.proofs.Lines.{local_word, sub_phrase, both_phrase, kernel_phrases, some_phrase, two_phrase}
+use Rattle.workload.proofs.Lines.{all_phrase, either_phrase, group_phrases, workload_phrases, opened, header}
 
 -- ---- digits
 
@@ -36,20 +38,27 @@ pub record AreDigits (d : List ℕ) : Type 0 where
 pub decimal_digits : (k : ℕ) → k ≤ 4000 → AreDigits (decimal k)
 decimal_digits k few =
     let numeral = decimal_is_IsNumeral k (omega (arith, few)) in
-    record { bytes = digits_pass (decimal k) numeral.0.1; utf8 = IsUtf8-from_ascii (decimal k) (IsAscii-decimal k (omega (arith, few))) }
+    record {
+      bytes = digits_pass (decimal k) numeral.0.1;
+      utf8 = IsUtf8-from_ascii (decimal k) (IsAscii-decimal k (omega (arith, few)));
+    }
 
 -- ---- phrases
 
 -- a letter and digits
-lettered : (b : ℕ) (d : List ℕ) → (is_name_byte b && true) ≡ true → IsUtf8 (58 ∷ (b ∷ [])) → AreDigits d → Stands (local_word (b ∷ d))
-lettered b d plain low digits =
-    (and_from (is_name_byte b) (list_all is_name_byte d) (and_parts (is_name_byte b) true plain).0 digits.bytes, IsUtf8-append (58 ∷ (b ∷ [])) d low digits.utf8)
+lettered : (b : ℕ) (d : List ℕ) → (is_name_byte b && true) ≡ true → IsUtf8 (58 ∷ (b ∷ [])) → AreDigits d
+    → Stands (local_word (b ∷ d))
+lettered b d plain low digits = (
+  and_from (is_name_byte b) (list_all is_name_byte d) (and_parts (is_name_byte b) true plain).0 digits.bytes,
+  IsUtf8-append (58 ∷ (b ∷ [])) d low digits.utf8,
+)
 
 two_stand : (p q : Phrase) → Stands p → Stands q → AllStand (two p q)
 two_stand p q first second = stand_more p (one q) first (stand_one q second)
 
 pub sub_stands : (local : List ℕ) (p : Phrase) → Stands (local_word local) → Stands p → Stands (sub_phrase local p)
-sub_stands local p first second = stands_call (codes "SubClassOf") (two (local_word local) p) refl refl (two_stand (local_word local) p first second)
+sub_stands local p first second =
+    stands_call (codes "SubClassOf") (two (local_word local) p) refl refl (two_stand (local_word local) p first second)
 
 module _ (d : List ℕ) (digits : AreDigits d) where
   a_stands : Stands (local_word (65 ∷ d))
@@ -75,24 +84,33 @@ module _ (d : List ℕ) (digits : AreDigits d) where
 
   some_stands : Stands (some_phrase d)
   some_stands =
-      sub_stands (65 ∷ d) (call (codes "ObjectSomeValuesFrom") (two (local_word (codes "r")) (local_word (66 ∷ d)))) a_stands
-      (stands_call (codes "ObjectSomeValuesFrom") (two (local_word (codes "r")) (local_word (66 ∷ d))) refl refl (two_stand (local_word (codes "r")) (local_word (66 ∷ d)) r_stands b_stands))
+      sub_stands (65 ∷ d) (call (codes "ObjectSomeValuesFrom") (two (local_word (codes "r")) (local_word (66 ∷ d))))
+      a_stands
+      (stands_call (codes "ObjectSomeValuesFrom") (two (local_word (codes "r")) (local_word (66 ∷ d))) refl refl
+      (two_stand (local_word (codes "r")) (local_word (66 ∷ d)) r_stands b_stands))
 
   two_stands : Stands (two_phrase d)
   two_stands =
-      sub_stands (65 ∷ d) (call (codes "ObjectMinCardinality") (three (word (codes "2")) (local_word (codes "s")) (local_word (66 ∷ d)))) a_stands
-      (stands_call (codes "ObjectMinCardinality") (three (word (codes "2")) (local_word (codes "s")) (local_word (66 ∷ d))) refl refl
-      (stand_more (word (codes "2")) (two (local_word (codes "s")) (local_word (66 ∷ d))) number_stands (two_stand (local_word (codes "s")) (local_word (66 ∷ d)) s_stands b_stands)))
+      sub_stands (65 ∷ d)
+      (call (codes "ObjectMinCardinality") (three (word (codes "2")) (local_word (codes "s")) (local_word (66 ∷ d))))
+      a_stands
+      (stands_call (codes "ObjectMinCardinality")
+      (three (word (codes "2")) (local_word (codes "s")) (local_word (66 ∷ d))) refl refl
+      (stand_more (word (codes "2")) (two (local_word (codes "s")) (local_word (66 ∷ d))) number_stands
+      (two_stand (local_word (codes "s")) (local_word (66 ∷ d)) s_stands b_stands)))
 
   all_stands : Stands (all_phrase d)
   all_stands =
-      sub_stands (66 ∷ d) (call (codes "ObjectAllValuesFrom") (two (local_word (codes "r")) (local_word (67 ∷ d)))) b_stands
-      (stands_call (codes "ObjectAllValuesFrom") (two (local_word (codes "r")) (local_word (67 ∷ d))) refl refl (two_stand (local_word (codes "r")) (local_word (67 ∷ d)) r_stands c_stands))
+      sub_stands (66 ∷ d) (call (codes "ObjectAllValuesFrom") (two (local_word (codes "r")) (local_word (67 ∷ d))))
+      b_stands
+      (stands_call (codes "ObjectAllValuesFrom") (two (local_word (codes "r")) (local_word (67 ∷ d))) refl refl
+      (two_stand (local_word (codes "r")) (local_word (67 ∷ d)) r_stands c_stands))
 
   either_stands : Stands (either_phrase d)
   either_stands =
       sub_stands (67 ∷ d) (call (codes "ObjectUnionOf") (two (local_word (65 ∷ d)) (local_word (68 ∷ d)))) c_stands
-      (stands_call (codes "ObjectUnionOf") (two (local_word (65 ∷ d)) (local_word (68 ∷ d))) refl refl (two_stand (local_word (65 ∷ d)) (local_word (68 ∷ d)) a_stands d_stands))
+      (stands_call (codes "ObjectUnionOf") (two (local_word (65 ∷ d)) (local_word (68 ∷ d))) refl refl
+      (two_stand (local_word (65 ∷ d)) (local_word (68 ∷ d)) a_stands d_stands))
 
 -- ---- lines
 
@@ -113,17 +131,22 @@ both_stand : (ps qs : List Phrase) → LinesStand ps → LinesStand qs → Lines
 both_stand [] qs first second = second
 both_stand (p ∷ ps) qs first second =
     let here = and_parts (can_stand p) (all_can_stand ps) first.bytes in
-    more_lines p (ps ++ qs) (here.0, first.texts.0) (both_stand ps qs (record { bytes = here.1; texts = first.texts.1 }) second)
+    more_lines p (ps ++ qs) (here.0, first.texts.0)
+    (both_stand ps qs (record { bytes = here.1; texts = first.texts.1 }) second)
 
-pub short_word : (local : List ℕ) → can_stand (local_word local) ≡ true → list_all (λ b. nat_lt b 128) (58 ∷ local) ≡ true → Stands (local_word local)
+pub short_word : (local : List ℕ) → can_stand (local_word local) ≡ true
+    → list_all (λ b. nat_lt b 128) (58 ∷ local) ≡ true → Stands (local_word local)
 short_word local plain low = (plain, low_text (58 ∷ local) low)
 
 kernel_name : (v w : List ℕ) → Stands (local_word v) → Stands (local_word w) → Stands (sub_phrase v (local_word w))
 kernel_name v w first second = sub_stands v (local_word w) first second
 
-kernel_both : (u v w : List ℕ) → Stands (local_word u) → Stands (local_word v) → Stands (local_word w) → Stands (sub_phrase u (both_phrase v w))
+kernel_both : (u v w : List ℕ) → Stands (local_word u) → Stands (local_word v) → Stands (local_word w)
+    → Stands (sub_phrase u (both_phrase v w))
 kernel_both u v w first second third =
-    sub_stands u (both_phrase v w) first (stands_call (codes "ObjectIntersectionOf") (two (local_word v) (local_word w)) refl refl (two_stand (local_word v) (local_word w) second third))
+    sub_stands u (both_phrase v w) first
+    (stands_call (codes "ObjectIntersectionOf") (two (local_word v) (local_word w)) refl refl
+    (two_stand (local_word v) (local_word w) second third))
 
 kernel_stands : LinesStand kernel_phrases
 kernel_stands =
@@ -136,7 +159,8 @@ kernel_stands =
     let p2 : Stands (local_word (codes "P2")) = short_word (codes "P2") refl refl in
     let roles : Stands (call (codes "SubObjectPropertyOf") (two (local_word (codes "s")) (local_word (codes "r")))) =
     stands_call (codes "SubObjectPropertyOf") (two (local_word (codes "s")) (local_word (codes "r"))) refl refl
-    (two_stand (local_word (codes "s")) (local_word (codes "r")) (short_word (codes "s") refl refl) (short_word (codes "r") refl refl)) in
+    (two_stand (local_word (codes "s")) (local_word (codes "r")) (short_word (codes "s") refl refl)
+    (short_word (codes "r") refl refl)) in
     more_lines _ _ (kernel_name (codes "Q0") (codes "Q1") q0 q1)
     (more_lines _ _ (kernel_both (codes "Q0") (codes "Q1") (codes "P0") q0 q1 p0)
     (more_lines _ _ (kernel_name (codes "Q1") (codes "Q2") q1 q2)
@@ -155,13 +179,17 @@ group_stands k digits =
 
 pub lines_stand : (n : ℕ) → n ≤ 4000 → LinesStand (workload_phrases n)
 lines_stand zero few = kernel_stands
-lines_stand (suc n) few = both_stand (workload_phrases n) (group_phrases (n + 1)) (lines_stand n (omega (arith, few))) (group_stands (n + 1) (decimal_digits (n + 1) (omega (arith, few))))
+lines_stand (suc n) few =
+    both_stand (workload_phrases n) (group_phrases (n + 1)) (lines_stand n (omega (arith, few)))
+    (group_stands (n + 1) (decimal_digits (n + 1) (omega (arith, few))))
 
 -- ---- UTF-8
 
 lines_utf8 : (ps : List Phrase) → AllText ps → IsUtf8 (lines_text ps)
 lines_utf8 [] h = IsUtf8-nil
-lines_utf8 (p ∷ ps) h = IsUtf8-append (line (text_of p)) (lines_text ps) (IsUtf8-append (text_of p) (10 ∷ []) (text_utf8 p h.0) (low_text (10 ∷ []) refl)) (lines_utf8 ps h.1)
+lines_utf8 (p ∷ ps) h =
+    IsUtf8-append (line (text_of p)) (lines_text ps)
+    (IsUtf8-append (text_of p) (10 ∷ []) (text_utf8 p h.0) (low_text (10 ∷ []) refl)) (lines_utf8 ps h.1)
 
 pub opened_utf8 : (ps : List Phrase) → AllText ps → IsUtf8 (opened (lines_text ps))
 opened_utf8 ps h =
@@ -176,7 +204,8 @@ Nests n ps = nesting_all (lines_items n ps) ≤ 63
 both_nest : (n : ℕ) (ps qs : List Phrase) → Nests n ps → ((m : ℕ) → Nests m qs) → Nests n (ps ++ qs)
 both_nest n [] qs first second = second n
 both_nest n (p ∷ ps) qs first second =
-    let others : nesting_all (lines_items (n + 1) (ps ++ qs)) ≤ 63 = both_nest (n + 1) ps qs (omega (arith, first)) second in
+    let others : nesting_all (lines_items (n + 1) (ps ++ qs)) ≤ 63 =
+    both_nest (n + 1) ps qs (omega (arith, first)) second in
     omega (arith, first, others)
 
 kernel_nests : (n : ℕ) → Nests n kernel_phrases

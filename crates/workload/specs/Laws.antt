@@ -39,4 +39,5 @@ abbrev pub asked : Query
 asked = record { sub = name 0; sup = name 5; on = Any }
 
 abbrev pub WorkloadQueriesAreRead : Type 0
-WorkloadQueriesAreRead = (n : ℕ) (text : List ℕ) (w : IsWorkload n text) → n ≤ 4000 → IsQueryOn w.kept w.read (codes "SubClassOf(:Q0 :Q3)") w.read asked
+WorkloadQueriesAreRead = (n : ℕ) (text : List ℕ) (w : IsWorkload n text) → n ≤ 4000
+    → IsQueryOn w.kept w.read (codes "SubClassOf(:Q0 :Q3)") w.read asked

@@ -14,13 +14,17 @@ unfoldable pub full_name : List ℕ → List ℕ
 full_name local = prefix_iri_of_workloads ++ local
 
 abbrev pub kernel_classes : List (List ℕ)
-kernel_classes = full_name (codes "Q0") ∷ full_name (codes "Q1") ∷ full_name (codes "P0") ∷ full_name (codes "Q2") ∷ full_name (codes "P1") ∷ full_name (codes "Q3") ∷ full_name (codes "P2") ∷ []
+kernel_classes =
+    full_name (codes "Q0") ∷ full_name (codes "Q1") ∷ full_name (codes "P0") ∷ full_name (codes "Q2")
+    ∷ full_name (codes "P1") ∷ full_name (codes "Q3") ∷ full_name (codes "P2") ∷ []
 
 abbrev pub numbered_class : List ℕ → ℕ → List ℕ
 numbered_class letter k = full_name (letter ++ decimal k)
 
 abbrev pub group_classes : ℕ → List (List ℕ)
-group_classes k = numbered_class (codes "A") k ∷ numbered_class (codes "B") k ∷ numbered_class (codes "C") k ∷ numbered_class (codes "D") k ∷ []
+group_classes k =
+    numbered_class (codes "A") k ∷ numbered_class (codes "B") k ∷ numbered_class (codes "C") k
+    ∷ numbered_class (codes "D") k ∷ []
 
 -- those of the kernel, and then those of the groups 1 to n
 abbrev pub workload_classes : ℕ → List (List ℕ)

@@ -1,6 +1,7 @@
 // The lines of a group of axioms.
 ghost use Rattle.std.specs.Prelude.{◌≡◌, ◌++◌, OnOk, decimal};
-ghost use Rattle.workload.specs.WorkloadText.{line, with_two, with_three, some_text, two_text, all_text, either_text, group_text};
+ghost use Rattle.workload.specs.WorkloadText.{line, with_two, with_three, some_text, two_text, all_text, either_text};
+ghost use Rattle.workload.specs.WorkloadText.{group_text};
 
 use shq_terms::NoMemory;
 use std::alloc::Global;
@@ -104,7 +105,8 @@ fn put_with_three(
     third: &[u8],
     last: &[u8],
 ) -> Result<(), NoMemory>
-    ensures { OnOk result (text.new.items ≡ text.old.items ++ line (with_three number first.now second.now third.now last.now)) }
+    ensures { OnOk result
+        (text.new.items ≡ text.old.items ++ line (with_three number first.now second.now third.now last.now)) }
 {
     put_numbered(alloc, text, first, number)?;
     put_numbered(alloc, text, second, number)?;

@@ -4,4 +4,5 @@ use Rattle.ofn_writer.specs.Canonical.{spaced}
 use Rattle.answer_pieces.proofs.put_spaced.Given as goal
 
 abbrev pub invariant-loop-number : goal.invariant-loop-number
-invariant-loop-number l = l.out.items ++ spaced (map decimal l.number-iterator) ≡ l.fn.out.items ++ spaced (map decimal l.fn.numbers)
+invariant-loop-number l =
+    l.out.items ++ spaced (map decimal l.number-iterator) ≡ l.fn.out.items ++ spaced (map decimal l.fn.numbers)

@@ -12,7 +12,8 @@ returns-in-No-clause-tried g c =
     let answer : Answers m c.take.new.self No = rw c.in-No.is at c.in_ok-part.ensures.answer in (
       c.put.ensures.limit ∙ c.take.ensures.limit,
       inl (
-        c.put.ensures.members ∙ ap (λ (s : NumberSet). set.insert s c.args.number) c.take.ensures.members ∙ put_back c.args.kept.members c.args.number (sym c.has.ensures ∙ c.if-not-has.false),
+        c.put.ensures.members ∙ ap (λ (s : NumberSet). set.insert s c.args.number) c.take.ensures.members
+            ∙ put_back c.args.kept.members c.args.number (sym c.has.ensures ∙ c.if-not-has.false),
         λ _. subst (λ (s : NumberSet). ¬ m.holds s) c.take.ensures.members answer.0,
       ),
     )

@@ -4,4 +4,5 @@ use Rattle.repair_list.specs.Alone.{HasAlone}
 use Rattle.repair_list.proofs.is_hit_beside.Given as goal
 
 abbrev pub invariant-loop-place : goal.invariant-loop-place
-invariant-loop-place l = (i : ℕ) (d : Limited) → i < l.place → ¬ HasAlone (get_or l.justifications i d) l.others.members l.number
+invariant-loop-place l = (i : ℕ) (d : Limited) → i < l.place
+    → ¬ HasAlone (get_or l.justifications i d) l.others.members l.number

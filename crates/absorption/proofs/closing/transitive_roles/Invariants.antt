@@ -4,4 +4,5 @@ use Rattle.role_box.specs.Steps.{is_transitive}
 use Rattle.absorption.proofs.closing.transitive_roles.Given as goal
 
 abbrev pub invariant-loop-role : goal.invariant-loop-role
-invariant-loop-role l = (t : ℕ) → t < l.role → is_transitive l.roles t ≡ true → list_any (λ r. eqb r t) l.found.items ≡ true
+invariant-loop-role l = (t : ℕ) → t < l.role → is_transitive l.roles t ≡ true
+    → list_any (λ r. eqb r t) l.found.items ≡ true

@@ -14,7 +14,8 @@ loop-index-preserved c =
     let lt = c.loop-index-test.true in
     elim c.if-is_name.branch [
       | then-is_name+in_ok-push w ↦
-          ap (λ (l : List ℕ). l ++ name_positions ((i + 1) + 1) (map f (drop (i + 1) cs))) (w.positions-is ∙ w.in_ok-push.ensures.pushed)
+          ap (λ (l : List ℕ). l ++ name_positions ((i + 1) + 1) (map f (drop (i + 1) cs)))
+          (w.positions-is ∙ w.in_ok-push.ensures.pushed)
           ∙ name_here f cs i lt ps (sym w.if-is_name.true ∙ c.is_name.ensures) ∙ c.loop-index.invariant
       | else-is_name w ↦
           ap (λ (l : List ℕ). l ++ name_positions ((i + 1) + 1) (map f (drop (i + 1) cs))) w.positions-is

@@ -5,4 +5,6 @@ use Rattle.absorption.proofs.row.name_positions.Given as goal
 
 -- what is put is what stands before this place
 abbrev pub invariant-loop-index : goal.invariant-loop-index
-invariant-loop-index l = l.positions ++ name_positions (l.index + 1) (map (tree_of l.concepts) (drop l.index l.conjuncts)) ≡ name_positions 1 (map (tree_of l.concepts) l.conjuncts)
+invariant-loop-index l =
+    l.positions ++ name_positions (l.index + 1) (map (tree_of l.concepts) (drop l.index l.conjuncts))
+    ≡ name_positions 1 (map (tree_of l.concepts) l.conjuncts)

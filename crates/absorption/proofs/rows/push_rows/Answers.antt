@@ -18,8 +18,11 @@ loop-place-preserved c =
     let after = c.row_at.new.concepts in
     let lt : i < length qs = omega (arith, c.loop-place-test.true, c.part_count-place-end.ensures) in
     record {
-      added = λ ns h. subst (λ (l : List Row). AreRowsOf after (ns ++ take (i + 1) (numbered_parts a 1 qs)) l) (sym c.in_ok-push.ensures.items)
-          (one_part_more before after ns a qs i c.loop-place.rows.items c.in_ok-row.row lt c.row_at.ensures.kept (c.loop-place.invariant.added ns h) c.in_ok-row.ensures.row);
+      added =
+          λ ns h. subst (λ (l : List Row). AreRowsOf after (ns ++ take (i + 1) (numbered_parts a 1 qs)) l)
+          (sym c.in_ok-push.ensures.items)
+          (one_part_more before after ns a qs i c.loop-place.rows.items c.in_ok-row.row lt c.row_at.ensures.kept
+          (c.loop-place.invariant.added ns h) c.in_ok-row.ensures.row);
       kept = extends_twice c.args.concepts.now before after c.loop-place.invariant.kept c.row_at.ensures.kept;
     }
 
@@ -27,5 +30,14 @@ pub returns-clause-rows : goal.returns-clause-rows
 returns-clause-rows c =
     let qs = numbered_parts c.args.number 1 (axiom_parts c.args.axiom.now) in
     let whole : take c.loop-place.place qs ≡ qs =
-    take_all c.loop-place.place qs (omega (arith, c.loop-place-test.false, c.part_count-place-end.ensures, length-numbered_parts c.args.number 1 (axiom_parts c.args.axiom.now))) in
-    record { added = λ ns h. subst (λ (l : List NumberedPart). AreRowsOf c.loop-place.concepts (ns ++ l) c.loop-place.rows.items) whole (c.loop-place.invariant.added ns h) }
+    take_all c.loop-place.place qs (omega (
+      arith,
+      c.loop-place-test.false,
+      c.part_count-place-end.ensures,
+      length-numbered_parts c.args.number 1 (axiom_parts c.args.axiom.now),
+    )) in
+    record {
+      added =
+          λ ns h. subst (λ (l : List NumberedPart). AreRowsOf c.loop-place.concepts (ns ++ l) c.loop-place.rows.items)
+          whole (c.loop-place.invariant.added ns h);
+    }

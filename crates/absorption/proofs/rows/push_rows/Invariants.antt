@@ -8,6 +8,7 @@ use Rattle.absorption.proofs.rows.push_rows.Given as goal
 
 abbrev pub invariant-loop-place : goal.invariant-loop-place
 invariant-loop-place l = record {
-  added : (ns : List NumberedPart) → AreRowsOf l.fn.concepts ns l.fn.rows.items → AreRowsOf l.concepts (ns ++ take l.place (numbered_parts l.number 1 (axiom_parts l.«axiom»))) l.rows.items;
+  added : (ns : List NumberedPart) → AreRowsOf l.fn.concepts ns l.fn.rows.items
+      → AreRowsOf l.concepts (ns ++ take l.place (numbered_parts l.number 1 (axiom_parts l.«axiom»))) l.rows.items;
   kept : Extends l.fn.concepts l.concepts;
 }

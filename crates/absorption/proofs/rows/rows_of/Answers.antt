@@ -16,9 +16,15 @@ loop-number-preserved c =
     let k = get_or ks i 0 in
     let before = named_parts axioms (take i ks) in
     let parts : axiom_parts c.axiom.result.now.axiom ≡ parts_at axioms k = ap parts_in c.axiom.ensures in
-    let more : named_parts axioms (take (i + 1) ks) ≡ before ++ numbered_parts k 1 (axiom_parts c.axiom.result.now.axiom) =
-    ap (named_parts axioms) (take_more ks i 0 c.loop-number-test.true) ∙ named_parts-push axioms (take i ks) k ∙ ap (λ (qs : List Part). before ++ numbered_parts k 1 qs) (sym parts) in
+    let more : named_parts axioms (take (i + 1) ks)
+    ≡ before ++ numbered_parts k 1 (axiom_parts c.axiom.result.now.axiom) =
+    ap (named_parts axioms) (take_more ks i 0 c.loop-number-test.true) ∙ named_parts-push axioms (take i ks) k
+    ∙ ap (λ (qs : List Part). before ++ numbered_parts k 1 qs) (sym parts) in
     record {
-      rows = subst (λ (l : List NumberedPart). AreRowsOf c.push_rows.new.concepts l c.push_rows.new.rows.items) (sym more) (c.in_ok-push_rows.ensures.rows.added before c.loop-number.invariant.rows);
-      kept = extends_twice c.args.concepts.now c.loop-number.concepts c.push_rows.new.concepts c.loop-number.invariant.kept c.push_rows.ensures.kept;
+      rows =
+          subst (λ (l : List NumberedPart). AreRowsOf c.push_rows.new.concepts l c.push_rows.new.rows.items) (sym more)
+          (c.in_ok-push_rows.ensures.rows.added before c.loop-number.invariant.rows);
+      kept =
+          extends_twice c.args.concepts.now c.loop-number.concepts c.push_rows.new.concepts c.loop-number.invariant.kept
+          c.push_rows.ensures.kept;
     }

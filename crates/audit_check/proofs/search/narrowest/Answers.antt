@@ -15,16 +15,25 @@ loop-place-preserved c =
       | goal.then-not-meets+in_ok-count+then-is_none w ↦
           record {
             none = rw w.narrowest-is tt;
-            some = rw w.narrowest-is (unmet_at sets hit p read lt c.index-sets-place.is (λ meet. true≢false (sym (c.meets.ensures.1 meet) ∙ w.if-not-meets.true)));
+            some =
+                rw w.narrowest-is
+                (unmet_at sets hit p read lt c.index-sets-place.is
+                (λ meet. true≢false (sym (c.meets.ensures.1 meet) ∙ w.if-not-meets.true)));
           }
       | goal.then-not-meets+in_ok-count+else-is_none+else-count-fewest w ↦
           record {
-            none = rw w.narrowest-is (some_kept c.loop-place.narrowest (AreMet sets hit (p + 1)) (w.is_none.ensures ∙ ap not w.if-is_none.false));
+            none =
+                rw w.narrowest-is
+                (some_kept c.loop-place.narrowest (AreMet sets hit (p + 1))
+                (w.is_none.ensures ∙ ap not w.if-is_none.false));
             some = rw w.narrowest-is c.loop-place.invariant.some;
           }
       | goal.else-not-meets w ↦
           record {
-            none = rw w.narrowest-is (met_kept sets hit p read lt c.index-sets-place.is (c.meets.ensures.0 w.if-not-meets.false) c.loop-place.narrowest c.loop-place.invariant.none);
+            none =
+                rw w.narrowest-is
+                (met_kept sets hit p read lt c.index-sets-place.is (c.meets.ensures.0 w.if-not-meets.false)
+                c.loop-place.narrowest c.loop-place.invariant.none);
             some = rw w.narrowest-is c.loop-place.invariant.some;
           }
     ]

@@ -7,4 +7,7 @@ use Rattle.audit_check.proofs.verdict.do_lists_fit.Goals as goal
 
 pub returns : goal.returns
 returns c =
-    subst (λ (xs : List Limited). IfOk c.are_transversals.result (λ b. IsTrue b ↔ AreTransversals c.args.limit c.args.sets.now xs)) (c.deref.ensures.value ∙ c.in_ok-repairs.ensures ∙ ap repaired_sets c.repairs.ensures.list) c.are_transversals.ensures
+    subst (λ (xs : List Limited). IfOk c.are_transversals.result
+    (λ b. IsTrue b ↔ AreTransversals c.args.limit c.args.sets.now xs))
+    (c.deref.ensures.value ∙ c.in_ok-repairs.ensures ∙ ap repaired_sets c.repairs.ensures.list)
+    c.are_transversals.ensures

@@ -9,5 +9,8 @@ verify_repairs-requires-clause-hold c =
     let o = c.args.ontology.now in
     let q = c.args.query.now in
     let js = c.justifications-2.result.now in
-    let none = subst (λ (p : Option ℕ). MatchOption p (JustificationsHold o q js (length js)) (FailsFirst (JustificationHolds o q js) (length js))) c.in-None.is c.in_ok-place.ensures in
+    let none =
+    subst (λ (p : Option ℕ). MatchOption p (JustificationsHold o q js (length js))
+    (FailsFirst (JustificationHolds o q js) (length js)))
+    c.in-None.is c.in_ok-place.ensures in
     subst (λ (xs : List Justification). JustificationsHold o q xs (length xs)) c.justifications-2.ensures.list none

@@ -7,7 +7,9 @@ use Rattle.audit_file.proofs.reader.numbers_set.Given as goal
 
 abbrev pub invariant-loop-word : goal.invariant-loop-word
 invariant-loop-word l = record {
-  told : option_map (λ ns. record { limit = l.count; members = with_numbers ns l.set.members }) (elements_from (l.last + 1) (l.count + 1) (map (λ w. w.now) (drop l.word-index l.words))) ≡ numbers_set l.count (map (λ w. w.now) l.words);
+  told : option_map (λ ns. record { limit = l.count; members = with_numbers ns l.set.members })
+      (elements_from (l.last + 1) (l.count + 1) (map (λ w. w.now) (drop l.word-index l.words)))
+      ≡ numbers_set l.count (map (λ w. w.now) l.words);
   limit : l.set.limit ≡ l.count;
   high : l.last ≤ l.count;
 }

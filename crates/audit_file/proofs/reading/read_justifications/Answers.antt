@@ -6,5 +6,10 @@ use Rattle.audit_file.proofs.reading.read_justifications.Goals as goal
 
 pub returns-in_err-read_justification-clause-fault : goal.returns-in_err-read_justification-clause-fault
 returns-in_err-read_justification-clause-fault c =
-    let p = err_from_is_err_and c.from_residual-in_err-read_justification.result c.from_residual-in_err-read_justification.ensures.1 in
-    rw (p.1, p.2) (counted_fault (codes "justifications") (justification_read c.args.ontology.now) c.args.audit.now c.args.reader.now c.count.new.self c.in_ok-count.count c.loop.counter c.loop.audit c.loop.reader c.in_err-read_justification.field-0.0 c.in_ok-count.ensures.count c.loop.invariant.told c.loop-test.true c.in_err-read_justification.ensures.fault)
+    let p =
+    err_from_is_err_and c.from_residual-in_err-read_justification.result
+    c.from_residual-in_err-read_justification.ensures.1 in
+    rw (p.1, p.2)
+    (counted_fault (codes "justifications") (justification_read c.args.ontology.now) c.args.audit.now c.args.reader.now
+    c.count.new.self c.in_ok-count.count c.loop.counter c.loop.audit c.loop.reader c.in_err-read_justification.field-0.0
+    c.in_ok-count.ensures.count c.loop.invariant.told c.loop-test.true c.in_err-read_justification.ensures.fault)

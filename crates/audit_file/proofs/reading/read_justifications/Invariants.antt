@@ -5,6 +5,7 @@ use Rattle.audit_file.proofs.reading.read_justifications.Given as goal
 
 abbrev pub invariant-loop : goal.invariant-loop
 invariant-loop l = record {
-  told : times (justification_read l.ontology) (l.count - l.counter) l.audit l.reader ≡ times (justification_read l.ontology) l.count l.initial.audit l.initial.reader;
+  told : times (justification_read l.ontology) (l.count - l.counter) l.audit l.reader
+      ≡ times (justification_read l.ontology) l.count l.initial.audit l.initial.reader;
   of_axioms : AreOfAxioms l.ontology l.audit;
 }

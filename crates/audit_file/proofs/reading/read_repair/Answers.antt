@@ -9,5 +9,8 @@ returns-clause-of_axioms c =
     subst (AreOfAxioms c.args.ontology.now) (sym c.in_ok-put_repair.ensures.put)
     (record {
       justified = c.requires.justified;
-      repaired = All-push (λ (r : Repair). IsOfAxioms c.args.ontology.now r.set) c.args.audit.now.repairs (record { set = c.in_ok-set.set; model = c.in_ok-model.model }) c.requires.repaired (c.in_ok-set.ensures.limit ∙ c.axiom_count.ensures.count);
+      repaired =
+          All-push (λ (r : Repair). IsOfAxioms c.args.ontology.now r.set) c.args.audit.now.repairs
+          (record { set = c.in_ok-set.set; model = c.in_ok-model.model }) c.requires.repaired
+          (c.in_ok-set.ensures.limit ∙ c.axiom_count.ensures.count);
     })

@@ -5,6 +5,7 @@ use Rattle.audit_file.proofs.reading.read_repairs.Given as goal
 
 abbrev pub invariant-loop : goal.invariant-loop
 invariant-loop l = record {
-  told : times (repair_read l.ontology) (l.count - l.counter) l.audit l.reader ≡ times (repair_read l.ontology) l.count l.initial.audit l.initial.reader;
+  told : times (repair_read l.ontology) (l.count - l.counter) l.audit l.reader
+      ≡ times (repair_read l.ontology) l.count l.initial.audit l.initial.reader;
   of_axioms : AreOfAxioms l.ontology l.audit;
 }

@@ -14,11 +14,18 @@ use Rattle.audit_file.proofs.reading.read_text.Goals as goal
 pub returns-clause-audit : goal.returns-clause-audit
 returns-clause-audit c =
     let o = c.args.ontology.now in
-    let whole = whole_ok (audit_read o c.new-audit.result c.new-reader.result) c.read_audit-end.new.audit c.read_audit-end.result c.audit_of.result c.audit_of.ensures c.read_audit-end.ensures.read in
-    subst (λ (x : AuditLists). IfOk c.audit_of.result (λ a. audit_read o x (record { number = 1; lines = bytes_of c.args.lines.now }) ≡ Ok a)) c.new-audit.ensures
-    (subst (λ (x : Ahead). IfOk c.audit_of.result (λ a. audit_read o c.new-audit.result x ≡ Ok a)) c.new-reader.ensures whole)
+    let whole =
+    whole_ok (audit_read o c.new-audit.result c.new-reader.result) c.read_audit-end.new.audit c.read_audit-end.result
+    c.audit_of.result c.audit_of.ensures c.read_audit-end.ensures.read in
+    subst (λ (x : AuditLists). IfOk c.audit_of.result
+    (λ a. audit_read o x (record { number = 1; lines = bytes_of c.args.lines.now }) ≡ Ok a))
+    c.new-audit.ensures
+    (subst (λ (x : Ahead). IfOk c.audit_of.result (λ a. audit_read o c.new-audit.result x ≡ Ok a)) c.new-reader.ensures
+    whole)
 
-fits : (o : Listed) (ls : List (List ℕ)) (n : ℕ) (r : Result AuditLists LineFault) → length o.axioms ≡ length o.axioms → length ls ≡ n → ((a : AuditLists) → audit_in o ls ≡ Ok a → Fits o (length ls) a) → IfOk r (λ a. audit_in o ls ≡ Ok a) → IfOk r (Fits o n)
+fits : (o : Listed) (ls : List (List ℕ)) (n : ℕ) (r : Result AuditLists LineFault) → length o.axioms ≡ length o.axioms
+    → length ls ≡ n → ((a : AuditLists) → audit_in o ls ≡ Ok a → Fits o (length ls) a)
+    → IfOk r (λ a. audit_in o ls ≡ Ok a) → IfOk r (Fits o n)
 fits o ls n (Ok a) same long law h = subst (λ m. Fits o m a) long (law a h)
 fits o ls n (Err e) same long law h = tt
 
@@ -26,4 +33,7 @@ pub returns-clause-fits : goal.returns-clause-fits
 returns-clause-fits c =
     let o = c.args.ontology.now in
     let ls = bytes_of c.args.lines.now in
-    fits o ls (length c.args.lines.now) c.audit_of.result (λ i. length o.axioms) (length-map c.args.lines.now (λ l. l.now)) (audit_fits o (omega (arith, c.axiom_count-count.ensures.count, c.axiom_count-count.ensures.within)) ls) (returns-clause-audit c)
+    fits o ls (length c.args.lines.now) c.audit_of.result (λ i. length o.axioms)
+    (length-map c.args.lines.now (λ l. l.now))
+    (audit_fits o (omega (arith, c.axiom_count-count.ensures.count, c.axiom_count-count.ensures.within)) ls)
+    (returns-clause-audit c)

@@ -14,7 +14,14 @@ loop-justification-preserved c =
     let lt = c.loop-justification-test.true in
     let is = c.justification-item.is in
     record {
-      text = text_more js i j lt is (justification_text o) c.args.text.now.items c.loop-justification.text.items c.push_justification.new.text.items c.loop-justification.invariant.text c.in_ok-push_justification.ensures.text;
-      listed = all_more js i j lt is (λ (x : Justification). names_are_listed o x.refutation) c.loop-justification.invariant.listed;
-      within = fact_more js i j lt is (λ (x : Justification). IsWithin x.set.limit x.set.members) c.loop-justification.invariant.within c.push_justification.ensures.within;
+      text =
+          text_more js i j lt is (justification_text o) c.args.text.now.items c.loop-justification.text.items
+          c.push_justification.new.text.items c.loop-justification.invariant.text
+          c.in_ok-push_justification.ensures.text;
+      listed =
+          all_more js i j lt is (λ (x : Justification). names_are_listed o x.refutation)
+          c.loop-justification.invariant.listed;
+      within =
+          fact_more js i j lt is (λ (x : Justification). IsWithin x.set.limit x.set.members)
+          c.loop-justification.invariant.within c.push_justification.ensures.within;
     }

@@ -7,7 +7,9 @@ use Rattle.audit_file.proofs.writing.push_each_justification.Given as goal
 
 abbrev pub invariant-loop-justification : goal.invariant-loop-justification
 invariant-loop-justification l = record {
-  text : l.text.items ++ flat_map (justification_text l.ontology) (drop l.justification-index l.justifications) ≡ l.fn.text.items ++ flat_map (justification_text l.ontology) l.justifications;
-  listed : list_all (λ j. names_are_listed l.ontology j.refutation) (drop l.justification-index l.justifications) ≡ true;
+  text : l.text.items ++ flat_map (justification_text l.ontology) (drop l.justification-index l.justifications)
+      ≡ l.fn.text.items ++ flat_map (justification_text l.ontology) l.justifications;
+  listed : list_all (λ j. names_are_listed l.ontology j.refutation) (drop l.justification-index l.justifications)
+      ≡ true;
   within : All (λ j. IsWithin j.set.limit j.set.members) (take l.justification-index l.justifications);
 }

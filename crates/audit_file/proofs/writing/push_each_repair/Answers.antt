@@ -18,10 +18,16 @@ loop-repair-preserved c =
     let lt = c.loop-repair-test.true in
     let is = c.repair-item.is in
     record {
-      text = text_more rs i r lt is (repair_text o) c.args.text.now.items c.loop-repair.text.items c.push_repair.new.text.items c.loop-repair.invariant.text c.in_ok-push_repair.ensures.text;
+      text =
+          text_more rs i r lt is (repair_text o) c.args.text.now.items c.loop-repair.text.items
+          c.push_repair.new.text.items c.loop-repair.invariant.text c.in_ok-push_repair.ensures.text;
       listed = all_more rs i r lt is (λ (x : Repair). uses_listed_names o x.model) c.loop-repair.invariant.listed;
-      within = fact_more rs i r lt is (λ (x : Repair). IsWithin x.set.limit x.set.members) c.loop-repair.invariant.within c.push_repair.ensures.within;
-      kept = fact_more rs i r lt is (λ (x : Repair). IsKept o x.model) c.loop-repair.invariant.kept c.in_ok-push_repair.ensures.kept;
+      within =
+          fact_more rs i r lt is (λ (x : Repair). IsWithin x.set.limit x.set.members) c.loop-repair.invariant.within
+          c.push_repair.ensures.within;
+      kept =
+          fact_more rs i r lt is (λ (x : Repair). IsKept o x.model) c.loop-repair.invariant.kept
+          c.in_ok-push_repair.ensures.kept;
     }
 
 pub returns-clause-kept : goal.returns-clause-kept
@@ -29,4 +35,5 @@ returns-clause-kept c =
     let rs = c.args.repairs.now in
     let o = c.args.ontology.now in
     let past : length rs ≤ c.loop-repair.repair-index = omega arith in
-    subst (All (λ (r : Repair). IsKept o r.model)) (take_all c.loop-repair.repair-index rs past) c.loop-repair.invariant.kept
+    subst (All (λ (r : Repair). IsKept o r.model)) (take_all c.loop-repair.repair-index rs past)
+    c.loop-repair.invariant.kept

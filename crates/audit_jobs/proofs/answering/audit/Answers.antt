@@ -5,7 +5,10 @@ use Rattle.audit_jobs.proofs.answering.audit.Goals as goal
 
 pub returns-clause-answer : goal.returns-clause-answer
 returns-clause-answer c =
-    all_answered c.args.ontology.now c.args.query.now c.args.budget c.search.new.log c.in_ok-searched.searched c.in_ok-searched.ensures.searched c.answer_of-outcome.result text_bytes c.answer_of-outcome.ensures
+    all_answered c.args.ontology.now c.args.query.now c.args.budget c.search.new.log c.in_ok-searched.searched
+    c.in_ok-searched.ensures.searched c.answer_of-outcome.result text_bytes c.answer_of-outcome.ensures
 
 pub returns-clause-begun : goal.returns-clause-begun
-returns-clause-begun c = all_logs c.args.ontology.now c.args.query.now c.args.budget c.search.new.log c.in_ok-searched.searched c.in_ok-searched.ensures.searched c.answer_of-outcome.result
+returns-clause-begun c =
+    all_logs c.args.ontology.now c.args.query.now c.args.budget c.search.new.log c.in_ok-searched.searched
+    c.in_ok-searched.ensures.searched c.answer_of-outcome.result

@@ -7,5 +7,13 @@ use Rattle.audit_jobs.proofs.reading.read_audit.Goals as goal
 pub read_lines-requires : goal.read_lines-requires
 read_lines-requires c =
     let all = c.in_ok-lines.lines.items in
-    let counted : length all ≡ length (lines c.args.text.now) = sym (length-map all (λ l. l.now)) ∙ ap length c.in_ok-lines.ensures in
-    omega (arith, few_lines c.args.text.now, c.requires, counted, ap length c.deref.ensures.value, c.split_at.ensures.back_len)
+    let counted : length all ≡ length (lines c.args.text.now) =
+    sym (length-map all (λ l. l.now)) ∙ ap length c.in_ok-lines.ensures in
+    omega (
+      arith,
+      few_lines c.args.text.now,
+      c.requires,
+      counted,
+      ap length c.deref.ensures.value,
+      c.split_at.ensures.back_len,
+    )

@@ -17,7 +17,9 @@ returns-clause-unread c =
     let nodes = c.in_ok-ontology.context in
     let query = c.args.query.now in
     mapped_err _ c.read_claim-claim.result c.input_of.result c.input_of.ensures
-    (λ u why. unclaimed query _ o nodes c.in_ok-ontology.end c.in_ok-ontology.ensures.document u (subst (λ rest. IsUnclaimed o nodes query rest u) c.split_at.ensures.back why)) c.read_claim-claim.ensures.unclaimed
+    (λ u why. unclaimed query _ o nodes c.in_ok-ontology.end c.in_ok-ontology.ensures.document u
+    (subst (λ rest. IsUnclaimed o nodes query rest u) c.split_at.ensures.back why))
+    c.read_claim-claim.ensures.unclaimed
 
 pub returns-clause-input : goal.returns-clause-input
 returns-clause-input c =
@@ -25,12 +27,17 @@ returns-clause-input c =
     let nodes = c.in_ok-ontology.context in
     let query = c.args.query.now in
     let both = c.read_claim-claim.new.ontology in
-    mapped_ok (input_with both) (IsAuditClaim o nodes query c.split_at.result.1.now both) (IsAuditInput query c.args.bytes.now) c.read_claim-claim.result c.input_of.result c.input_of.ensures
-    (λ x claim. claimed query c.args.bytes.now o nodes c.in_ok-ontology.end c.in_ok-ontology.ensures.document both x (subst (λ rest. IsAuditClaim o nodes query rest both x) c.split_at.ensures.back claim)) c.read_claim-claim.ensures.claim
+    mapped_ok (input_with both) (IsAuditClaim o nodes query c.split_at.result.1.now both)
+    (IsAuditInput query c.args.bytes.now) c.read_claim-claim.result c.input_of.result c.input_of.ensures
+    (λ x claim. claimed query c.args.bytes.now o nodes c.in_ok-ontology.end c.in_ok-ontology.ensures.document both x
+    (subst (λ rest. IsAuditClaim o nodes query rest both x) c.split_at.ensures.back claim))
+    c.read_claim-claim.ensures.claim
 
 pub returns-clause-within : goal.returns-clause-within
 returns-clause-within c =
     let o = c.in_ok-ontology.ontology in
     let claim = c.read_claim-claim in
-    input_in_limit c.args.query.now c.args.bytes.now c.split_at.result.1.now o c.in_ok-ontology.context c.in_ok-ontology.end c.in_ok-ontology.ensures.document claim.new.ontology claim.result c.input_of.result c.input_of.ensures
+    input_in_limit c.args.query.now c.args.bytes.now c.split_at.result.1.now o c.in_ok-ontology.context
+    c.in_ok-ontology.end c.in_ok-ontology.ensures.document claim.new.ontology claim.result c.input_of.result
+    c.input_of.ensures
     claim.ensures.claim claim.ensures.fits

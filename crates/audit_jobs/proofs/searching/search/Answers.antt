@@ -11,10 +11,14 @@ returns-clause-searched c =
     let o = c.args.ontology.now in
     let q = c.args.query.now in
     let small : c.args.budget < 2 ^ 32 = omega arith in
-    subst (λ (r : Result Searched NoMemory). IfOk r (IsSearched o q c.args.budget c.into_log.result)) (sym c.with_evidence.ensures)
+    subst (λ (r : Result Searched NoMemory). IfOk r (IsSearched o q c.args.budget c.into_log.result))
+    (sym c.with_evidence.ensures)
     (all_searched o q c.args.budget c.new-witness.result c.enumerate-outcome.new.entail c.into_log.result
-    (all_fresh o q c.args.budget c.new-oracle.result c.replace-begun.result c.new-witness.result c.new-witness.ensures c.new-oracle.ensures (c.replace-begun.ensures.value ∙ c.requires.unlogged))
-    c.enumerate-outcome.ensures.same c.into_parts-oracle.ensures.is_log (c.into_log.ensures ∙ c.into_parts-oracle.ensures.log) c.into_parts-oracle.result.1 c.into_parts-oracle.ensures.evidence c.requires.in_limit.ontology.few_axioms small
+    (all_fresh o q c.args.budget c.new-oracle.result c.replace-begun.result c.new-witness.result c.new-witness.ensures
+    c.new-oracle.ensures (c.replace-begun.ensures.value ∙ c.requires.unlogged))
+    c.enumerate-outcome.ensures.same c.into_parts-oracle.ensures.is_log
+    (c.into_log.ensures ∙ c.into_parts-oracle.ensures.log) c.into_parts-oracle.result.1
+    c.into_parts-oracle.ensures.evidence c.requires.in_limit.ontology.few_axioms small
     c.enumerate-outcome.result c.enumerate-outcome.ensures.found c.enumerate-outcome.ensures.asked)
 
 pub returns-clause-begun : goal.returns-clause-begun
@@ -22,8 +26,12 @@ returns-clause-begun c =
     let o = c.args.ontology.now in
     let q = c.args.query.now in
     let small : c.args.budget < 2 ^ 32 = omega arith in
-    subst (λ (r : Result Searched NoMemory). OnErr r (HasAsked o q c.args.budget c.into_log.result)) (sym c.with_evidence.ensures)
+    subst (λ (r : Result Searched NoMemory). OnErr r (HasAsked o q c.args.budget c.into_log.result))
+    (sym c.with_evidence.ensures)
     (all_begun o q c.args.budget c.new-witness.result c.enumerate-outcome.new.entail c.into_log.result
-    (all_fresh o q c.args.budget c.new-oracle.result c.replace-begun.result c.new-witness.result c.new-witness.ensures c.new-oracle.ensures (c.replace-begun.ensures.value ∙ c.requires.unlogged))
-    c.enumerate-outcome.ensures.same c.into_parts-oracle.ensures.is_log (c.into_log.ensures ∙ c.into_parts-oracle.ensures.log) c.requires.in_limit.ontology.few_axioms small
-    c.into_parts-oracle.result.1 c.enumerate-outcome.result c.enumerate-outcome.ensures.begun c.enumerate-outcome.ensures.asked)
+    (all_fresh o q c.args.budget c.new-oracle.result c.replace-begun.result c.new-witness.result c.new-witness.ensures
+    c.new-oracle.ensures (c.replace-begun.ensures.value ∙ c.requires.unlogged))
+    c.enumerate-outcome.ensures.same c.into_parts-oracle.ensures.is_log
+    (c.into_log.ensures ∙ c.into_parts-oracle.ensures.log) c.requires.in_limit.ontology.few_axioms small
+    c.into_parts-oracle.result.1 c.enumerate-outcome.result c.enumerate-outcome.ensures.begun
+    c.enumerate-outcome.ensures.asked)

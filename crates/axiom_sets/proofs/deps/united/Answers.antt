@@ -10,11 +10,16 @@ pub returns-clause-members : goal.returns-clause-members
 returns-clause-members c =
     let xs = c.args.marks.now in
     let ys = c.args.others.now in
-    let whole = c.in_ok-extend_from_slice-2.ensures.items ∙ ap (λ (us : List ℕ). us ++ ys) (c.in_ok-extend_from_slice.ensures.items ∙ ap (λ (us : List ℕ). us ++ xs) c.in_ok-all.ensures.items) in
-    united-marks xs ys c.extend_from_slice-2.new.self.items c.sort_unstable.new.self.items c.dedup.new.self.items whole c.sort_unstable.ensures.permutation
+    let whole =
+    c.in_ok-extend_from_slice-2.ensures.items
+    ∙ ap (λ (us : List ℕ). us ++ ys)
+    (c.in_ok-extend_from_slice.ensures.items ∙ ap (λ (us : List ℕ). us ++ xs) c.in_ok-all.ensures.items) in
+    united-marks xs ys c.extend_from_slice-2.new.self.items c.sort_unstable.new.self.items c.dedup.new.self.items whole
+    c.sort_unstable.ensures.permutation
     (dedup_is nat_eq c.sort_unstable.new.self.items c.dedup.new.self.items c.dedup.ensures.filtered)
 
 pub returns-clause-ascending : goal.returns-clause-ascending
 returns-clause-ascending c =
-    subst IsStrictlyIncreasing (sym (dedup_is nat_eq c.sort_unstable.new.self.items c.dedup.new.self.items c.dedup.ensures.filtered))
+    subst IsStrictlyIncreasing
+    (sym (dedup_is nat_eq c.sort_unstable.new.self.items c.dedup.new.self.items c.dedup.ensures.filtered))
     (IsStrictlyIncreasing-dedup c.sort_unstable.new.self.items c.sort_unstable.ensures.sorted)

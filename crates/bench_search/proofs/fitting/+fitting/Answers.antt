@@ -5,4 +5,9 @@ use Rattle.bench_search.proofs.fitting.+fitting.Goals as goal
 
 pub all_fit-fits-requires : goal.all_fit-fits-requires
 all_fit-fits-requires t c =
-    omega (arith, c.decreases, ap depth c.concept-item.is, depth_at c.args.concepts.now c.loop-concept.concept-index c.concept-item.result c.loop-concept-test.true)
+    omega (
+      arith,
+      c.decreases,
+      ap depth c.concept-item.is,
+      depth_at c.args.concepts.now c.loop-concept.concept-index c.concept-item.result c.loop-concept-test.true,
+    )

@@ -11,4 +11,6 @@ abbrev pub decreases-all_fit : goal.decreases-all_fit
 decreases-all_fit l = 2 * depth_parts (parts_of l.concepts.now)
 
 abbrev pub invariant-all_fit-loop-concept : goal.invariant-all_fit-loop-concept
-invariant-all_fit-loop-concept l = all_fit l.names.classes l.names.roles (parts_of l.concepts) ≡ all_fit l.names.classes l.names.roles (parts_of (drop l.concept-index l.concepts))
+invariant-all_fit-loop-concept l =
+    all_fit l.names.classes l.names.roles (parts_of l.concepts)
+    ≡ all_fit l.names.classes l.names.roles (parts_of (drop l.concept-index l.concepts))

@@ -5,4 +5,6 @@ use Rattle.completion_tree.specs.Trail.{facts_in}
 use Rattle.blocking.proofs.block_list.has_all.Given as goal
 
 abbrev pub invariant-loop-concept : goal.invariant-loop-concept
-invariant-loop-concept g l = list_all (has_concept (facts_in l.tree.entries) l.node) (drop l.concept-index l.concepts) ≡ list_all (has_concept (facts_in l.tree.entries) l.node) l.concepts
+invariant-loop-concept g l =
+    list_all (has_concept (facts_in l.tree.entries) l.node) (drop l.concept-index l.concepts)
+    ≡ list_all (has_concept (facts_in l.tree.entries) l.node) l.concepts

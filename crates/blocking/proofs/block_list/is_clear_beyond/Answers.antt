@@ -9,4 +9,5 @@ pub returns-clause-blocked : goal.returns-clause-blocked
 returns-clause-blocked g c =
     let fs = facts_in c.args.tree.now.entries in
     let x = c.args.node in
-    blocked_beyond c.args.tree.now.first fs x (omega (arith, c.first.ensures.some, c.first.ensures.first)) c.requires (subst (λ (cs : List ℕ). IsLabel fs x cs) (c.label.ensures.beyond c.requires) c.label.ensures.held)
+    blocked_beyond c.args.tree.now.first fs x (omega (arith, c.first.ensures.some, c.first.ensures.first)) c.requires
+    (subst (λ (cs : List ℕ). IsLabel fs x cs) (c.label.ensures.beyond c.requires) c.label.ensures.held)

@@ -11,5 +11,7 @@ returns g c =
     let fs = facts_in c.args.tree.now.entries in
     let x = c.args.node in
     let d = c.index.result.now in
-    let same : c.prints.inside.blocks.items ≡ c.args.prints.now.blocks = ap (λ (p : Printed). p.blocks) c.prints.view_is in
-    c.index.ensures ∙ ap (λ (bs : List Block). get_or bs x d) (same ∙ c.requires.current.all_blocks) ∙ get-blocks_to c.args.tree.now.first fs (node_count_from c.args.tree.now.first fs) x d c.requires.node
+    let same : c.prints.inside.blocks.items ≡ c.args.prints.now.blocks =
+    ap (λ (p : Printed). p.blocks) c.prints.view_is in
+    c.index.ensures ∙ ap (λ (bs : List Block). get_or bs x d) (same ∙ c.requires.current.all_blocks)
+    ∙ get-blocks_to c.args.tree.now.first fs (node_count_from c.args.tree.now.first fs) x d c.requires.node

@@ -8,4 +8,5 @@ use Rattle.blocking.proofs.changed.least_changed.Given as goal
 abbrev pub invariant-loop-at : goal.invariant-loop-at
 invariant-loop-at g l =
     least_touched l.tree.first (rep (facts_in l.tree.entries)) l.least (facts_in (drop l.at l.tree.entries))
-    ≡ least_touched l.tree.first (rep (facts_in l.tree.entries)) (node_count_from l.tree.first (facts_in l.tree.entries)) (facts_in (drop l.place l.tree.entries))
+    ≡ least_touched l.tree.first (rep (facts_in l.tree.entries))
+    (node_count_from l.tree.first (facts_in l.tree.entries)) (facts_in (drop l.place l.tree.entries))

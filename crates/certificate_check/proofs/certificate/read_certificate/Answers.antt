@@ -7,5 +7,13 @@ use Rattle.certificate_check.proofs.certificate.read_certificate.Goals as goal
 pub read_verdict-requires : goal.read_verdict-requires
 read_verdict-requires c =
     let all = c.in_ok-lines.lines.items in
-    let counted : length all ≡ length (lines c.args.text.now) = sym (length-map all (λ l. l.now)) ∙ ap length c.in_ok-lines.ensures in
-    omega (arith, few_lines c.args.text.now, c.requires, counted, ap length c.deref.ensures.value, c.split_at.ensures.back_len)
+    let counted : length all ≡ length (lines c.args.text.now) =
+    sym (length-map all (λ l. l.now)) ∙ ap length c.in_ok-lines.ensures in
+    omega (
+      arith,
+      few_lines c.args.text.now,
+      c.requires,
+      counted,
+      ap length c.deref.ensures.value,
+      c.split_at.ensures.back_len,
+    )

@@ -6,6 +6,7 @@ use Rattle.certificate_lines.proofs.fault.first_unblank.Given as goal
 
 abbrev pub invariant-loop-index : goal.invariant-loop-index
 invariant-loop-index l = record {
-  first : first_unblank (l.number + l.index) (map (λ w. w.now) (drop l.index l.lines)) ≡ first_unblank l.number (map (λ w. w.now) l.lines);
+  first : first_unblank (l.number + l.index) (map (λ w. w.now) (drop l.index l.lines))
+      ≡ first_unblank l.number (map (λ w. w.now) l.lines);
   blank : list_all is_blank (map (λ w. w.now) (drop l.index l.lines)) ≡ list_all is_blank (map (λ w. w.now) l.lines);
 }

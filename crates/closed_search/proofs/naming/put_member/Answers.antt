@@ -7,4 +7,5 @@ use Rattle.closed_search.proofs.naming.put_member.Goals as goal
 pub returns-then-is_member-clause-members : goal.returns-then-is_member-clause-members
 returns-then-is_member-clause-members c = λ k.
     ap (λ (s : NumberSet). sets.contains s k) c.put.ensures.members
-    ∙ put_in c.args.set.now.members c.args.named.now.members c.args.number (sym c.is_member.ensures.member ∙ c.if-is_member.true) k
+    ∙ put_in c.args.set.now.members c.args.named.now.members c.args.number
+    (sym c.is_member.ensures.member ∙ c.if-is_member.true) k

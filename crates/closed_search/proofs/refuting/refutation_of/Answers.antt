@@ -11,15 +11,23 @@ use Rattle.closed_search.proofs.refuting.refutation_of.Goals as goal
 
 pub returns-clause-axioms : goal.returns-clause-axioms
 returns-clause-axioms c =
-    let names = subst (λ (ls : List Kept). NamesAxioms c.args.ontology.now.axioms c.args.set.now (map line_of ls) c.in_ok-named.named) c.deref.ensures.value c.in_ok-named.ensures in
-    numbered_names c.args.ontology.now.axioms c.args.set.now c.in_ok-named.named c.args.concepts.now (map line_of c.in_ok-lines.lines.items) c.in_ok-refutation.refutation names c.in_ok-refutation.ensures
+    let names =
+    subst
+    (λ (ls : List Kept). NamesAxioms c.args.ontology.now.axioms c.args.set.now (map line_of ls) c.in_ok-named.named)
+    c.deref.ensures.value c.in_ok-named.ensures in
+    numbered_names c.args.ontology.now.axioms c.args.set.now c.in_ok-named.named c.args.concepts.now
+    (map line_of c.in_ok-lines.lines.items) c.in_ok-refutation.refutation names c.in_ok-refutation.ensures
 
 pub returns-clause-part : goal.returns-clause-part
-returns-clause-part c = named_are_part c.args.ontology.now.axioms c.args.set.now c.in_ok-refutation.refutation.lines c.in_ok-refutation.refutation.axioms (returns-clause-axioms c)
+returns-clause-part c =
+    named_are_part c.args.ontology.now.axioms c.args.set.now c.in_ok-refutation.refutation.lines
+    c.in_ok-refutation.refutation.axioms (returns-clause-axioms c)
 
 pub returns-clause-listed : goal.returns-clause-listed
 returns-clause-listed c =
-    names_listed c.args.ontology.now c.args.set.now c.in_ok-named.named c.args.concepts.now c.args.trace (map line_of c.in_ok-lines.lines.items) c.in_ok-refutation.refutation c.in_ok-lines.ensures c.in_ok-refutation.ensures
+    names_listed c.args.ontology.now c.args.set.now c.in_ok-named.named c.args.concepts.now c.args.trace
+    (map line_of c.in_ok-lines.lines.items) c.in_ok-refutation.refutation c.in_ok-lines.ensures
+    c.in_ok-refutation.ensures
     c.requires.listed c.len.ensures.table c.shape_count.ensures.kept
 
 pub returns-clause-refutes : goal.returns-clause-refutes
@@ -27,7 +35,11 @@ returns-clause-refutes c =
     let r = c.in_ok-refutation.refutation in
     let same = c.axioms_used.ensures in
     let within = subst (λ (s : Limited). IsWithin s.limit s.members) same c.limit.ensures.within in
-    let few : r.axioms.limit < 2 ^ 32 = omega (arith, c.limit.type_inv, c.limit.ensures.limit, ap (λ (s : Limited). s.limit) same) in
-    let small : list_all is_small r.lines ≡ true = subst (λ (ls : List Line). list_all is_small ls ≡ true) c.lines.ensures.lines c.show_small.ensures in
-    written c.args.ontology.now c.args.set.now c.in_ok-named.named c.args.concepts.now c.args.trace (map line_of c.in_ok-lines.lines.items) r c.in_ok-lines.ensures c.in_ok-refutation.ensures
-    c.requires.listed c.len.ensures.table c.shape_count.ensures.kept c.requires.set (returns-clause-axioms c) within few small
+    let few : r.axioms.limit < 2 ^ 32 =
+    omega (arith, c.limit.type_inv, c.limit.ensures.limit, ap (λ (s : Limited). s.limit) same) in
+    let small : list_all is_small r.lines ≡ true =
+    subst (λ (ls : List Line). list_all is_small ls ≡ true) c.lines.ensures.lines c.show_small.ensures in
+    written c.args.ontology.now c.args.set.now c.in_ok-named.named c.args.concepts.now c.args.trace
+    (map line_of c.in_ok-lines.lines.items) r c.in_ok-lines.ensures c.in_ok-refutation.ensures
+    c.requires.listed c.len.ensures.table c.shape_count.ensures.kept c.requires.set (returns-clause-axioms c) within few
+    small

@@ -6,4 +6,5 @@ use Rattle.closed_search.proofs.small.show_small.Given as goal
 
 -- all are small when the rest are
 abbrev pub invariant-loop-line : goal.invariant-loop-line
-invariant-loop-line l = list_all is_small (map line_of l.lines) ≡ list_all is_small (map line_of (drop l.line-index l.lines))
+invariant-loop-line l =
+    list_all is_small (map line_of l.lines) ≡ list_all is_small (map line_of (drop l.line-index l.lines))

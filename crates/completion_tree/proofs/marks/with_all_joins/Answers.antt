@@ -27,11 +27,17 @@ loop-place-preserved g c =
     let e = c.entry.result.now in
     let all = c.joins-place-items.ensures in
     let lt : i < length (places is_same 0 es) = omega (arith, c.loop-place-test.true, ap length all) in
-    let at : e ≡ get_or (filter is_same es) i e = read_entry is_same es i _ e lt (ap (λ (us : List ℕ). get_or us i 0) all) c.entry.ensures in
-    let here : AreWithin p c.in_ok-used.used (get_or (filter is_same es) i e ∷ []) = subst (λ (d : Entry). AreWithin p c.in_ok-used.used (d ∷ [])) at c.in_ok-used.ensures.joins in
+    let at : e ≡ get_or (filter is_same es) i e =
+    read_entry is_same es i _ e lt (ap (λ (us : List ℕ). get_or us i 0) all) c.entry.ensures in
+    let here : AreWithin p c.in_ok-used.used (get_or (filter is_same es) i e ∷ []) =
+    subst (λ (d : Entry). AreWithin p c.in_ok-used.used (d ∷ [])) at c.in_ok-used.ensures.joins in
     record {
-      more = part_on c.args.ground c.loop-place.used c.in_ok-used.used c.loop-place.invariant.more c.in_ok-used.ensures.more;
-      joins = are-next p c.loop-place.used c.in_ok-used.used (filter is_same es) i e (filtered_below is_same es i lt) c.loop-place.invariant.joins c.in_ok-used.ensures.more here;
+      more =
+          part_on c.args.ground c.loop-place.used c.in_ok-used.used c.loop-place.invariant.more
+          c.in_ok-used.ensures.more;
+      joins =
+          are-next p c.loop-place.used c.in_ok-used.used (filter is_same es) i e (filtered_below is_same es i lt)
+          c.loop-place.invariant.joins c.in_ok-used.ensures.more here;
     }
 
 pub returns-clause-joins : goal.returns-clause-joins

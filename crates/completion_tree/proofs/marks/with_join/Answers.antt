@@ -12,7 +12,8 @@ pub returns-clause-more : goal.returns-clause-more
 returns-clause-more g c =
     let used = c.args.used in
     let marks = c.in_ok-marks.marks in
-    if_ok_by c.union.result (λ u. u ≡ set.union used marks) (λ u. set.is_subset used u ≡ true) (λ u is. ap (set.is_subset used) is ∙ part_left used marks) c.union.ensures
+    if_ok_by c.union.result (λ u. u ≡ set.union used marks) (λ u. set.is_subset used u ≡ true)
+    (λ u is. ap (set.is_subset used) is ∙ part_left used marks) c.union.ensures
 
 pub returns-clause-joins : goal.returns-clause-joins
 returns-clause-joins g c =
@@ -21,4 +22,5 @@ returns-clause-joins g c =
     let p = is_join (rep c.args.facts.now.facts) c.args.first c.args.second in
     let e = c.args.entry.now in
     if_ok_by c.union.result (λ u. u ≡ set.union used marks) (λ u. AreWithin p u (e ∷ []))
-    (λ u is. single p u e (λ _. (λ i. set.is_subset (sym c.in_ok-marks.ensures i) (is i)) ∙ part_right used marks)) c.union.ensures
+    (λ u is. single p u e (λ _. (λ i. set.is_subset (sym c.in_ok-marks.ensures i) (is i)) ∙ part_right used marks))
+    c.union.ensures

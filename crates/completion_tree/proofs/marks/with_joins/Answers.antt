@@ -16,7 +16,9 @@ returns-then-is_alone-2-clause-joins g c =
     let b = c.args.second in
     let same = c.requires.same in
     let alone-a = subst (λ (fs : List (Fact ℕ)). IsAlone fs a) same (c.is_alone.ensures.alone c.if-is_alone.true) in
-    let alone-b = subst (λ (fs : List (Fact ℕ)). IsAlone fs b) same (c.is_alone-then-is_alone.ensures.alone c.if-is_alone-2.true) in
+    let alone-b =
+    subst (λ (fs : List (Fact ℕ)). IsAlone fs b) same (c.is_alone-then-is_alone.ensures.alone c.if-is_alone-2.true) in
     let own-a = ap (λ (fs : List (Fact ℕ)). rep fs a) (sym same) ∙ c.requires.first in
     let own-b = ap (λ (fs : List (Fact ℕ)). rep fs b) (sym same) ∙ c.requires.second in
-    subst (λ (fs : List (Fact ℕ)). AreWithin (is_join (rep fs) a b) c.args.ground es) (sym same) (alone_within es a b c.args.ground own-a own-b alone-a alone-b)
+    subst (λ (fs : List (Fact ℕ)). AreWithin (is_join (rep fs) a b) c.args.ground es) (sym same)
+    (alone_within es a b c.args.ground own-a own-b alone-a alone-b)

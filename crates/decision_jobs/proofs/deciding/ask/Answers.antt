@@ -10,7 +10,8 @@ returns-clause-decision c =
     let q = c.args.query.now in
     let all = c.in_ok-all.all in
     let r = c.decide.result in
-    asked_whole o all q c.args.oracle.now c.decide.new.self r (is_whole o all _ c.axiom_count.ensures.count c.in_ok-all.ensures.limit c.in_ok-all.ensures.members)
+    asked_whole o all q c.args.oracle.now c.decide.new.self r
+    (is_whole o all _ c.axiom_count.ensures.count c.in_ok-all.ensures.limit c.in_ok-all.ensures.members)
     (subst (λ p. IfOk r (IsAnswer p all q)) c.requires.same c.decide.ensures.answer)
 
 pub returns-clause-logged : goal.returns-clause-logged
@@ -19,6 +20,10 @@ returns-clause-logged c =
     let q = c.args.query.now in
     let all = c.in_ok-all.all in
     let r = c.decide.result in
-    asked_logged o all q c.args.oracle.now c.decide.new.self r c.requires.same c.decide.ensures.same_ontology c.decide.ensures.same_budget c.requires.unlogged
-    (is_whole o all _ c.axiom_count.ensures.count c.in_ok-all.ensures.limit c.in_ok-all.ensures.members) c.decide.ensures.within
-    (subst (λ p. IfOk r (AppendsTest p all q c.args.oracle.now.log c.decide.new.self.log)) c.requires.same c.decide.ensures.entry) c.decide.ensures.spent
+    asked_logged o all q c.args.oracle.now c.decide.new.self r c.requires.same c.decide.ensures.same_ontology
+    c.decide.ensures.same_budget c.requires.unlogged
+    (is_whole o all _ c.axiom_count.ensures.count c.in_ok-all.ensures.limit c.in_ok-all.ensures.members)
+    c.decide.ensures.within
+    (subst (λ p. IfOk r (AppendsTest p all q c.args.oracle.now.log c.decide.new.self.log)) c.requires.same
+    c.decide.ensures.entry)
+    c.decide.ensures.spent

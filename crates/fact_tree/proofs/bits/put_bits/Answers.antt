@@ -11,5 +11,7 @@ pub loop-concept-preserved : goal.loop-concept-preserved
 loop-concept-preserved g c =
     let i = c.loop-concept.concept-index in
     let cs = c.args.concepts.now in
-    subst (λ (ds : List ℕ). HaveBits ds c.put_bit.new.bits.items) (sym (take_more cs i 0 (omega (arith, c.loop-concept-test.true))))
-    (more_bits (take i cs) c.loop-concept.bits.items c.put_bit.new.bits.items (get_or cs i 0) c.in_ok-put_bit.ensures c.loop-concept.invariant)
+    subst (λ (ds : List ℕ). HaveBits ds c.put_bit.new.bits.items)
+    (sym (take_more cs i 0 (omega (arith, c.loop-concept-test.true))))
+    (more_bits (take i cs) c.loop-concept.bits.items c.put_bit.new.bits.items (get_or cs i 0) c.in_ok-put_bit.ensures
+    c.loop-concept.invariant)

@@ -11,4 +11,5 @@ returns-in_err-push-clause-back g c =
     let e = c.args.entry in
     on_err _ _
     (subst (λ (u : Lengths). Undoes u c.put.new.self c.args.store.now) (sym c.requires.lengths)
-    (subst (λ (k : Kept). Undoes (lengths_of e.lengths.node c.args.store.now) k c.args.store.now) (sym c.in_ok-put.ensures.put) (after_back c.args.store.now e.lengths.node c.args.high e.fact c.requires.place)))
+    (subst (λ (k : Kept). Undoes (lengths_of e.lengths.node c.args.store.now) k c.args.store.now)
+    (sym c.in_ok-put.ensures.put) (after_back c.args.store.now e.lengths.node c.args.high e.fact c.requires.place)))

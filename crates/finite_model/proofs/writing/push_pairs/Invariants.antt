@@ -4,4 +4,5 @@ use Rattle.finite_model.specs.Written.{pair_text}
 use Rattle.finite_model.proofs.writing.push_pairs.Given as goal
 
 abbrev pub invariant-loop-pair : goal.invariant-loop-pair
-invariant-loop-pair l = l.text.items ++ flat_map pair_text (drop l.pair-index l.pairs) ≡ l.fn.text.items ++ flat_map pair_text l.pairs
+invariant-loop-pair l =
+    l.text.items ++ flat_map pair_text (drop l.pair-index l.pairs) ≡ l.fn.text.items ++ flat_map pair_text l.pairs

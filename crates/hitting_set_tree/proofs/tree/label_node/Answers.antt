@@ -37,7 +37,8 @@ returns-in_ok-add_label-in-Just-clause-step g c =
       | inl e ↦ subst m'.shown_yes (sym e) (keeps.keeps_yes c.args.part.now.members c.requires.part.3)
       | inr s ↦ s
     ] in
-    labelled_step (lists c.args.tree.now) (lists c.add_label.new.tree) c.add_label.new.tree.rooted c.args.node m' good (keeps_listed m m' (lists c.args.tree.now) keeps c.requires.listed) c.in-Just.just c.in_ok-add_label-in-Just.ensures
+    labelled_step (lists c.args.tree.now) (lists c.add_label.new.tree) c.add_label.new.tree.rooted c.args.node m' good
+    (keeps_listed m m' (lists c.args.tree.now) keeps c.requires.listed) c.in-Just.just c.in_ok-add_label-in-Just.ensures
     (shrunk.0 ∙ c.requires.part.0 ∙ good.hit_limit) shrunk.2 shown
 
 pub returns-in_ok-add_label-in-Just-clause-open : goal.returns-in_ok-add_label-in-Just-clause-open
@@ -45,42 +46,62 @@ returns-in_ok-add_label-in-Just-clause-open g c =
     let m = g.E.Entail.meaning c.args.entail.now in
     let new = c.add_label.new.tree in
     subst (λ (t : List Limited). HasOpen t (lists new) new.rooted) (sym c.shrink.ensures.taken)
-    (labelled_open (lists c.args.tree.now) (lists new) new.rooted c.args.node m.taken c.requires.pending c.in-Just.just c.in_ok-add_label-in-Just.ensures)
+    (labelled_open (lists c.args.tree.now) (lists new) new.rooted c.args.node m.taken c.requires.pending c.in-Just.just
+    c.in_ok-add_label-in-Just.ensures)
 
 pub returns-in_ok-add_label-in-Just-clause-asked : goal.returns-in_ok-add_label-in-Just-clause-asked
-returns-in_ok-add_label-in-Just-clause-asked g c = omega (arith, c.shrink.ensures.asked, few_in_rest c.args.node.hit c.args.part.now (g.E.Entail.meaning c.args.entail.now).size c.requires.part.1 c.requires.part.0 c.requires.node.hit_limit)
+returns-in_ok-add_label-in-Just-clause-asked g c = omega (
+  arith,
+  c.shrink.ensures.asked,
+  few_in_rest c.args.node.hit c.args.part.now (g.E.Entail.meaning c.args.entail.now).size c.requires.part.1
+      c.requires.part.0 c.requires.node.hit_limit,
+)
 
 pub returns-in-Spent-clause-step : goal.returns-in-Spent-clause-step
 returns-in-Spent-clause-step g c =
     let m = g.E.Entail.meaning c.args.entail.now in
     let m' = g.E.Entail.meaning c.shrink.new.entail in
     let spent : ShrinksTo m' c.args.part.now Spent = rw c.in-Spent.is at c.in_ok-just.ensures.shrunk in
-    let pending = subst (λ (t : List Limited). HasPending t (lists c.args.tree.now) c.args.node) (sym c.shrink.ensures.taken) c.requires.pending in
-    let rest = rest_holds m m' c.args.node c.args.part.now c.shrink.ensures.keeps (g.met.E.Entail.grows c.shrink.new.entail) c.requires.part in
-    step_spent m' (lists c.args.tree.now) c.args.node (keeps_listed m m' (lists c.args.tree.now) c.shrink.ensures.keeps c.requires.listed) spent
+    let pending =
+    subst (λ (t : List Limited). HasPending t (lists c.args.tree.now) c.args.node) (sym c.shrink.ensures.taken)
+    c.requires.pending in
+    let rest =
+    rest_holds m m' c.args.node c.args.part.now c.shrink.ensures.keeps (g.met.E.Entail.grows c.shrink.new.entail)
+    c.requires.part in
+    step_spent m' (lists c.args.tree.now) c.args.node
+    (keeps_listed m m' (lists c.args.tree.now) c.shrink.ensures.keeps c.requires.listed) spent
     (pending_open m' (lists c.args.tree.now) c.args.node pending (inl rest)) c.requires.outstanding
 
 pub returns-in-Spent-clause-open : goal.returns-in-Spent-clause-open
 returns-in-Spent-clause-open g c =
     let m = g.E.Entail.meaning c.args.entail.now in
-    subst (λ (t : List Limited). IsEnded t (lists c.args.tree.now)) (sym c.shrink.ensures.taken) (ended_pending m.taken (lists c.args.tree.now) c.args.node c.requires.pending.0 c.requires.pending.1)
+    subst (λ (t : List Limited). IsEnded t (lists c.args.tree.now)) (sym c.shrink.ensures.taken)
+    (ended_pending m.taken (lists c.args.tree.now) c.args.node c.requires.pending.0 c.requires.pending.1)
 
 pub returns-in-Spent-clause-asked : goal.returns-in-Spent-clause-asked
-returns-in-Spent-clause-asked g c = omega (arith, c.shrink.ensures.asked, few_in_rest c.args.node.hit c.args.part.now (g.E.Entail.meaning c.args.entail.now).size c.requires.part.1 c.requires.part.0 c.requires.node.hit_limit)
+returns-in-Spent-clause-asked g c = omega (
+  arith,
+  c.shrink.ensures.asked,
+  few_in_rest c.args.node.hit c.args.part.now (g.E.Entail.meaning c.args.entail.now).size c.requires.part.1
+      c.requires.part.0 c.requires.node.hit_limit,
+)
 
 pub returns-in_ok-add_label-in-Just-clause-shown : goal.returns-in_ok-add_label-in-Just-clause-shown
 returns-in_ok-add_label-in-Just-clause-shown g c =
     let m = g.E.Entail.meaning c.args.entail.now in
     let m' = g.E.Entail.meaning c.shrink.new.entail in
-    let above : LosesNothing m m' c.args.part.now (Just c.in-Just.just) = rw c.in-Just.is at c.in_ok-just.ensures.shown in
-    shown_label m m' (lists c.args.tree.now) (lists c.add_label.new.tree) c.add_label.new.tree.rooted c.args.node c.args.part.now c.in-Just.just c.in_ok-add_label-in-Just.ensures above
+    let above : LosesNothing m m' c.args.part.now (Just c.in-Just.just) =
+    rw c.in-Just.is at c.in_ok-just.ensures.shown in
+    shown_label m m' (lists c.args.tree.now) (lists c.add_label.new.tree) c.add_label.new.tree.rooted c.args.node
+    c.args.part.now c.in-Just.just c.in_ok-add_label-in-Just.ensures above
 
 pub returns-in_ok-add_label-in-Just-clause-named : goal.returns-in_ok-add_label-in-Just-clause-named
 returns-in_ok-add_label-in-Just-clause-named g c =
     let m = g.E.Entail.meaning c.args.entail.now in
     let m' = g.E.Entail.meaning c.shrink.new.entail in
     let shrunk : ShrinksTo m' c.args.part.now (Just c.in-Just.just) = rw c.in-Just.is at c.in_ok-just.ensures.shrunk in
-    label_found m m' (lists c.args.tree.now) (lists c.add_label.new.tree) c.add_label.new.tree.rooted c.args.node c.args.part.now c.in-Just.just c.in_ok-add_label-in-Just.ensures shrunk.1
+    label_found m m' (lists c.args.tree.now) (lists c.add_label.new.tree) c.add_label.new.tree.rooted c.args.node
+    c.args.part.now c.in-Just.just c.in_ok-add_label-in-Just.ensures shrunk.1
 
 pub returns-in-Spent-clause-shown : goal.returns-in-Spent-clause-shown
 returns-in-Spent-clause-shown g c =
@@ -99,16 +120,30 @@ returns-in-Spent-clause-named g c =
 pub returns-in_err-just-clause-begun : goal.returns-in_err-just-clause-begun
 returns-in_err-just-clause-begun g c =
     in_err c.from_residual.result
-    (pending_later (g.E.Entail.meaning c.args.entail.now) (g.E.Entail.meaning c.shrink.new.entail) (lists c.args.tree.now) c.args.node c.shrink.ensures.keeps c.shrink.ensures.taken c.requires.listed c.requires.pending)
+    (pending_later (g.E.Entail.meaning c.args.entail.now) (g.E.Entail.meaning c.shrink.new.entail)
+    (lists c.args.tree.now) c.args.node c.shrink.ensures.keeps c.shrink.ensures.taken c.requires.listed
+    c.requires.pending)
 
 pub returns-in_err-just-clause-asked : goal.returns-in_err-just-clause-asked
-returns-in_err-just-clause-asked g c = omega (arith, c.shrink.ensures.asked, few_in_rest c.args.node.hit c.args.part.now (g.E.Entail.meaning c.args.entail.now).size c.requires.part.1 c.requires.part.0 c.requires.node.hit_limit)
+returns-in_err-just-clause-asked g c = omega (
+  arith,
+  c.shrink.ensures.asked,
+  few_in_rest c.args.node.hit c.args.part.now (g.E.Entail.meaning c.args.entail.now).size c.requires.part.1
+      c.requires.part.0 c.requires.node.hit_limit,
+)
 
 pub returns-in_err-add_label-in-Just-clause-begun : goal.returns-in_err-add_label-in-Just-clause-begun
 returns-in_err-add_label-in-Just-clause-begun g c =
     in_err c.from_residual-in_err-add_label-in-Just.result
-    (pending_later (g.E.Entail.meaning c.args.entail.now) (g.E.Entail.meaning c.shrink.new.entail) (lists c.args.tree.now) c.args.node c.shrink.ensures.keeps c.shrink.ensures.taken c.requires.listed c.requires.pending)
+    (pending_later (g.E.Entail.meaning c.args.entail.now) (g.E.Entail.meaning c.shrink.new.entail)
+    (lists c.args.tree.now) c.args.node c.shrink.ensures.keeps c.shrink.ensures.taken c.requires.listed
+    c.requires.pending)
 
 pub returns-in_err-add_label-in-Just-clause-asked : goal.returns-in_err-add_label-in-Just-clause-asked
 returns-in_err-add_label-in-Just-clause-asked g c =
-    omega (arith, c.shrink.ensures.asked, few_in_rest c.args.node.hit c.args.part.now (g.E.Entail.meaning c.args.entail.now).size c.requires.part.1 c.requires.part.0 c.requires.node.hit_limit)
+    omega (
+      arith,
+      c.shrink.ensures.asked,
+      few_in_rest c.args.node.hit c.args.part.now (g.E.Entail.meaning c.args.entail.now).size c.requires.part.1
+          c.requires.part.0 c.requires.node.hit_limit,
+    )

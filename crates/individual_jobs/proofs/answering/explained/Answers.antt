@@ -9,10 +9,14 @@ pub returns-in_err-input-clause-unread : goal.returns-in_err-input-clause-unread
 returns-in_err-input-clause-unread c =
     let p = err_from_is_err_and c.from_residual.result c.from_residual.ensures.1 in
     let log = c.args.log.now in
-    rw (p.1, p.2) (no_input (has_element c.args.class.now) c.args.bytes.now log (λ o q. HasBlocks o q.sub c.args.budget log) _ c.requires.unlogged c.in_err-input.ensures.unread)
+    rw (p.1, p.2)
+    (no_input (has_element c.args.class.now) c.args.bytes.now log (λ o q. HasBlocks o q.sub c.args.budget log) _
+    c.requires.unlogged c.in_err-input.ensures.unread)
 
 pub returns-in_err-answer-clause-unread : goal.returns-in_err-answer-clause-unread
 returns-in_err-answer-clause-unread c =
     let p = err_from_is_err_and c.from_residual-in_err-answer.result c.from_residual-in_err-answer.ensures.1 in
     let log = c.explained_input.new.log in
-    rw (p.1, p.2) (has_begun (has_element c.args.class.now) c.args.bytes.now c.in_ok-input.input log (λ o q. HasBlocks o q.sub c.args.budget log) c.in_ok-input.ensures.input (inr c.in_err-answer.ensures.begun))
+    rw (p.1, p.2)
+    (has_begun (has_element c.args.class.now) c.args.bytes.now c.in_ok-input.input log
+    (λ o q. HasBlocks o q.sub c.args.budget log) c.in_ok-input.ensures.input (inr c.in_err-answer.ensures.begun))

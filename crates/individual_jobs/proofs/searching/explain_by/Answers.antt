@@ -6,4 +6,6 @@ use Rattle.individual_jobs.proofs.searching.explain_by.Goals as goal
 
 pub explain_each-outcome-requires-clause-local_module : goal.explain_each-outcome-requires-clause-local_module
 explain_each-outcome-requires-clause-local_module c a =
-    subst (λ (x : OracleLists). IsLocalModule x.ontology.axioms (instance_query c.args.class.now a) c.args.local_module.now.members) (sym c.new-oracle.ensures) (c.requires.local_module a)
+    subst (λ (x : OracleLists). IsLocalModule x.ontology.axioms (instance_query c.args.class.now a)
+    c.args.local_module.now.members)
+    (sym c.new-oracle.ensures) (c.requires.local_module a)

@@ -12,5 +12,8 @@ returns c =
     ∙ ap (λ (l : List ℕ). c.args.text.now.items ++ l)
     (c.as_bytes.ensures.value
     ∙ c.in_ok-line.ensures.ok
-    ∙ ap (λ (js : List Limited). codes "instance <" ++ (name ++ (codes "> justifications " ++ (decimal (length js) ++ codes "\n")))) c.justifications.ensures
-    ∙ heading_is o c.args.reasons.now name (c.individual_name-name.ensures ∙ ap (slice_get o.individuals) c.individual.ensures))
+    ∙ ap (λ (js : List Limited). codes "instance <"
+    ++ (name ++ (codes "> justifications " ++ (decimal (length js) ++ codes "\n"))))
+    c.justifications.ensures
+    ∙ heading_is o c.args.reasons.now name
+    (c.individual_name-name.ensures ∙ ap (slice_get o.individuals) c.individual.ensures))

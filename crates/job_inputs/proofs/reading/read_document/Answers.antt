@@ -16,4 +16,5 @@ returns-in-Some-clause-unread c =
     let o = c.in_ok-ontology.ontology in
     let kept = c.in_ok-ontology.context in
     let end = c.in_ok-ontology.end in
-    subst (λ line. IsNotAlone c.args.bytes.now (BadShape line)) (sym found.2) (more o kept end found.0 c.in_ok-ontology.ensures.document found.1)
+    subst (λ line. IsNotAlone c.args.bytes.now (BadShape line)) (sym found.2)
+    (more o kept end found.0 c.in_ok-ontology.ensures.document found.1)

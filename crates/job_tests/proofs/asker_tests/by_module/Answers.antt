@@ -9,4 +9,5 @@ pub within-asker-requires-clause-keeps : goal.within-asker-requires-clause-keeps
 within-asker-requires-clause-keeps c =
     let q = c.args.query.now in
     let m = c.in_ok-module.module.members in
-    subst (λ (l : Listed). KeepsAnswers l.axioms q m) (sym (ap (λ (x : OracleLists). x.ontology) c.new-oracle.ensures)) (modules_do c.args.ontology.now.axioms q m c.in_ok-module.ensures.module)
+    subst (λ (l : Listed). KeepsAnswers l.axioms q m) (sym (ap (λ (x : OracleLists). x.ontology) c.new-oracle.ensures))
+    (modules_do c.args.ontology.now.axioms q m c.in_ok-module.ensures.module)

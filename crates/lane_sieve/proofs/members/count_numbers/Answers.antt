@@ -12,4 +12,7 @@ pub loop-word-preserved : goal.loop-word-preserved
 loop-word-preserved c =
     let i = c.loop-word.word-index in
     let fits = (c.type_inv.words i).fits in
-    record { counted = count_more c.args.words.now i c.loop-word.count fits c.loop-word.invariant.counted; small = omega (arith, ones-le 64 (get_or c.args.words.now i 0) fits) }
+    record {
+      counted = count_more c.args.words.now i c.loop-word.count fits c.loop-word.invariant.counted;
+      small = omega (arith, ones-le 64 (get_or c.args.words.now i 0) fits);
+    }

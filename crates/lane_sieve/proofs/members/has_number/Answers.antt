@@ -7,4 +7,5 @@ pub returns-then-place-words : goal.returns-then-place-words
 returns-then-place-words c = contains-shr c.args.words.now c.args.number
 
 pub returns-else-place-words : goal.returns-else-place-words
-returns-else-place-words c = le-ltb _ _ c.if-place-words.false ∙ sym (contains-past c.args.words.now c.args.number (omega arith))
+returns-else-place-words c =
+    le-ltb _ _ c.if-place-words.false ∙ sym (contains-past c.args.words.now c.args.number (omega arith))

@@ -16,11 +16,14 @@ loop-place-preserved c =
       done = λ k lt. elim (cases_eq k p) [
         | inl e ↦
             ap (λ (j : ℕ). get_or (set xs p v) j 0) e ∙ get_or-set_same xs p v 0 (omega arith)
-            ∙ ap (λ (x : ℕ). bit_and x (bit_not w64 (get_or c.args.ys.now p 0))) (c.loop-place.invariant.ahead p (omega arith))
+            ∙ ap (λ (x : ℕ). bit_and x (bit_not w64 (get_or c.args.ys.now p 0)))
+            (c.loop-place.invariant.ahead p (omega arith))
             ∙ ap (λ (j : ℕ). bit_and (get_or c.args.xs.now j 0) (bit_not w64 (get_or c.args.ys.now j 0))) (sym e)
         | inr ne ↦ get_or-set_other xs p k v 0 ne ∙ c.loop-place.invariant.done k (omega arith)
       ];
-      ahead = λ k le. get_or-set_other xs p k v 0 (λ e. absurd (omega (arith, e))) ∙ c.loop-place.invariant.ahead k (omega arith);
+      ahead =
+          λ k le. get_or-set_other xs p k v 0 (λ e. absurd (omega (arith, e)))
+          ∙ c.loop-place.invariant.ahead k (omega arith);
     }
 
 pub returns : goal.returns
@@ -32,5 +35,7 @@ returns c =
       | inl lt ↦ c.loop-place.invariant.done i lt
       | inr ge ↦
           let past : get_or xs i 0 ≡ 0 = get_or_past xs i 0 (omega (arith, c.loop-place-test.false)) in
-          c.loop-place.invariant.ahead i ge ∙ past ∙ sym (ap (λ (x : ℕ). bit_and x (bit_not w64 (get_or ys i 0))) past ∙ and_zero_l (bit_not w64 (get_or ys i 0)))
+          c.loop-place.invariant.ahead i ge ∙ past
+          ∙ sym
+          (ap (λ (x : ℕ). bit_and x (bit_not w64 (get_or ys i 0))) past ∙ and_zero_l (bit_not w64 (get_or ys i 0)))
     ])

@@ -7,4 +7,6 @@ returns c =
     let xs = c.args.xs.now in
     let ys = c.args.ys.now in
     let rest = drop (length ys) xs in
-    number_set-union (c.union_words.new.a ++ rest) xs ys (λ i. united_at xs ys (c.union_words.new.a ++ rest) i c.requires (ap (λ (ws : List ℕ). ws ++ rest) c.union_words.ensures))
+    number_set-union (c.union_words.new.a ++ rest) xs ys
+    (λ i. united_at xs ys (c.union_words.new.a ++ rest) i c.requires
+    (ap (λ (ws : List ℕ). ws ++ rest) c.union_words.ensures))

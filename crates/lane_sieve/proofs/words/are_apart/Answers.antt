@@ -5,24 +5,30 @@ use Rattle.lane_sieve.proofs.Blocks.{each_pair-block, each_pair-fails, each_pair
 use Rattle.lane_sieve.proofs.words.are_apart.Goals as goal
 
 pub returns-then-not-is_apart_at : goal.returns-then-not-is_apart_at
-returns-then-not-is_apart_at c = sym (each_pair-fails is_apart _ _ c.loop-at.at 4 c.requires (omega arith) (sym c.is_apart_at.ensures ∙ c.if-not-is_apart_at.true))
+returns-then-not-is_apart_at c =
+    sym (each_pair-fails is_apart _ _ c.loop-at.at 4 c.requires (omega arith)
+    (sym c.is_apart_at.ensures ∙ c.if-not-is_apart_at.true))
 
 pub loop-at-preserved : goal.loop-at-preserved
 loop-at-preserved c =
     record {
       within = omega arith;
-      so_far = each_pair-block is_apart _ _ c.loop-at.at 4 c.requires (omega arith) c.loop-at.invariant.so_far (sym c.is_apart_at.ensures ∙ c.if-not-is_apart_at.false);
+      so_far =
+          each_pair-block is_apart _ _ c.loop-at.at 4 c.requires (omega arith) c.loop-at.invariant.so_far
+          (sym c.is_apart_at.ensures ∙ c.if-not-is_apart_at.false);
     }
 
 pub returns-then-a-at-ne0 : goal.returns-then-a-at-ne0
 returns-then-a-at-ne0 c =
     sym (each_pair-fails is_apart _ _ c.loop-at-2.at 1 c.requires (omega arith)
-    (each_pair-one is_apart c.args.a.now c.args.b.now _ (omega arith) (omega arith) false (ne_eqb _ _ c.if-a-at-ne0.true)))
+    (each_pair-one is_apart c.args.a.now c.args.b.now _ (omega arith) (omega arith) false
+    (ne_eqb _ _ c.if-a-at-ne0.true)))
 
 pub loop-at-2-preserved : goal.loop-at-2-preserved
 loop-at-2-preserved c =
     record {
       within = omega arith;
       so_far = each_pair-block is_apart _ _ c.loop-at-2.at 1 c.requires (omega arith) c.loop-at-2.invariant.so_far
-          (each_pair-one is_apart c.args.a.now c.args.b.now _ (omega arith) (omega arith) true (eq-eqb _ _ c.if-a-at-ne0.false));
+          (each_pair-one is_apart c.args.a.now c.args.b.now _ (omega arith) (omega arith) true
+          (eq-eqb _ _ c.if-a-at-ne0.false));
     }

@@ -7,4 +7,5 @@ use Rattle.model_builder.proofs.chains.put_reached.Given as goal
 
 abbrev pub invariant-loop-from : goal.invariant-loop-from
 invariant-loop-from l =
-    HasLinks l.initial.model l.model (has_chain_of l.role_count l.roles l.role (λ x y. nat_lt x l.from && has_path (is_end l.next) (length l.next) x y))
+    HasLinks l.initial.model l.model
+    (has_chain_of l.role_count l.roles l.role (λ x y. nat_lt x l.from && has_path (is_end l.next) (length l.next) x y))

@@ -24,13 +24,21 @@ abbrev pub decreases-all_whole : goal.decreases-all_whole
 decreases-all_whole l = 2 * depth_parts (parts_of l.concepts.now)
 
 abbrev pub invariant-some_void-loop-concept : goal.invariant-some_void-loop-concept
-invariant-some_void-loop-concept l = some_void (is_marked l.marks) (parts_of l.concepts) ≡ some_void (is_marked l.marks) (parts_of (drop l.concept-index l.concepts))
+invariant-some_void-loop-concept l =
+    some_void (is_marked l.marks) (parts_of l.concepts)
+    ≡ some_void (is_marked l.marks) (parts_of (drop l.concept-index l.concepts))
 
 abbrev pub invariant-all_void-loop-concept : goal.invariant-all_void-loop-concept
-invariant-all_void-loop-concept l = all_void (is_marked l.marks) (parts_of l.concepts) ≡ all_void (is_marked l.marks) (parts_of (drop l.concept-index l.concepts))
+invariant-all_void-loop-concept l =
+    all_void (is_marked l.marks) (parts_of l.concepts)
+    ≡ all_void (is_marked l.marks) (parts_of (drop l.concept-index l.concepts))
 
 abbrev pub invariant-some_whole-loop-concept : goal.invariant-some_whole-loop-concept
-invariant-some_whole-loop-concept l = some_whole (is_marked l.marks) (parts_of l.concepts) ≡ some_whole (is_marked l.marks) (parts_of (drop l.concept-index l.concepts))
+invariant-some_whole-loop-concept l =
+    some_whole (is_marked l.marks) (parts_of l.concepts)
+    ≡ some_whole (is_marked l.marks) (parts_of (drop l.concept-index l.concepts))
 
 abbrev pub invariant-all_whole-loop-concept : goal.invariant-all_whole-loop-concept
-invariant-all_whole-loop-concept l = all_whole (is_marked l.marks) (parts_of l.concepts) ≡ all_whole (is_marked l.marks) (parts_of (drop l.concept-index l.concepts))
+invariant-all_whole-loop-concept l =
+    all_whole (is_marked l.marks) (parts_of l.concepts)
+    ≡ all_whole (is_marked l.marks) (parts_of (drop l.concept-index l.concepts))

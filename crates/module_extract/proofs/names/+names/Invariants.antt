@@ -14,4 +14,6 @@ abbrev pub decreases-push_concepts : goal.decreases-push_concepts
 decreases-push_concepts l = 2 * depth_parts (parts_of l.concepts.now)
 
 abbrev pub invariant-push_concepts-loop-concept : goal.invariant-push_concepts-loop-concept
-invariant-push_concepts-loop-concept l = l.names.items ++ parts_names (parts_of (drop l.concept-index l.concepts)) ≡ l.initial.names.items ++ parts_names (parts_of l.concepts)
+invariant-push_concepts-loop-concept l =
+    l.names.items ++ parts_names (parts_of (drop l.concept-index l.concepts))
+    ≡ l.initial.names.items ++ parts_names (parts_of l.concepts)

@@ -32,7 +32,8 @@ decreases-read_operand_list l = 8 * nesting_all (items_of l.items.now) + 3
 
 abbrev pub invariant-read_operand_list-loop-item : goal.invariant-read_operand_list-loop-item
 invariant-read_operand_list-loop-item l = record {
-  tests : walked l.fn.state.counts (joined (each_class l.prefixes (items_of l.items))) ≡ walked l.state.counts (joined (each_class l.prefixes (items_of (drop l.item-index l.items))));
+  tests : walked l.fn.state.counts (joined (each_class l.prefixes (items_of l.items)))
+      ≡ walked l.state.counts (joined (each_class l.prefixes (items_of (drop l.item-index l.items))));
   grown : Grows l.fn.state l.state;
   value : MeanFrom l.prefixes l.state.counts l.items l.item-index l.concepts.items;
 }

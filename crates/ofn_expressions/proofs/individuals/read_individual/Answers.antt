@@ -5,4 +5,5 @@ use Rattle.ofn_expressions.proofs.individuals.read_individual.Goals as goal
 
 pub returns-clause-value : goal.returns-clause-value
 returns-clause-value c =
-    individual_listed c.add_individual.new.self.counts (iri_of c.args.prefixes.now c.args.tree.now) c.deref.result.now c.add_individual.result (c.deref.ensures ∙ c.in_ok-iri.ensures.value) c.add_individual.ensures.number
+    individual_listed c.add_individual.new.self.counts (iri_of c.args.prefixes.now c.args.tree.now) c.deref.result.now
+    c.add_individual.result (c.deref.ensures ∙ c.in_ok-iri.ensures.value) c.add_individual.ensures.number

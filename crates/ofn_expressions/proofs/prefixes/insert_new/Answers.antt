@@ -8,5 +8,8 @@ use Rattle.ofn_expressions.proofs.prefixes.insert_new.Goals as goal
 
 pub returns-clause-pushed : goal.returns-clause-pushed
 returns-clause-pushed c =
-    ap (map entry) (c.in_ok-insert.ensures.entries ∙ insert_entry-new string_eq c.args.entries.now c.args.name c.args.iri (none_looked_up (string_bytes c.args.name) c.args.entries.now.entries c.requires))
+    ap (map entry)
+    (c.in_ok-insert.ensures.entries
+    ∙ insert_entry-new string_eq c.args.entries.now c.args.name c.args.iri
+    (none_looked_up (string_bytes c.args.name) c.args.entries.now.entries c.requires))
     ∙ map-append entry c.args.entries.now.entries ((c.args.name, c.args.iri) ∷ [])

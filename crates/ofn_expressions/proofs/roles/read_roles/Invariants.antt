@@ -8,7 +8,8 @@ use Rattle.ofn_expressions.proofs.roles.read_roles.Given as goal
 
 abbrev pub invariant-loop-item : goal.invariant-loop-item
 invariant-loop-item l = record {
-  tests : walked l.fn.state.counts (roles_tests l.prefixes (items_of l.items)) ≡ walked l.state.counts (roles_tests l.prefixes (items_of (drop l.item-index l.items)));
+  tests : walked l.fn.state.counts (roles_tests l.prefixes (items_of l.items))
+      ≡ walked l.state.counts (roles_tests l.prefixes (items_of (drop l.item-index l.items)));
   grown : Grows l.fn.state l.state;
   value : RolesFrom l.prefixes l.state.counts l.items l.item-index l.roles;
 }

@@ -9,11 +9,18 @@ use Rattle.ofn_reader.proofs.additions.read_added_items.Goals as goal
 
 pub returns-clause-tests : goal.returns-clause-tests
 returns-clause-tests c =
-    subst (λ r. Judged r c.args.state.now.counts (added_form_tests c.args.prefixes.now c.args.end_line c.args.items.now) c.read_added-axiom.new.state.counts) (sym c.alone.ensures)
-    (subst (λ ts. Judged (read_alone c.split_at.result.1.now c.read_added-axiom.result) c.args.state.now.counts ts c.read_added-axiom.new.state.counts)
-    (alone_tests_are (added_tests c.args.prefixes.now) c.args.end_line c.args.items.now c.split_at.result.1.now c.index-items-0.result c.index-items-0.is c.split_at.ensures.back (sym c.is_empty.ensures ∙ c.if-is_empty.false))
-    (alone_judged c.split_at.result.1.now c.read_added-axiom.result c.args.state.now.counts c.read_added-axiom.new.state.counts (added_tests c.args.prefixes.now c.index-items-0.result) c.read_added-axiom.ensures.tests))
+    subst (λ r. Judged r c.args.state.now.counts (added_form_tests c.args.prefixes.now c.args.end_line c.args.items.now)
+    c.read_added-axiom.new.state.counts)
+    (sym c.alone.ensures)
+    (subst (λ ts. Judged (read_alone c.split_at.result.1.now c.read_added-axiom.result) c.args.state.now.counts ts
+    c.read_added-axiom.new.state.counts)
+    (alone_tests_are (added_tests c.args.prefixes.now) c.args.end_line c.args.items.now c.split_at.result.1.now
+    c.index-items-0.result c.index-items-0.is c.split_at.ensures.back (sym c.is_empty.ensures ∙ c.if-is_empty.false))
+    (alone_judged c.split_at.result.1.now c.read_added-axiom.result c.args.state.now.counts
+    c.read_added-axiom.new.state.counts (added_tests c.args.prefixes.now c.index-items-0.result)
+    c.read_added-axiom.ensures.tests))
 
 pub returns-clause-listed : goal.returns-clause-listed
 returns-clause-listed c =
-    alone_axiom_listed c.args.prefixes.now c.read_added-axiom.new.state.counts c.index-items-0.result c.split_at.result.1.now c.read_added-axiom.result c.alone.result c.alone.ensures c.read_added-axiom.ensures.value
+    alone_axiom_listed c.args.prefixes.now c.read_added-axiom.new.state.counts c.index-items-0.result
+    c.split_at.result.1.now c.read_added-axiom.result c.alone.result c.alone.ensures c.read_added-axiom.ensures.value

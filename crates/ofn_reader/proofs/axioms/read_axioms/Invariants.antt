@@ -8,7 +8,10 @@ use Rattle.ofn_reader.proofs.axioms.read_axioms.Given as goal
 
 abbrev pub invariant-loop-item : goal.invariant-loop-item
 invariant-loop-item l = record {
-  tests : walked l.fn.state.counts (axioms_tests l.prefixes (items_of l.items)) ≡ walked l.state.counts (axioms_tests l.prefixes (items_of (drop l.item-index l.items)));
+  tests : walked l.fn.state.counts (axioms_tests l.prefixes (items_of l.items))
+      ≡ walked l.state.counts (axioms_tests l.prefixes (items_of (drop l.item-index l.items)));
   whole : length l.state.read ≡ l.state.counts.axioms;
-  value : (later : Counts) → Keeps l.state.counts later → l.state.read ++ axioms_in l.prefixes later (items_of (drop l.item-index l.items)) ≡ l.fn.state.read ++ axioms_in l.prefixes later (items_of l.items);
+  value : (later : Counts) → Keeps l.state.counts later
+      → l.state.read ++ axioms_in l.prefixes later (items_of (drop l.item-index l.items))
+      ≡ l.fn.state.read ++ axioms_in l.prefixes later (items_of l.items);
 }

@@ -14,4 +14,6 @@ pub returns-in_err-ontology-clause-refused : goal.returns-in_err-ontology-clause
 returns-in_err-ontology-clause-refused c =
     let p = err_from_is_err_and c.from_residual-in_err-ontology.result c.from_residual-in_err-ontology.ensures.1 in
     rw (p.1, p.2)
-    (fails_at (document_tests predeclared) start c.args.text.now c.in_ok-items.items.items c.deref.result.now c.in_ok-items.end c.end_line.result c.in_err-ontology.field-0.0 c.in_ok-items.ensures.made c.deref.ensures.value c.end_line.ensures c.in_err-ontology.ensures.refused)
+    (fails_at (document_tests predeclared) start c.args.text.now c.in_ok-items.items.items c.deref.result.now
+    c.in_ok-items.end c.end_line.result c.in_err-ontology.field-0.0 c.in_ok-items.ensures.made c.deref.ensures.value
+    c.end_line.ensures c.in_err-ontology.ensures.refused)

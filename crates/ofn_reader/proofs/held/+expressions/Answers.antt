@@ -5,4 +5,9 @@ use Rattle.ofn_reader.proofs.held.+expressions.Goals as goal
 
 pub room_behind_all-room_behind-left-requires : goal.room_behind_all-room_behind-left-requires
 room_behind_all-room_behind-left-requires t c =
-    omega (arith, c.decreases, ap depth c.class-item.is, depth_at c.args.classes.now c.loop-class.class-index c.class-item.result c.loop-class-test.true)
+    omega (
+      arith,
+      c.decreases,
+      ap depth c.class-item.is,
+      depth_at c.args.classes.now c.loop-class.class-index c.class-item.result c.loop-class-test.true,
+    )

@@ -11,4 +11,5 @@ abbrev pub decreases-room_behind_all : goal.decreases-room_behind_all
 decreases-room_behind_all l = 2 * depth_parts (parts_of l.classes.now)
 
 abbrev pub invariant-room_behind_all-loop-class : goal.invariant-room_behind_all-loop-class
-invariant-room_behind_all-loop-class l = l.left - all_expressions (parts_of (drop l.class-index l.classes)) ≡ l.room - all_expressions (parts_of l.classes)
+invariant-room_behind_all-loop-class l =
+    l.left - all_expressions (parts_of (drop l.class-index l.classes)) ≡ l.room - all_expressions (parts_of l.classes)

@@ -7,5 +7,8 @@ use Rattle.ofn_reader.proofs.operands.read_member_axiom.Goals as goal
 
 pub returns-clause-value : goal.returns-clause-value
 returns-clause-value c =
-    subst (MeansAxiom c.args.prefixes.now c.read_member.new.state.counts K.Member (items_of (c.args.class.now ∷ c.args.individual.now ∷ []))) (sym c.member_axiom.ensures)
-    (member_means c.args.prefixes.now c.read_member.new.state.counts c.args.class.now c.args.individual.now c.in_ok-member.member.class c.in_ok-member.member.individual c.in_ok-member.ensures.value)
+    subst (MeansAxiom c.args.prefixes.now c.read_member.new.state.counts K.Member
+    (items_of (c.args.class.now ∷ c.args.individual.now ∷ [])))
+    (sym c.member_axiom.ensures)
+    (member_means c.args.prefixes.now c.read_member.new.state.counts c.args.class.now c.args.individual.now
+    c.in_ok-member.member.class c.in_ok-member.member.individual c.in_ok-member.ensures.value)

@@ -6,6 +6,8 @@ use Rattle.ofn_reader.proofs.prefix_groups.read_prefixes.Given as goal
 
 abbrev pub invariant-loop-group : goal.invariant-loop-group
 invariant-loop-group l = record {
-  tests : (s : Counts) → walked s (prefixes_tests l.fn.prefixes l.groups) ≡ walked s (prefixes_tests l.prefixes (drop l.group-index l.groups));
+  tests : (s : Counts)
+      → walked s (prefixes_tests l.fn.prefixes l.groups)
+      ≡ walked s (prefixes_tests l.prefixes (drop l.group-index l.groups));
   declared : prefixes_behind l.prefixes (drop l.group-index l.groups) ≡ prefixes_behind l.fn.prefixes l.groups;
 }

@@ -12,4 +12,6 @@ abbrev pub decreases-classes_count_simple : goal.decreases-classes_count_simple
 decreases-classes_count_simple l = 2 * depth_parts (parts_of l.classes.now)
 
 abbrev pub invariant-classes_count_simple-loop-class : goal.invariant-classes_count_simple-loop-class
-invariant-classes_count_simple-loop-class l = are_simple l.roles (counted_in (parts_of l.classes)) ≡ are_simple l.roles (counted_in (parts_of (drop l.class-index l.classes)))
+invariant-classes_count_simple-loop-class l =
+    are_simple l.roles (counted_in (parts_of l.classes))
+    ≡ are_simple l.roles (counted_in (parts_of (drop l.class-index l.classes)))

@@ -3,4 +3,6 @@ use Rattle.std.proofs.lemmas.Iterator.{items_from_collect, YieldsList-from_range
 use Rattle.ofn_reader.proofs.simple_roles.numbers_to.Goals as goal
 
 pub returns : goal.returns
-returns c = items_from_collect c.collect.result c.collect.ensures.ran (YieldsList-from_range 1 (c.args.count + 1) c.args.count refl (omega arith))
+returns c =
+    items_from_collect c.collect.result c.collect.ensures.ran
+    (YieldsList-from_range 1 (c.args.count + 1) c.args.count refl (omega arith))

@@ -9,7 +9,10 @@ use Rattle.ofn_tree.proofs.lexer.tokens.Given as goal
 
 abbrev pub invariant-loop-place : goal.invariant-loop-place
 invariant-loop-place l = record {
-  told : with_tokens (map plain_token l.tokens.items) (document_front (length l.text) (met_of l.brackets) (pieces_from (bad_byte_line l.text) 0 l.place l.line (drop l.place l.front))) ≡ document l.text;
+  told : with_tokens (map plain_token l.tokens.items)
+      (document_front (length l.text) (met_of l.brackets)
+      (pieces_from (bad_byte_line l.text) 0 l.place l.line (drop l.place l.front)))
+      ≡ document l.text;
   boundary : IsCharBoundary l.front l.place;
   lines : l.line ≤ l.place + 1;
   shallow : l.brackets.depth ≤ l.place;

@@ -5,6 +5,7 @@ use Rattle.ofn_writer.proofs.axioms.put_spaced_individuals.Given as goal
 
 abbrev pub invariant-loop-individual : goal.invariant-loop-individual
 invariant-loop-individual l = record {
-  put : l.out.items ++ spaced (individual_texts l.ontology (drop l.individual-index l.individuals)) ≡ l.fn.out.items ++ spaced (individual_texts l.ontology l.individuals);
+  put : l.out.items ++ spaced (individual_texts l.ontology (drop l.individual-index l.individuals))
+      ≡ l.fn.out.items ++ spaced (individual_texts l.ontology l.individuals);
   listed : list_all (λ a. nat_lt a (length l.ontology.individuals)) (drop l.individual-index l.individuals) ≡ true;
 }

@@ -7,8 +7,14 @@ use Rattle.ofn_writer.proofs.concepts.+concepts.Goals as goal
 
 pub put_spaced-put_concept-requires : goal.put_spaced-put_concept-requires
 put_spaced-put_concept-requires t c = (
-  omega (arith, c.decreases, ap depth c.part-item.is, depth_at c.args.parts.now c.loop-part.part-index c.part-item.result c.loop-part-test.true),
-  (listed_at (length c.args.ontology.now.classes) (length c.args.ontology.now.roles) c.args.parts.now c.loop-part.part-index c.part-item.result c.part-item.is c.loop-part-test.true c.loop-part.invariant.listed).0,
+  omega (
+    arith,
+    c.decreases,
+    ap depth c.part-item.is,
+    depth_at c.args.parts.now c.loop-part.part-index c.part-item.result c.loop-part-test.true,
+  ),
+  (listed_at (length c.args.ontology.now.classes) (length c.args.ontology.now.roles) c.args.parts.now
+      c.loop-part.part-index c.part-item.result c.part-item.is c.loop-part-test.true c.loop-part.invariant.listed).0,
 )
 
 pub put_concept-returns-in-SomeOf : goal.put_concept-returns-in-SomeOf

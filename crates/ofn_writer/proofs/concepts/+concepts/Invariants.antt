@@ -31,6 +31,8 @@ decreases-put_spaced l = 4 * depth_parts (parts_of l.parts.now) + 1
 
 abbrev pub invariant-put_spaced-loop-part : goal.invariant-put_spaced-loop-part
 invariant-put_spaced-loop-part l = record {
-  put : l.out.items ++ spaced (part_texts l.ontology (parts_of (drop l.part-index l.parts))) ≡ l.fn.out.items ++ spaced (part_texts l.ontology (parts_of l.parts));
-  listed : parts_use_listed (length l.ontology.classes) (length l.ontology.roles) (parts_of (drop l.part-index l.parts)) ≡ true;
+  put : l.out.items ++ spaced (part_texts l.ontology (parts_of (drop l.part-index l.parts)))
+      ≡ l.fn.out.items ++ spaced (part_texts l.ontology (parts_of l.parts));
+  listed : parts_use_listed (length l.ontology.classes) (length l.ontology.roles) (parts_of (drop l.part-index l.parts))
+      ≡ true;
 }

@@ -4,7 +4,8 @@ use Rattle.ofn_writer.proofs.laws.examples_hold.Goals as goal
 
 pub returns-clause-cardinality : goal.returns-clause-cardinality
 returns-clause-cardinality c =
-    let twenty : decimal 20 ≡ codes "20" = decimal_step 20 (omega arith) (omega arith) ∙ ap (λ ds. ds ++ 48 ∷ []) (decimal_digit 2 (omega arith)) in
+    let twenty : decimal 20 ≡ codes "20" =
+    decimal_step 20 (omega arith) (omega arith) ∙ ap (λ ds. ds ++ 48 ∷ []) (decimal_digit 2 (omega arith)) in
     rw twenty
 
 pub returns-clause-bounds : goal.returns-clause-bounds

@@ -8,5 +8,8 @@ loop-set-init c = record { limit = refl; members = none_more c.args.union.now.me
 pub loop-set-preserved : goal.loop-set-preserved
 loop-set-preserved c = record {
   limit = c.put_all.ensures.limit ∙ c.loop-set.invariant.limit;
-  members = one_more c.args.sets.now c.loop-set.set-index c.set-item.result c.args.union.now.members c.loop-set.union.members c.put_all.new.self.members c.loop-set-test.true c.set-item.is c.put_all.ensures.members c.loop-set.invariant.members;
+  members =
+      one_more c.args.sets.now c.loop-set.set-index c.set-item.result c.args.union.now.members c.loop-set.union.members
+      c.put_all.new.self.members c.loop-set-test.true c.set-item.is c.put_all.ensures.members
+      c.loop-set.invariant.members;
 }

@@ -4,10 +4,14 @@ use Rattle.pinpointing_jobs.proofs.searching.search.Goals as goal
 
 pub returns-clause-found : goal.returns-clause-found
 returns-clause-found c =
-    alone_searched c.args.ontology.now c.args.query.now c.args.budget c.new-oracle.result c.replace-begun.result c.search_with-outcome.new.oracle.log c.into_log.result
-    c.new-oracle.ensures (c.replace-begun.ensures.value ∙ c.requires.unlogged) c.into_log.ensures c.search_with-outcome.result c.search_with-outcome.ensures.found
+    alone_searched c.args.ontology.now c.args.query.now c.args.budget c.new-oracle.result c.replace-begun.result
+    c.search_with-outcome.new.oracle.log c.into_log.result
+    c.new-oracle.ensures (c.replace-begun.ensures.value ∙ c.requires.unlogged) c.into_log.ensures
+    c.search_with-outcome.result c.search_with-outcome.ensures.found
 
 pub returns-clause-begun : goal.returns-clause-begun
 returns-clause-begun c =
-    alone_begun c.args.ontology.now c.args.query.now c.args.budget c.new-oracle.result c.replace-begun.result c.search_with-outcome.new.oracle.log c.into_log.result
-    c.new-oracle.ensures (c.replace-begun.ensures.value ∙ c.requires.unlogged) c.into_log.ensures c.search_with-outcome.result c.search_with-outcome.ensures.begun
+    alone_begun c.args.ontology.now c.args.query.now c.args.budget c.new-oracle.result c.replace-begun.result
+    c.search_with-outcome.new.oracle.log c.into_log.result
+    c.new-oracle.ensures (c.replace-begun.ensures.value ∙ c.requires.unlogged) c.into_log.ensures
+    c.search_with-outcome.result c.search_with-outcome.ensures.begun

@@ -4,11 +4,16 @@ use Rattle.pinpointing_jobs.proofs.Listed.{of_axioms_found, all_counted, all_fro
 use Rattle.pinpointing_jobs.proofs.workloads.count.Goals as goal
 
 pub count_answer-outcome-requires : goal.count_answer-outcome-requires
-count_answer-outcome-requires c = of_axioms_found c.args.ontology.now c.args.query.now c.args.budget c.search.new.log c.in_ok-found.found c.in_ok-found.ensures.found
+count_answer-outcome-requires c =
+    of_axioms_found c.args.ontology.now c.args.query.now c.args.budget c.search.new.log c.in_ok-found.found
+    c.in_ok-found.ensures.found
 
 pub returns-clause-counted : goal.returns-clause-counted
 returns-clause-counted c =
-    all_counted c.args.ontology.now c.args.query.now c.args.budget c.search.new.log c.in_ok-found.found c.in_ok-found.ensures.found c.args.number c.count_answer-outcome.result text_bytes c.count_answer-outcome.ensures
+    all_counted c.args.ontology.now c.args.query.now c.args.budget c.search.new.log c.in_ok-found.found
+    c.in_ok-found.ensures.found c.args.number c.count_answer-outcome.result text_bytes c.count_answer-outcome.ensures
 
 pub returns-clause-begun : goal.returns-clause-begun
-returns-clause-begun c = all_fronts c.args.ontology.now c.args.query.now c.args.budget c.search.new.log c.in_ok-found.found c.in_ok-found.ensures.found c.count_answer-outcome.result
+returns-clause-begun c =
+    all_fronts c.args.ontology.now c.args.query.now c.args.budget c.search.new.log c.in_ok-found.found
+    c.in_ok-found.ensures.found c.count_answer-outcome.result

@@ -9,16 +9,30 @@ pub loop-place-preserved : goal.loop-place-preserved
 loop-place-preserved c k d lt =
     elim (cases_eq k c.loop-place.place) [
       | inl e ↦ λ has.
-          let read : c.index-sets-place.result ≡ get_or c.args.sets.now k d = c.index-sets-place.is ∙ ap (λ (j : ℕ). get_or c.args.sets.now j c.index-sets-place.result) (sym e) ∙ get_or_default c.args.sets.now k c.index-sets-place.result d (omega arith) in
-          true≢false (sym (c.contains_all.ensures.1 (subst (λ (s : Limited). IsPart c.args.set.now.members s.members) (sym read) has)) ∙ c.if-contains_all.false)
+          let read : c.index-sets-place.result ≡ get_or c.args.sets.now k d =
+          c.index-sets-place.is ∙ ap (λ (j : ℕ). get_or c.args.sets.now j c.index-sets-place.result) (sym e)
+          ∙ get_or_default c.args.sets.now k c.index-sets-place.result d (omega arith) in
+          true≢false
+          (sym
+          (c.contains_all.ensures.1 (subst (λ (s : Limited). IsPart c.args.set.now.members s.members) (sym read) has))
+          ∙ c.if-contains_all.false)
       | inr ne ↦ c.loop-place.invariant k d (omega arith)
     ]
 
 pub returns-then-contains_all : goal.returns-then-contains_all
-returns-then-contains_all c = (λ _. (c.index-sets-place.result, (c.loop-place.place, c.loop-place-test.true, sym c.index-sets-place.is), c.contains_all.ensures.0 c.if-contains_all.true), λ _. refl)
+returns-then-contains_all c = (
+  λ _. (
+    c.index-sets-place.result,
+    (c.loop-place.place, c.loop-place-test.true, sym c.index-sets-place.is),
+    c.contains_all.ensures.0 c.if-contains_all.true,
+  ),
+  λ _. refl,
+)
 
 pub returns : goal.returns
 returns c = (
   λ f. absurd (true≢false (sym f)),
-  λ found. absurd (c.loop-place.invariant found.1.0 found.0 (omega (arith, found.1.1)) (subst (λ (s : Limited). IsPart c.args.set.now.members s.members) (sym found.1.2) found.2)),
+  λ found. absurd
+      (c.loop-place.invariant found.1.0 found.0 (omega (arith, found.1.1))
+      (subst (λ (s : Limited). IsPart c.args.set.now.members s.members) (sym found.1.2) found.2)),
 )

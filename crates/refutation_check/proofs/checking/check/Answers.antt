@@ -12,18 +12,25 @@ pub new-requires-clause-numbers : goal.new-requires-clause-numbers
 new-requires-clause-numbers c =
     let r = c.args.refutation.now in
     let set = c.args.set.now in
-    let named : IsPart r.axioms.members set.members = subst (λ (s : Limited). IsPart s.members set.members) c.axioms_used.ensures (c.are_in.ensures.0 c.if-not-are_in.false) in
-    let within : IsWithin (length c.args.ontology.now.axioms) set.members = subst (λ (n : ℕ). IsWithin n set.members) c.requires.set c.limit-limit.ensures.within in
+    let named : IsPart r.axioms.members set.members =
+    subst (λ (s : Limited). IsPart s.members set.members) c.axioms_used.ensures
+    (c.are_in.ensures.0 c.if-not-are_in.false) in
+    let within : IsWithin (length c.args.ontology.now.axioms) set.members =
+    subst (λ (n : ℕ). IsWithin n set.members) c.requires.set c.limit-limit.ensures.within in
     λ k member. within k (named k member)
 
 pub new-requires-clause-within : goal.new-requires-clause-within
 new-requires-clause-within c = each_is_within c.args.ontology.now c.requires.limits.ontology
 
 pub new-requires-clause-sub : goal.new-requires-clause-sub
-new-requires-clause-sub c = (and_parts (has_counts_within 100 c.args.query.now.sub) (has_counts_within 100 c.args.query.now.sup) c.requires.limits.counts).0
+new-requires-clause-sub c =
+    (and_parts (has_counts_within 100 c.args.query.now.sub) (has_counts_within 100 c.args.query.now.sup)
+    c.requires.limits.counts).0
 
 pub new-requires-clause-sup : goal.new-requires-clause-sup
-new-requires-clause-sup c = (and_parts (has_counts_within 100 c.args.query.now.sub) (has_counts_within 100 c.args.query.now.sup) c.requires.limits.counts).1
+new-requires-clause-sup c =
+    (and_parts (has_counts_within 100 c.args.query.now.sub) (has_counts_within 100 c.args.query.now.sup)
+    c.requires.limits.counts).1
 
 pub returns : goal.returns
 returns c =
@@ -32,7 +39,14 @@ returns c =
     let f = c.in_ok-rules.rules in
     let are = c.in_ok-rules.ensures in
     let part = c.are_in.ensures.0 c.if-not-are_in.false in
-    let named : IsPart r.axioms.members set.members = subst (λ (s : Limited). IsPart s.members set.members) c.axioms_used.ensures part in
+    let named : IsPart r.axioms.members set.members =
+    subst (λ (s : Limited). IsPart s.members set.members) c.axioms_used.ensures part in
     judged_ok c.args.ontology.now set c.args.query.now r named f (map line_of c.lines.result.now) c.read.result
-    (record { individuals_are = are.individuals; axioms_are = are.axioms; named_are = are.named; query_is = are.query; shapes_are = are.shapes })
+    (record {
+      individuals_are = are.individuals;
+      axioms_are = are.axioms;
+      named_are = are.named;
+      query_is = are.query;
+      shapes_are = are.shapes;
+    })
     c.lines.ensures.lines c.read.ensures

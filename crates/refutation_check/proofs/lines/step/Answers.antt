@@ -10,7 +10,9 @@ put-requires-clause-ready c =
     let line = line_of c.args.line.now in
     let out = c.in_ok-outcome.outcome in
     let left = c.in_ok-outcome.ensures in
-    ready f g o line out (move f g o line out c.branch-stack.result.now c.is_closed.result c.is_closed.ensures c.if-is_closed.false c.branch-stack.ensures c.requires left.same left.kept left.outcome.children left.outcome.fit)
+    ready f g o line out
+    (move f g o line out c.branch-stack.result.now c.is_closed.result c.is_closed.ensures c.if-is_closed.false
+    c.branch-stack.ensures c.requires left.same left.kept left.outcome.children left.outcome.fit)
 
 pub returns-clause-left : goal.returns-clause-left
 returns-clause-left c =
@@ -20,5 +22,7 @@ returns-clause-left c =
     let line = line_of c.args.line.now in
     let out = c.in_ok-outcome.outcome in
     let left = c.in_ok-outcome.ensures in
-    let moved = move f g o line out c.branch-stack.result.now c.is_closed.result c.is_closed.ensures c.if-is_closed.false c.branch-stack.ensures c.requires left.same left.kept left.outcome.children left.outcome.fit in
+    let moved =
+    move f g o line out c.branch-stack.result.now c.is_closed.result c.is_closed.ensures c.if-is_closed.false
+    c.branch-stack.ensures c.requires left.same left.kept left.outcome.children left.outcome.fit in
     left_ok f g o line out c.put.result c.put.new.stack moved c.put.ensures

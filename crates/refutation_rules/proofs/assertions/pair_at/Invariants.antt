@@ -6,4 +6,5 @@ use Rattle.refutation_rules.proofs.assertions.pair_at.Given as goal
 
 -- the pair is at this place among those of the individuals from here on
 abbrev pub invariant-loop-first : goal.invariant-loop-first
-invariant-loop-first l = slice_get (apart_facts (drop l.first l.individuals)) l.rest ≡ nth_fact (apart_facts l.individuals) l.place
+invariant-loop-first l =
+    slice_get (apart_facts (drop l.first l.individuals)) l.rest ≡ nth_fact (apart_facts l.individuals) l.place

@@ -5,4 +5,6 @@ use Rattle.axiom_sets.specs.Sets.{member_list}
 use Rattle.refutation_tree.proofs.writing.push_axioms.Given as goal
 
 abbrev pub invariant-loop-number : goal.invariant-loop-number
-invariant-loop-number l = l.text.items ++ flat_map (λ w. 32 ∷ w) (map decimal l.number-iterator) ≡ l.fn.text.items ++ codes "axioms" ++ flat_map (λ w. 32 ∷ w) (map decimal (member_list l.axioms))
+invariant-loop-number l =
+    l.text.items ++ flat_map (λ w. 32 ∷ w) (map decimal l.number-iterator)
+    ≡ l.fn.text.items ++ codes "axioms" ++ flat_map (λ w. 32 ∷ w) (map decimal (member_list l.axioms))

@@ -10,4 +10,5 @@ loop-middle-preserved c = path_more _ _ _ _ c.pass_through.ensures c.loop-middle
 pub returns : goal.returns
 returns c =
     let all : c.loop-middle.middle ≡ length c.args.rows.now = omega arith in
-    subst (λ (n : ℕ). (r s : ℕ) → linked c.loop-middle.rows r s ≡ has_path (linked c.args.rows.now) n r s) all c.loop-middle.invariant
+    subst (λ (n : ℕ). (r s : ℕ) → linked c.loop-middle.rows r s ≡ has_path (linked c.args.rows.now) n r s) all
+    c.loop-middle.invariant

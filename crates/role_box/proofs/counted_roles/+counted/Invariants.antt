@@ -12,4 +12,6 @@ abbrev pub decreases-all_count_simple : goal.decreases-all_count_simple
 decreases-all_count_simple l = 2 * depth_parts (parts_of l.concepts.now)
 
 abbrev pub invariant-all_count_simple-loop-concept : goal.invariant-all_count_simple-loop-concept
-invariant-all_count_simple-loop-concept l = are_simple l.roles (counted_in (parts_of l.concepts)) ≡ are_simple l.roles (counted_in (parts_of (drop l.concept-index l.concepts)))
+invariant-all_count_simple-loop-concept l =
+    are_simple l.roles (counted_in (parts_of l.concepts))
+    ≡ are_simple l.roles (counted_in (parts_of (drop l.concept-index l.concepts)))

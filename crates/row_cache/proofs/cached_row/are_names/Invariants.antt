@@ -5,4 +5,6 @@ use Rattle.calculus_specs.specs.Tree.{tree_of}
 use Rattle.row_cache.proofs.cached_row.are_names.Given as goal
 
 abbrev pub invariant-loop-position : goal.invariant-loop-position
-invariant-loop-position l = l.names ≡ list_all (λ i. is_name (conjunct_at (map (tree_of l.concepts) l.conjuncts) i)) (take l.position-index l.positions)
+invariant-loop-position l =
+    l.names
+    ≡ list_all (λ i. is_name (conjunct_at (map (tree_of l.concepts) l.conjuncts) i)) (take l.position-index l.positions)

@@ -13,7 +13,12 @@ loop-part-preserved c =
     let after = c.negated.new.self in
     let ns = c.loop-part.numbers.items in
     record {
-      are = subst (λ l. AreNumbers after l (map (λ d. negated_form (tree_of first d)) (take (c.loop-part.part-index + 1) c.args.parts.now))) (sym c.in_ok-push.ensures.items)
-          (complements_push first before after (length first) c.args.parts.now c.loop-part.part-index ns c.in_ok-number.number (omega arith) c.requires c.loop-part-test.true c.loop-part.invariant.kept c.negated.ensures.kept c.loop-part.invariant.are c.in_ok-number.ensures.number);
+      are =
+          subst (λ l. AreNumbers after l
+          (map (λ d. negated_form (tree_of first d)) (take (c.loop-part.part-index + 1) c.args.parts.now)))
+          (sym c.in_ok-push.ensures.items)
+          (complements_push first before after (length first) c.args.parts.now c.loop-part.part-index ns
+          c.in_ok-number.number (omega arith) c.requires c.loop-part-test.true c.loop-part.invariant.kept
+          c.negated.ensures.kept c.loop-part.invariant.are c.in_ok-number.ensures.number);
       kept = extends_twice first before after c.loop-part.invariant.kept c.negated.ensures.kept;
     }

@@ -18,6 +18,10 @@ returns-in_ok-row-in-Some-Inclusion-clause-row c =
     let o = part_at (theory_of c.args.ontology.now.axioms (member_list c.args.named.now)) c.args.axiom c.args.part in
     let ps = c.args.positions.now in
     let r = c.in_ok-row-in-Some-Inclusion.row in
-    let same : c.in_ok-found.found ≡ Some (K.Inclusion i.conjuncts i.right) = i.is ∙ ap (λ (k : Kept). Some k) i.field-0-is in
-    let found : IsPartFound t o (Some (K.Inclusion i.conjuncts i.right)) = subst (λ (k : Option Kept). IsPartFound t o k) same c.in_ok-found.ensures.part in
-    row_of_inclusion t u o i.conjuncts i.right ps r found (subst (λ (ns : List ℕ). IsRow u (row_for (Some (inclusion (map (tree_of t) ns) (tree_of t i.right))) ps) r) c.items.ensures c.in_ok-row-in-Some-Inclusion.ensures.row)
+    let same : c.in_ok-found.found ≡ Some (K.Inclusion i.conjuncts i.right) =
+    i.is ∙ ap (λ (k : Kept). Some k) i.field-0-is in
+    let found : IsPartFound t o (Some (K.Inclusion i.conjuncts i.right)) =
+    subst (λ (k : Option Kept). IsPartFound t o k) same c.in_ok-found.ensures.part in
+    row_of_inclusion t u o i.conjuncts i.right ps r found
+    (subst (λ (ns : List ℕ). IsRow u (row_for (Some (inclusion (map (tree_of t) ns) (tree_of t i.right))) ps) r)
+    c.items.ensures c.in_ok-row-in-Some-Inclusion.ensures.row)

@@ -11,5 +11,9 @@ returns-clause-row c =
     let t = c.args.concepts.now in
     let cs = c.args.conjuncts.now in
     let ps = c.args.positions.now in
-    let test = and_from (is_ascending ps) (list_all (λ i. is_name (conjunct_at (map (tree_of t) cs) i)) ps) (sym c.is_ascending.ensures ∙ c.if-not-is_ascending.false) (sym c.are_names.ensures ∙ c.if-not-are_names.false) in
-    row_is t c.row_concept-outcome.new.concepts c.len-count.ensures.table cs ps c.args.right (record { premises = c.in_ok-premises.premises; concept = c.in_ok-concept.concept }) c.row_concept-outcome.ensures.kept c.requires.listed test c.in_ok-premises.ensures c.in_ok-concept.ensures.concept
+    let test =
+    and_from (is_ascending ps) (list_all (λ i. is_name (conjunct_at (map (tree_of t) cs) i)) ps)
+    (sym c.is_ascending.ensures ∙ c.if-not-is_ascending.false) (sym c.are_names.ensures ∙ c.if-not-are_names.false) in
+    row_is t c.row_concept-outcome.new.concepts c.len-count.ensures.table cs ps c.args.right
+    (record { premises = c.in_ok-premises.premises; concept = c.in_ok-concept.concept })
+    c.row_concept-outcome.ensures.kept c.requires.listed test c.in_ok-premises.ensures c.in_ok-concept.ensures.concept

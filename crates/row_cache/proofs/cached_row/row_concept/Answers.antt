@@ -20,7 +20,9 @@ others-requires-clause-low c =
 pub complements-requires : goal.complements-requires
 complements-requires c =
     let t = c.args.concepts.now in
-    subst (λ (l : List ℕ). list_all (λ n. ltb n (length t)) l ≡ true) (sym (c.deref.ensures.value ∙ c.in_ok-others.ensures)) (others_listed (length t) 1 c.args.positions.now c.args.conjuncts.now c.requires.listed)
+    subst (λ (l : List ℕ). list_all (λ n. ltb n (length t)) l ≡ true)
+    (sym (c.deref.ensures.value ∙ c.in_ok-others.ensures))
+    (others_listed (length t) 1 c.args.positions.now c.args.conjuncts.now c.requires.listed)
 
 pub returns-clause-concept : goal.returns-clause-concept
 returns-clause-concept c =
@@ -29,5 +31,10 @@ returns-clause-concept c =
     let cs = c.args.conjuncts.now in
     let ps = c.args.positions.now in
     let ms = c.in_ok-members.members.items in
-    let are : AreNumbers u ms (map (λ n. negated_form (tree_of t n)) (other_numbers 1 ps cs)) = subst (λ (l : List ℕ). AreNumbers u ms (map (λ n. negated_form (tree_of t n)) l)) (c.deref.ensures.value ∙ c.in_ok-others.ensures) c.in_ok-members.ensures.numbers in
-    subst (λ (k : Concept). IsNumber c.union_of.new.self c.in_ok-concept.concept k) (ap (λ (l : List ℕ). or_of (map (tree_of u) l)) (c.deref-2.ensures.value ∙ c.in_ok-push.ensures.items) ∙ concept_is t u cs ps ms c.args.right c.in_ok-members.ensures.kept c.requires.right_listed are) c.in_ok-concept.ensures.number
+    let are : AreNumbers u ms (map (λ n. negated_form (tree_of t n)) (other_numbers 1 ps cs)) =
+    subst (λ (l : List ℕ). AreNumbers u ms (map (λ n. negated_form (tree_of t n)) l))
+    (c.deref.ensures.value ∙ c.in_ok-others.ensures) c.in_ok-members.ensures.numbers in
+    subst (λ (k : Concept). IsNumber c.union_of.new.self c.in_ok-concept.concept k)
+    (ap (λ (l : List ℕ). or_of (map (tree_of u) l)) (c.deref-2.ensures.value ∙ c.in_ok-push.ensures.items)
+    ∙ concept_is t u cs ps ms c.args.right c.in_ok-members.ensures.kept c.requires.right_listed are)
+    c.in_ok-concept.ensures.number

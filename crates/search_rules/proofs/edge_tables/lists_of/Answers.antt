@@ -11,5 +11,8 @@ returns c =
     let below = is_below c.args.roles.now in
     let lists = c.args.rows.now.at_roles in
     let used = c.args.used.now in
-    each_number (λ (r : ℕ) (l : List PlainRow). l ≡ rows_among below (waits_for c.args.side) lists used r) [] c.loop-role.role c.loop-role.lists.items c.loop-role.invariant.long c.loop-role.invariant.each
-    (λ r le. none_behind below (waits_for c.args.side) lists c.limit_of-limit.result r (λ s. c.limit_of-limit.ensures.outside r s (omega (arith, le, c.loop-role-test.false, c.loop-role.auto.role-end))) (omega (arith, le, c.loop-role-test.false, c.loop-role.auto.role-end)) used c.limit_of-limit.ensures.unused)
+    each_number (λ (r : ℕ) (l : List PlainRow). l ≡ rows_among below (waits_for c.args.side) lists used r) []
+    c.loop-role.role c.loop-role.lists.items c.loop-role.invariant.long c.loop-role.invariant.each
+    (λ r le. none_behind below (waits_for c.args.side) lists c.limit_of-limit.result r
+    (λ s. c.limit_of-limit.ensures.outside r s (omega (arith, le, c.loop-role-test.false, c.loop-role.auto.role-end)))
+    (omega (arith, le, c.loop-role-test.false, c.loop-role.auto.role-end)) used c.limit_of-limit.ensures.unused)

@@ -7,5 +7,6 @@ use Rattle.search_rules.proofs.edge_tables.lists_of.Given as goal
 abbrev pub invariant-loop-role : goal.invariant-loop-role
 invariant-loop-role l = record {
   long : length l.lists.items ≡ l.role;
-  each : (r : ℕ) → r < l.role → list_at l.lists.items r ≡ rows_among (is_below l.roles) (waits_for l.side) l.rows.at_roles l.used r;
+  each : (r : ℕ) → r < l.role
+      → list_at l.lists.items r ≡ rows_among (is_below l.roles) (waits_for l.side) l.rows.at_roles l.used r;
 }

@@ -12,6 +12,9 @@ loop-place-preserved c =
     let place = c.loop-place.place in
     record {
       kept = extends_twice c.args.concepts.now before after c.loop-place.invariant.kept c.in_ok-number.ensures.kept;
-      are = subst (λ (gs : List Given). AreNumberedTo after c.args.stated.now gs (place + 1)) (sym c.in_ok-push.ensures.items)
-          (numbered_more before after c.in_ok-number.ensures.kept c.args.stated.now c.loop-place.given.items place c.in_ok-number.number c.loop-place.invariant.are c.in_ok-number.ensures.given);
+      are =
+          subst (λ (gs : List Given). AreNumberedTo after c.args.stated.now gs (place + 1))
+          (sym c.in_ok-push.ensures.items)
+          (numbered_more before after c.in_ok-number.ensures.kept c.args.stated.now c.loop-place.given.items place
+          c.in_ok-number.number c.loop-place.invariant.are c.in_ok-number.ensures.given);
     }

@@ -13,6 +13,7 @@ returns-clause-found c =
       tabled = c.closed_tables.ensures.table;
       closed = c.in_ok-tables.ensures.closed;
       sub_is = number_stays b e c.in_ok-sub.sub _ later c.in_ok-sub.ensures.number;
-      not_sup_is = number_stays d e c.in_ok-not_sup.not_sup _ c.closed_tables.ensures.kept c.in_ok-not_sup.ensures.number;
+      not_sup_is =
+          number_stays d e c.in_ok-not_sup.not_sup _ c.closed_tables.ensures.kept c.in_ok-not_sup.ensures.number;
       lists = c.in_ok-tables.ensures.tables;
     }

@@ -12,5 +12,9 @@ pub returns-in-None : goal.returns-in-None
 returns-in-None g c =
     let w = g.R.Rules.context c.args.rules.now in
     let fs = facts_in c.args.tree.now.entries in
-    let free : NoClashByFact w fs (Has c.args.at c.args.sub) = subst (λ (o : Option Clash). MatchOption o (NoClashByFact w fs (Has c.args.at c.args.sub)) (IsShown w fs)) c.in-None.is c.find_clash_by.ensures in
-    clash_at_start w c.is_ready.ensures.tabled c.args.at c.args.sub c.args.not_sup (subst (λ (k : ℕ). c.args.at < k) c.requires.one_first c.requires.at_first) fs (ap facts_in c.requires.begun) free c.find_clash_by-in-None.result c.find_clash_by-in-None.ensures
+    let free : NoClashByFact w fs (Has c.args.at c.args.sub) =
+    subst (λ (o : Option Clash). MatchOption o (NoClashByFact w fs (Has c.args.at c.args.sub)) (IsShown w fs))
+    c.in-None.is c.find_clash_by.ensures in
+    clash_at_start w c.is_ready.ensures.tabled c.args.at c.args.sub c.args.not_sup
+    (subst (λ (k : ℕ). c.args.at < k) c.requires.one_first c.requires.at_first) fs (ap facts_in c.requires.begun) free
+    c.find_clash_by-in-None.result c.find_clash_by-in-None.ensures

@@ -8,4 +8,6 @@ pub returns : goal.returns
 returns g c =
     let w = g.R.Rules.context c.args.rules.now in
     let m = c.args.new.now in
-    subst (λ (t : TreeEntries). MatchOption c.find_clash_of_new_nodes.result (NoClashByNew w (facts_in t.entries) m.parent m.role m.filler) (IsShown w (facts_in t.entries))) c.new-state.ensures.tree c.find_clash_of_new_nodes.ensures
+    subst (λ (t : TreeEntries). MatchOption c.find_clash_of_new_nodes.result
+    (NoClashByNew w (facts_in t.entries) m.parent m.role m.filler) (IsShown w (facts_in t.entries)))
+    c.new-state.ensures.tree c.find_clash_of_new_nodes.ensures

@@ -8,5 +8,7 @@ use Rattle.search_state.proofs.progress.put_alternative.Goals as goal
 
 pub add-requires : goal.add-requires
 add-requires g c =
-    subst (λ (t : TreeEntries). IsFit (node_count_from t.first (facts_in t.entries)) c.args.fact) (sym c.in_ok-put_mark.ensures.marked)
-    (subst (λ (fs : List (Fact ℕ)). IsFit (node_count_from c.args.tree.now.first fs) c.args.fact) (sym (facts-marked c.args.tree.now.entries c.args.choice)) c.requires)
+    subst (λ (t : TreeEntries). IsFit (node_count_from t.first (facts_in t.entries)) c.args.fact)
+    (sym c.in_ok-put_mark.ensures.marked)
+    (subst (λ (fs : List (Fact ℕ)). IsFit (node_count_from c.args.tree.now.first fs) c.args.fact)
+    (sym (facts-marked c.args.tree.now.entries c.args.choice)) c.requires)

@@ -12,6 +12,11 @@ use Rattle.search_state.proofs.resting.rest_choice.Goals as goal
 pub returns : goal.returns
 returns g c =
     let w = g.R.Rules.context c.args.rules.now in
-    let hold = subst (λ (gs : List (Fact ℕ)). HoldWithin c.in_ok-marks.marks (marked_in c.args.tree.now.entries) gs) c.deref.ensures.value c.in_ok-marks.ensures in
-    choice_rests w c.args.tree.now.entries (line_of c.in_ok-line.line.line) c.in_ok-line.line.grounds.items c.in_ok-marks.marks c.requires.grounded hold c.args.choosing.now c.requires.closed c.requires.choosable
-    (subst (λ (t : TreeEntries). ServesChoice w (facts_in t.entries) (branch_of c.args.choosing.now) (line_of c.in_ok-line.line.line) c.in_ok-line.line.grounds.items) c.new.ensures.tree c.in_ok-line.ensures)
+    let hold =
+    subst (λ (gs : List (Fact ℕ)). HoldWithin c.in_ok-marks.marks (marked_in c.args.tree.now.entries) gs)
+    c.deref.ensures.value c.in_ok-marks.ensures in
+    choice_rests w c.args.tree.now.entries (line_of c.in_ok-line.line.line) c.in_ok-line.line.grounds.items
+    c.in_ok-marks.marks c.requires.grounded hold c.args.choosing.now c.requires.closed c.requires.choosable
+    (subst (λ (t : TreeEntries). ServesChoice w (facts_in t.entries) (branch_of c.args.choosing.now)
+    (line_of c.in_ok-line.line.line) c.in_ok-line.line.grounds.items)
+    c.new.ensures.tree c.in_ok-line.ensures)

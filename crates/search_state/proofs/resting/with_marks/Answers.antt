@@ -10,12 +10,16 @@ use Rattle.search_state.proofs.Holding.{part_left, part_right, holds_more}
 use Rattle.search_state.proofs.resting.with_marks.Goals as goal
 
 pub returns-clause-more : goal.returns-clause-more
-returns-clause-more g c = subst (λ (u : NumberSet). sets.is_subset c.args.used u ≡ true) (sym c.in_ok-all.ensures) (part_left c.args.used c.in_ok-marks.marks)
+returns-clause-more g c =
+    subst (λ (u : NumberSet). sets.is_subset c.args.used u ≡ true) (sym c.in_ok-all.ensures)
+    (part_left c.args.used c.in_ok-marks.marks)
 
 pub returns-clause-holds : goal.returns-clause-holds
 returns-clause-holds g c =
     let ms = marked_in c.args.tree.now.entries in
     let here : is_so (within c.in_ok-marks.marks ms) c.args.ground ≡ true =
-    subst (λ (fs : List (Fact ℕ)). is_so fs c.args.ground ≡ true) (sym (within-marked c.in_ok-marks.marks c.args.tree.now.entries)) c.in_ok-marks.ensures in
+    subst (λ (fs : List (Fact ℕ)). is_so fs c.args.ground ≡ true)
+    (sym (within-marked c.in_ok-marks.marks c.args.tree.now.entries)) c.in_ok-marks.ensures in
     subst (λ (u : NumberSet). is_so (within u ms) c.args.ground ≡ true) (sym c.in_ok-all.ensures)
-    (holds_more c.in_ok-marks.marks (sets.union c.args.used c.in_ok-marks.marks) ms c.args.ground (part_right c.args.used c.in_ok-marks.marks) here)
+    (holds_more c.in_ok-marks.marks (sets.union c.args.used c.in_ok-marks.marks) ms c.args.ground
+    (part_right c.args.used c.in_ok-marks.marks) here)

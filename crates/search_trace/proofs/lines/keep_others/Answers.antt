@@ -7,8 +7,14 @@ pub loop-i-preserved : goal.loop-i-preserved
 loop-i-preserved c =
     let same = ap (stays c.args.mark) c.index-lines-i.is ∙ sym c.is_kept.ensures in
     elim c.if-is_kept.branch [
-      | goal.then-is_kept w ↦ rw (w.lines-is, w.count-is) (FiltersInPlace-more_swap {x = c.index-lines-i.result} c.loop-i.invariant (omega arith) (same ∙ w.if-is_kept.true) c.index-lines-i.is w.swap.ensures.by_index)
-      | goal.else-is_kept w ↦ rw (w.lines-is, w.count-is) (FiltersInPlace-more_no {x = c.index-lines-i.result} c.loop-i.invariant (omega arith) (same ∙ w.if-is_kept.false) c.index-lines-i.is)
+      | goal.then-is_kept w ↦
+          rw (w.lines-is, w.count-is)
+          (FiltersInPlace-more_swap {x = c.index-lines-i.result} c.loop-i.invariant (omega arith)
+          (same ∙ w.if-is_kept.true) c.index-lines-i.is w.swap.ensures.by_index)
+      | goal.else-is_kept w ↦
+          rw (w.lines-is, w.count-is)
+          (FiltersInPlace-more_no {x = c.index-lines-i.result} c.loop-i.invariant (omega arith)
+          (same ∙ w.if-is_kept.false) c.index-lines-i.is)
     ]
 
 pub returns : goal.returns

@@ -9,4 +9,5 @@ pub returns : goal.returns
 returns c =
     let o = c.args.latest.now in
     IfOk-weaker c.union.result (λ u. u ≡ set.union o.marks c.in_ok-mark.mark) (λ u. u ≡ set.insert o.marks o.mark)
-    (λ u is. is ∙ ap (λ (v : NumberSet). set.union o.marks v) c.in_ok-mark.ensures ∙ union_one o.marks o.mark) c.union.ensures
+    (λ u is. is ∙ ap (λ (v : NumberSet). set.union o.marks v) c.in_ok-mark.ensures ∙ union_one o.marks o.mark)
+    c.union.ensures

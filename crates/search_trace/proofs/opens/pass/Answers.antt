@@ -12,7 +12,8 @@ returns-then-has-clause-passes c =
     let ls = c.args.lines.now.items in
     let has = sym c.has.ensures ∙ c.if-has.true in
     let to : Passes o ls u ls (whole_marks o u) = whole has (c.requires.passes has) in
-    IfOk-weaker c.marks_of_whole.result (λ v. v ≡ whole_marks o u) (Passes o ls u ls) (λ v is. subst (Passes o ls u ls) (sym is) to) c.marks_of_whole.ensures
+    IfOk-weaker c.marks_of_whole.result (λ v. v ≡ whole_marks o u) (Passes o ls u ls)
+    (λ v is. subst (Passes o ls u ls) (sym is) to) c.marks_of_whole.ensures
 
 pub returns-else-has-clause-passes : goal.returns-else-has-clause-passes
 returns-else-has-clause-passes c =

@@ -3,4 +3,6 @@ use Rattle.seen_concepts.specs.Seen.{is_one, HasGained}
 use Rattle.seen_concepts.proofs.seen.put_complement.Goals as goal
 
 pub returns : goal.returns
-returns g c = subst (λ (found : Option ℕ). HasGained (λ a. is_one a found) c.args.set.now c.put_if.new.set) c.complement_of.ensures c.put_if.ensures
+returns g c =
+    subst (λ (found : Option ℕ). HasGained (λ a. is_one a found) c.args.set.now c.put_if.new.set)
+    c.complement_of.ensures c.put_if.ensures

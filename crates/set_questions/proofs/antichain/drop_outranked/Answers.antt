@@ -13,7 +13,8 @@ loop-place-preserved-then-outranks c =
     let before = c.loop-place.invariant in
     record {
       swept = subst (λ (xs : List Limited). IsSwept c.args.kind s old xs q) (sym c.remove.ensures.items)
-          (swept_removed c.args.kind s old c.loop-place.sets.items place q next before.swept c.index.result.now c.index.ensures (c.outranks.ensures.0 c.if-outranks.true));
+          (swept_removed c.args.kind s old c.loop-place.sets.items place q next before.swept c.index.result.now
+          c.index.ensures (c.outranks.ensures.0 c.if-outranks.true));
       len = omega (arith, before.len, c.remove.ensures.len);
       capacity = c.remove.ensures.capacity ∙ before.capacity;
     }

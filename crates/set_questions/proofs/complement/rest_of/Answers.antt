@@ -9,4 +9,6 @@ pub returns-clause-members : goal.returns-clause-members
 returns-clause-members c =
     let s = c.args.set.now in
     c.take_all.ensures.members
-    ∙ ap (λ (f : NumberSet). set.difference f s.members) (full_is s.limit c.in_ok-rest.rest.members (subst (λ (n : ℕ). IsFull n c.in_ok-rest.rest.members) c.limit.ensures.limit c.in_ok-rest.ensures.members))
+    ∙ ap (λ (f : NumberSet). set.difference f s.members)
+    (full_is s.limit c.in_ok-rest.rest.members
+    (subst (λ (n : ℕ). IsFull n c.in_ok-rest.rest.members) c.limit.ensures.limit c.in_ok-rest.ensures.members))

@@ -5,4 +5,5 @@ use Rattle.axiom_sets.specs.Sets.{Limited}
 use Rattle.set_questions.proofs.places.place_of_part.Given as goal
 
 abbrev pub invariant-loop-place : goal.invariant-loop-place
-invariant-loop-place l = (k : ℕ) (d : Limited) → k < l.place → ¬ IsPart (slice_index_or l.sets k d).members l.set.members
+invariant-loop-place l = (k : ℕ) (d : Limited) → k < l.place
+    → ¬ IsPart (slice_index_or l.sets k d).members l.set.members

@@ -10,10 +10,13 @@ returns-clause-order c =
     let sets = c.args.sets.now.items in
     let s = c.args.set in
     let n = c.in-Some.place in
-    let between : IsBetween sets s n n = subst (λ (xs : List Limited). IsBetween xs s n n) c.deref.ensures.value c.in-Some.ensures.some in
-    subst (λ (xs : List Limited). IsAscending xs) (sym c.in_ok-insert.ensures.items) (inserted sets s n c.requires.order between)
+    let between : IsBetween sets s n n =
+    subst (λ (xs : List Limited). IsBetween xs s n n) c.deref.ensures.value c.in-Some.ensures.some in
+    subst (λ (xs : List Limited). IsAscending xs) (sym c.in_ok-insert.ensures.items)
+    (inserted sets s n c.requires.order between)
 
 pub returns-clause-members : goal.returns-clause-members
 returns-clause-members c =
     let sets = c.args.sets.now.items in
-    subst (λ (xs : List Limited). HasMore sets c.args.set xs) (sym c.in_ok-insert.ensures.items) (insert_has sets c.args.set c.in-Some.place)
+    subst (λ (xs : List Limited). HasMore sets c.args.set xs) (sym c.in_ok-insert.ensures.items)
+    (insert_has sets c.args.set c.in-Some.place)

@@ -9,5 +9,7 @@ returns g c =
     let used : c.in_ok-used.used ≡ c.args.refutation.axioms = cc (c.in_ok-used.ensures) in
     λ fuel le. record {
       answer = is_proof s reached c.args.refutation c.requires.ended;
-      test = ends_yes s reached c.args.refutation c.requires.set c.requires.ended c.args.refutation.axioms c.in_ok-used.used refl used c.steps-steps.result c.steps-steps.ensures.count fuel le;
+      test =
+          ends_yes s reached c.args.refutation c.requires.set c.requires.ended c.args.refutation.axioms
+          c.in_ok-used.used refl used c.steps-steps.result c.steps-steps.ensures.count fuel le;
     }

@@ -4,5 +4,7 @@ use Rattle.shq_oracle.proofs.found.with_trail.Goals as goal
 pub returns : goal.returns
 returns g c = λ fuel whole. record {
   answer = tt;
-  test = ends_spent c.args.search.now (c.steps-steps.ensures.reached c.requires.whole) c.requires.goes_on c.in_ok-trail.trail c.in_ok-trail.ensures c.steps-steps.result c.steps-steps.ensures.count fuel whole;
+  test =
+      ends_spent c.args.search.now (c.steps-steps.ensures.reached c.requires.whole) c.requires.goes_on
+      c.in_ok-trail.trail c.in_ok-trail.ensures c.steps-steps.result c.steps-steps.ensures.count fuel whole;
 }

@@ -3,10 +3,16 @@ use Rattle.shq_oracle.proofs.Honest.{within_fuel, whole_fuel}
 use Rattle.shq_oracle.proofs.tested.tested_by.Goals as goal
 
 pub returns-in-Saturated : goal.returns-in-Saturated
-returns-in-Saturated g c = within_fuel (IsTestedBy c.args.search.now) c.args.search.now.steps c.args.fuel c.requires.within c.with_no.result c.with_no.ensures
+returns-in-Saturated g c =
+    within_fuel (IsTestedBy c.args.search.now) c.args.search.now.steps c.args.fuel c.requires.within c.with_no.result
+    c.with_no.ensures
 
 pub returns-in-Closed : goal.returns-in-Closed
-returns-in-Closed g c = within_fuel (IsTestedBy c.args.search.now) c.args.search.now.steps c.args.fuel c.requires.within c.with_yes.result c.with_yes.ensures
+returns-in-Closed g c =
+    within_fuel (IsTestedBy c.args.search.now) c.args.search.now.steps c.args.fuel c.requires.within c.with_yes.result
+    c.with_yes.ensures
 
 pub returns-in-Spent : goal.returns-in-Spent
-returns-in-Spent g c = whole_fuel (IsTestedBy c.args.search.now) c.args.search.now c.args.fuel c.args.end c.in-Spent.is c.requires.ended c.with_trail.result c.with_trail.ensures
+returns-in-Spent g c =
+    whole_fuel (IsTestedBy c.args.search.now) c.args.search.now c.args.fuel c.args.end c.in-Spent.is c.requires.ended
+    c.with_trail.result c.with_trail.ensures

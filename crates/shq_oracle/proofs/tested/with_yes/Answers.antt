@@ -12,5 +12,7 @@ returns g c =
     λ fuel le. record {
       outcome = (r, is_proof s reached r c.requires.ended, used);
       apart = tt;
-      test = ends_yes s reached r c.requires.set c.requires.ended c.in_ok-used.used c.in_ok-logged.logged used logged c.steps-steps.result c.steps-steps.ensures.count fuel le;
+      test =
+          ends_yes s reached r c.requires.set c.requires.ended c.in_ok-used.used c.in_ok-logged.logged used logged
+          c.steps-steps.result c.steps-steps.ensures.count fuel le;
     }

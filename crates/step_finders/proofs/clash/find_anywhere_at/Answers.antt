@@ -10,5 +10,7 @@ pub returns : goal.returns
 returns g c =
     let w = g.R.Rules.context c.args.rules.now in
     let fs = g.S.State.facts c.args.state.now in
-    answers_more c.find_by_label.result ((k : ℕ) → has fs c.args.node k ≡ true → NoneByShape w fs c.args.node (shape_of w.table k)) (NoneAt w fs c.args.node) (IsShown w fs) (IsShown w fs)
+    answers_more c.find_by_label.result
+    ((k : ℕ) → has fs c.args.node k ≡ true → NoneByShape w fs c.args.node (shape_of w.table k))
+    (NoneAt w fs c.args.node) (IsShown w fs) (IsShown w fs)
     (none_at w fs c.args.node (sym c.if-are_apart.ensures)) (λ k h. h) c.find_by_label.ensures

@@ -8,5 +8,8 @@ pub returns : goal.returns
 returns g c =
     let w = g.R.Rules.context c.args.rules.now in
     let fs = g.S.State.facts c.args.state.now in
-    answers_more c.find_by_mosts_over.result (All (NotOverrunOver w fs c.args.node c.args.role c.args.filler) c.mosts.result.now) (NoneOver w fs c.args.node c.args.role c.args.filler) (IsShown w fs) (IsShown w fs)
-    (λ all. none_over w fs c.args.node c.args.role c.args.filler c.mosts.result.now c.mosts.ensures all) (λ k h. h) c.find_by_mosts_over.ensures
+    answers_more c.find_by_mosts_over.result
+    (All (NotOverrunOver w fs c.args.node c.args.role c.args.filler) c.mosts.result.now)
+    (NoneOver w fs c.args.node c.args.role c.args.filler) (IsShown w fs) (IsShown w fs)
+    (λ all. none_over w fs c.args.node c.args.role c.args.filler c.mosts.result.now c.mosts.ensures all) (λ k h. h)
+    c.find_by_mosts_over.ensures

@@ -8,6 +8,9 @@ pub returns-in-None : goal.returns-in-None
 returns-in-None g c =
     let w = (g.R.Rules.context c.args.rules.now) in
     let fs = (g.S.State.facts c.args.state.now) in
-    let at = none_said (NoneByShape w fs c.args.node (shape_of w.table c.args.concept)) (IsShown w fs) c.find_at_node.result c.in-None.is c.find_at_node.ensures in
-    answers_more c.find_above.result (NoneAbove w fs c.args.node c.args.concept) (NoClashBy w fs c.args.node c.args.concept) (IsShown w fs) (IsShown w fs)
+    let at =
+    none_said (NoneByShape w fs c.args.node (shape_of w.table c.args.concept)) (IsShown w fs) c.find_at_node.result
+    c.in-None.is c.find_at_node.ensures in
+    answers_more c.find_above.result (NoneAbove w fs c.args.node c.args.concept)
+    (NoClashBy w fs c.args.node c.args.concept) (IsShown w fs) (IsShown w fs)
     (λ over. no_clash w fs c.args.node c.args.concept c.requires.above at over) (λ k h. h) c.find_above.ensures

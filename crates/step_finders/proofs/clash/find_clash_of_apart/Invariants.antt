@@ -4,5 +4,6 @@ use Rattle.step_finders.specs.Clashing.{NoneAbove}
 use Rattle.step_finders.proofs.clash.find_clash_of_apart.Given as goal
 
 abbrev pub invariant-loop-concept : goal.invariant-loop-concept
-invariant-loop-concept g l = (k d : ℕ) → k < l.concept-index → has (g.S.State.facts l.state) l.second (get_or l.concept-items k d) ≡ true
+invariant-loop-concept g l = (k d : ℕ) → k < l.concept-index
+    → has (g.S.State.facts l.state) l.second (get_or l.concept-items k d) ≡ true
     → NoneAbove (g.R.Rules.context l.rules) (g.S.State.facts l.state) l.first (get_or l.concept-items k d)

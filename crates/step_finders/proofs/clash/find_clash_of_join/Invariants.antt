@@ -3,4 +3,5 @@ use Rattle.step_finders.specs.Clashing.{NoClashBy}
 use Rattle.step_finders.proofs.clash.find_clash_of_join.Given as goal
 
 abbrev pub invariant-loop-concept : goal.invariant-loop-concept
-invariant-loop-concept g l = (k d : ℕ) → k < l.concept-index → NoClashBy (g.R.Rules.context l.rules) (g.S.State.facts l.state) l.node (get_or l.concept-items k d)
+invariant-loop-concept g l = (k d : ℕ) → k < l.concept-index
+    → NoClashBy (g.R.Rules.context l.rules) (g.S.State.facts l.state) l.node (get_or l.concept-items k d)

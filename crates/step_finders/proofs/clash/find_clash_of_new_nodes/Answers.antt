@@ -7,5 +7,9 @@ pub returns : goal.returns
 returns g c =
     let w = g.R.Rules.context c.args.rules.now in
     let fs = g.S.State.facts c.args.state.now in
-    answers_more c.find_by_fillers.result (NoneOver w fs c.args.parent c.args.role 0 × NoneOver w fs c.args.parent c.args.role c.args.filler) (NoClashByNew w fs c.args.parent c.args.role c.args.filler) (IsShown w fs) (IsShown w fs)
-    (λ none. no_clash_by_new w fs c.args.parent c.args.role c.args.filler (λ sh. (let k = c.if-is_bottom.ensures.1 sh in cc)) none) (λ k h. h) c.find_by_fillers.ensures
+    answers_more c.find_by_fillers.result
+    (NoneOver w fs c.args.parent c.args.role 0 × NoneOver w fs c.args.parent c.args.role c.args.filler)
+    (NoClashByNew w fs c.args.parent c.args.role c.args.filler) (IsShown w fs) (IsShown w fs)
+    (λ none. no_clash_by_new w fs c.args.parent c.args.role c.args.filler
+    (λ sh. (let k = c.if-is_bottom.ensures.1 sh in cc)) none)
+    (λ k h. h) c.find_by_fillers.ensures

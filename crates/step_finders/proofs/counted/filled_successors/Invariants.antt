@@ -3,4 +3,6 @@ use Rattle.step_finders.proofs.Gathered.{IsPut}
 use Rattle.step_finders.proofs.counted.filled_successors.Given as goal
 
 abbrev pub invariant-loop-edge : goal.invariant-loop-edge
-invariant-loop-edge g l = IsPut (below_of (g.R.Rules.context l.rules)) (g.S.State.facts l.state) l.node l.role l.filler l.edge-items l.edge-index l.found.items
+invariant-loop-edge g l =
+    IsPut (below_of (g.R.Rules.context l.rules)) (g.S.State.facts l.state) l.node l.role l.filler l.edge-items
+    l.edge-index l.found.items

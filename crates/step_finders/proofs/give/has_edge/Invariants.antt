@@ -6,4 +6,5 @@ use Rattle.step_finders.proofs.give.has_edge.Given as goal
 
 abbrev pub invariant-loop-edge : goal.invariant-loop-edge
 invariant-loop-edge g l =
-    list_any (λ p. eqb p.0 l.role && eqb (rep (g.S.State.facts l.state) p.1) l.to) (drop l.edge-index l.edge-items) ≡ leads (g.S.State.facts l.state) (λ r. eqb r l.role) l.begin l.end
+    list_any (λ p. eqb p.0 l.role && eqb (rep (g.S.State.facts l.state) p.1) l.to) (drop l.edge-index l.edge-items)
+    ≡ leads (g.S.State.facts l.state) (λ r. eqb r l.role) l.begin l.end

@@ -7,5 +7,7 @@ use Rattle.step_finders.proofs.overrun.is_overrun.Goals as goal
 pub loop-next-init : goal.loop-next-init
 loop-next-init g c =
     let fs = g.S.State.facts c.args.state.now in
-    let all = from_first (g.R.Rules.context c.args.rules.now).first (below_of (g.R.Rules.context c.args.rules.now)) fs c.args.node c.args.role c.args.filler in
+    let all =
+    from_first (g.R.Rules.context c.args.rules.now).first (below_of (g.R.Rules.context c.args.rules.now)) fs c.args.node
+    c.args.role c.args.filler in
     (omega (arith, ap length all), ap (all_apart fs) all, omega arith, c.count_of-nodes.ensures.count)

@@ -12,7 +12,10 @@ invariant-loop-next g l =
     let fs = g.S.State.facts l.state in
     let later = filled_from (g.R.Rules.context l.rules).first below fs l.node l.role l.filler l.from in
     let all = filled_successors (g.R.Rules.context l.rules).first below fs l.node l.role l.filler in
-    (l.more + length later ≡ length all) × (all_apart fs later ≡ all_apart fs all) × (l.more ≤ l.from) × (l._nodes ≡ node_count_from (g.R.Rules.context l.rules).first fs)
+    (l.more + length later ≡ length all) × (all_apart fs later ≡ all_apart fs all) × (l.more ≤ l.from)
+    × (l._nodes ≡ node_count_from (g.R.Rules.context l.rules).first fs)
 
 abbrev pub decreases-loop-next : goal.decreases-loop-next
-decreases-loop-next g l = length (filled_from (g.R.Rules.context l.rules).first (below_of (g.R.Rules.context l.rules)) (g.S.State.facts l.state) l.node l.role l.filler l.from)
+decreases-loop-next g l =
+    length (filled_from (g.R.Rules.context l.rules).first (below_of (g.R.Rules.context l.rules))
+    (g.S.State.facts l.state) l.node l.role l.filler l.from)

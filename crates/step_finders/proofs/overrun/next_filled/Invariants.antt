@@ -4,4 +4,7 @@ use Rattle.step_finders.proofs.Later.{is_seen}
 use Rattle.step_finders.proofs.overrun.next_filled.Given as goal
 
 abbrev pub invariant-loop-edge : goal.invariant-loop-edge
-invariant-loop-edge g l = IsLeast (is_seen (g.R.Rules.context l.rules).first (below_of (g.R.Rules.context l.rules)) (g.S.State.facts l.state) l.node l.role l.filler l.edge-items l.from l.edge-index) l.least
+invariant-loop-edge g l =
+    IsLeast (is_seen (g.R.Rules.context l.rules).first (below_of (g.R.Rules.context l.rules)) (g.S.State.facts l.state)
+    l.node l.role l.filler l.edge-items l.from l.edge-index)
+    l.least

@@ -7,5 +7,8 @@ loop-end-preserved g c =
     let w = g.R.Rules.context c.args.rules.now in
     let fs = g.S.State.facts c.args.state.now in
     let i = c.loop-end.end-index in
-    link_more w fs c.args.node c.args.role c.args.filler c.args.ends.now i c.role_of.result c.loop-end.links.items c.push.new.self.items c.loop-end.invariant (omega (arith, c.loop-end-test.true))
-    (link_of w fs c.args.node c.args.role c.args.filler (get_or c.args.ends.now i 0) c.role_of.result (c.requires i 0 (omega (arith, c.loop-end-test.true))) c.role_of.ensures) c.in_ok-push.ensures.items
+    link_more w fs c.args.node c.args.role c.args.filler c.args.ends.now i c.role_of.result c.loop-end.links.items
+    c.push.new.self.items c.loop-end.invariant (omega (arith, c.loop-end-test.true))
+    (link_of w fs c.args.node c.args.role c.args.filler (get_or c.args.ends.now i 0) c.role_of.result
+    (c.requires i 0 (omega (arith, c.loop-end-test.true))) c.role_of.ensures)
+    c.in_ok-push.ensures.items

@@ -13,7 +13,10 @@ returns g c =
     let good = c.is_ready.ensures.tabled in
     let m = c.args.new.now in
     let few = made_few w fs good m (shape_of w.table m.concept) refl c.requires.making.asks in
-    let fits : node_count_from w.first fs + m.count ≤ 2 ^ 32 = omega (arith, few, c.count_of.ensures.count, c.count_of.ensures.small) in
+    let fits : node_count_from w.first fs + m.count ≤ 2 ^ 32 =
+    omega (arith, few, c.count_of.ensures.count, c.count_of.ensures.small) in
     subst (λ (l : Line). ServesNewNodes w fs m l c.in_ok-grounds.grounds.items)
-    (sym (c.making_line-line.ensures ∙ ap (λ (y : ℕ). making_line (shape_of w.table m.concept) m.parent y m.concept) c.count_of.ensures.count))
-    (nodes_serve w fs good m c.requires.making.holds fits c.in_ok-grounds.grounds.items c.in_ok-grounds.ensures (shape_of w.table m.concept) refl c.requires.making.asks)
+    (sym (c.making_line-line.ensures
+    ∙ ap (λ (y : ℕ). making_line (shape_of w.table m.concept) m.parent y m.concept) c.count_of.ensures.count))
+    (nodes_serve w fs good m c.requires.making.holds fits c.in_ok-grounds.grounds.items c.in_ok-grounds.ensures
+    (shape_of w.table m.concept) refl c.requires.making.asks)

@@ -14,7 +14,11 @@ loop-row-preserved c =
     let first = c.in-Some.ensures.steps.0 in
     let before = c.loop-row.invariant in
     record {
-      filed = filed_more t c.loop-row.yielded c.loop-row.table c.file.new.self row c.place_of-place.result before.filed c.place_of-place.ensures c.in_ok-file.ensures.rows c.file.ensures.keys;
+      filed =
+          filed_more t c.loop-row.yielded c.loop-row.table c.file.new.self row c.place_of-place.result before.filed
+          c.place_of-place.ensures c.in_ok-file.ensures.rows c.file.ensures.keys;
       places = All-tail (HasPlace t) row rest (subst (λ (l : List Row). All (HasPlace t) l) first before.places);
-      split = append_assoc c.loop-row.yielded (row ∷ []) rest ∙ ap (λ (l : List Row). c.loop-row.yielded ++ l) (sym first) ∙ before.split;
+      split =
+          append_assoc c.loop-row.yielded (row ∷ []) rest ∙ ap (λ (l : List Row). c.loop-row.yielded ++ l) (sym first)
+          ∙ before.split;
     }

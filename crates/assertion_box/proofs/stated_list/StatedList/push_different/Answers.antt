@@ -14,6 +14,14 @@ loop-first-preserved c =
     let later = take (length xs - (first + 1)) rest in
     let all = take_all (length xs - (first + 1)) rest (omega (arith, length-drop (first + 1) xs)) in
     record {
-      long = omega (arith, ap length c.in_ok-push_apart.ensures, length-append c.loop-first.self (numbered_facts c.args.number c.loop-first.place (map (Apart x) later)), length-aparts c.args.number c.loop-first.place x later, c.loop-first.invariant.long);
-      same = aparts_put c.args.number c.loop-first.place first xs c.loop-first.self _ c.push_apart.new.self _ later c.loop-first-test.true refl all c.in_ok-push_apart.ensures c.loop-first.invariant.same;
+      long = omega (
+        arith,
+        ap length c.in_ok-push_apart.ensures,
+        length-append c.loop-first.self (numbered_facts c.args.number c.loop-first.place (map (Apart x) later)),
+        length-aparts c.args.number c.loop-first.place x later,
+        c.loop-first.invariant.long,
+      );
+      same =
+          aparts_put c.args.number c.loop-first.place first xs c.loop-first.self _ c.push_apart.new.self _ later
+          c.loop-first-test.true refl all c.in_ok-push_apart.ensures c.loop-first.invariant.same;
     }

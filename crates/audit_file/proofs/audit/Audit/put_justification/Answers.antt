@@ -8,8 +8,11 @@ use Rattle.audit_file.proofs.audit.Audit.put_justification.Goals as goal
 pub invariant_of-self-2 : goal.invariant_of-self-2
 invariant_of-self-2 c =
     let js = c.self.inside.justifications.items in
-    let more = put_ascends (λ (j : Justification). j.set) js (record { set = c.args.set; refutation = c.args.refutation }) c.self.invariant.justifications (search rules) in
+    let more =
+    put_ascends (λ (j : Justification). j.set) js (record { set = c.args.set; refutation = c.args.refutation })
+    c.self.invariant.justifications (search rules) in
     record {
-      justifications = subst (λ (l : List Justification). IsAscending (justified_sets l)) (sym c.in_ok-push.ensures.items) more;
+      justifications =
+          subst (λ (l : List Justification). IsAscending (justified_sets l)) (sym c.in_ok-push.ensures.items) more;
       repairs = c.self.invariant.repairs;
     }

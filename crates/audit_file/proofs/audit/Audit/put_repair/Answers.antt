@@ -8,7 +8,9 @@ use Rattle.audit_file.proofs.audit.Audit.put_repair.Goals as goal
 pub invariant_of-self-2 : goal.invariant_of-self-2
 invariant_of-self-2 c =
     let rs = c.self.inside.repairs.items in
-    let more = put_ascends (λ (r : Repair). r.set) rs (record { set = c.args.set; model = c.args.model }) c.self.invariant.repairs (search rules) in
+    let more =
+    put_ascends (λ (r : Repair). r.set) rs (record { set = c.args.set; model = c.args.model }) c.self.invariant.repairs
+    (search rules) in
     record {
       justifications = c.self.invariant.justifications;
       repairs = subst (λ (l : List Repair). IsAscending (repaired_sets l)) (sym c.in_ok-push.ensures.items) more;

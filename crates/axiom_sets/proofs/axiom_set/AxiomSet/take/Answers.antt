@@ -11,6 +11,10 @@ invariant_of-self c =
     let ws = c.take_number.new.words in
     let limit = c.self.inside.limit in
     let same : length ws ≡ length xs = c.take_number.auto.words ∙ ap length c.deref_mut.ensures.value in
-    let back : take c.self.inside.words.len (ws ++ drop (length ws) xs) ≡ ws = whole_back c.self.inside.words.len ws xs same c.self.inside.words.ok.0 in
-    let members : number_set ws ≡ set.remove (number_set xs) c.args.number = c.take_number.ensures ∙ ap (λ (ys : List ℕ). set.remove (number_set ys) c.args.number) c.deref_mut.ensures.value in
-    kept_after limit xs (take c.self.inside.words.len (ws ++ drop (length ws) xs)) (set.remove (number_set xs) c.args.number) c.self.invariant (ap length back ∙ same) (ap number_set back ∙ members) (take_within limit c.args.number (number_set xs) c.self.invariant.within)
+    let back : take c.self.inside.words.len (ws ++ drop (length ws) xs) ≡ ws =
+    whole_back c.self.inside.words.len ws xs same c.self.inside.words.ok.0 in
+    let members : number_set ws ≡ set.remove (number_set xs) c.args.number =
+    c.take_number.ensures ∙ ap (λ (ys : List ℕ). set.remove (number_set ys) c.args.number) c.deref_mut.ensures.value in
+    kept_after limit xs (take c.self.inside.words.len (ws ++ drop (length ws) xs))
+    (set.remove (number_set xs) c.args.number) c.self.invariant (ap length back ∙ same) (ap number_set back ∙ members)
+    (take_within limit c.args.number (number_set xs) c.self.invariant.within)

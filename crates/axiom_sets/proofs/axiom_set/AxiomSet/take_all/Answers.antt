@@ -12,8 +12,13 @@ invariant_of-self c =
     let os = c.other.inside.words.items in
     let limit = c.self.inside.limit in
     let same : length ws ≡ length xs = c.subtract.auto.xs ∙ ap length c.deref_mut.ensures.value in
-    let back : take c.self.inside.words.len (ws ++ drop (length ws) xs) ≡ ws = whole_back c.self.inside.words.len ws xs same c.self.inside.words.ok.0 in
+    let back : take c.self.inside.words.len (ws ++ drop (length ws) xs) ≡ ws =
+    whole_back c.self.inside.words.len ws xs same c.self.inside.words.ok.0 in
     let members : number_set ws ≡ set.difference (number_set xs) (number_set os) =
-    c.subtract.ensures ∙ ap (λ (ys : List ℕ). set.difference (number_set ys) (number_set c.deref.result.now)) c.deref_mut.ensures.value ∙ ap (λ (ys : List ℕ). set.difference (number_set xs) (number_set ys)) c.deref.ensures.value in
-    kept_after limit xs (take c.self.inside.words.len (ws ++ drop (length ws) xs)) (set.difference (number_set xs) (number_set os)) c.self.invariant (ap length back ∙ same) (ap number_set back ∙ members)
+    c.subtract.ensures
+    ∙ ap (λ (ys : List ℕ). set.difference (number_set ys) (number_set c.deref.result.now)) c.deref_mut.ensures.value
+    ∙ ap (λ (ys : List ℕ). set.difference (number_set xs) (number_set ys)) c.deref.ensures.value in
+    kept_after limit xs (take c.self.inside.words.len (ws ++ drop (length ws) xs))
+    (set.difference (number_set xs) (number_set os)) c.self.invariant (ap length back ∙ same)
+    (ap number_set back ∙ members)
     (difference_within limit (number_set xs) (number_set os) c.self.invariant.within)

@@ -5,4 +5,6 @@ use Rattle.axiom_sets.proofs.DependencyListed.{contains-marks}
 use Rattle.axiom_sets.proofs.deps.Deps.has.Goals as goal
 
 pub returns : goal.returns
-returns c = c.has_mark.ensures ∙ sym (contains-marks c.marks.result.now c.args.mark) ∙ ap (λ (s : NumberSet). set.contains s c.args.mark) c.marks.ensures.members
+returns c =
+    c.has_mark.ensures ∙ sym (contains-marks c.marks.result.now c.args.mark)
+    ∙ ap (λ (s : NumberSet). set.contains s c.args.mark) c.marks.ensures.members

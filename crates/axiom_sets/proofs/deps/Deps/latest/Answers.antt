@@ -18,18 +18,32 @@ pub returns-clause-none : goal.returns-clause-none
 returns-clause-none c =
     let marks = c.marks-marks.result.now in
     let n = get_or marks (length marks - 1) 0 in
-    let some : 0 < length marks = elim (cases_eq (length marks) 0) [ inl e ↦ absurd (false≢true (c.if-is_empty.ensures ∙ eq-eqb (length marks) 0 e)) | inr other ↦ omega (arith, other) ] in
-    let member : set.contains (marks_set marks) n ≡ _ = contains-marks marks n ∙ mark_at marks (length marks - 1) n (omega (arith, some)) refl in (
+    let some : 0 < length marks = elim (cases_eq (length marks) 0) [
+      | inl e ↦ absurd (false≢true (c.if-is_empty.ensures ∙ eq-eqb (length marks) 0 e))
+      | inr other ↦ omega (arith, other)
+    ] in
+    let member : set.contains (marks_set marks) n ≡ _ =
+    contains-marks marks n ∙ mark_at marks (length marks - 1) n (omega (arith, some)) refl in (
       λ e. absurd (false≢true (sym e)),
-      λ e. absurd (false≢true (sym (set.contains-empty nat_cmp n) ∙ ap (λ (s : NumberSet). set.contains s n) (sym e ∙ sym c.marks-marks.ensures.members) ∙ member)),
+      λ e. absurd
+          (false≢true
+          (sym (set.contains-empty nat_cmp n)
+          ∙ ap (λ (s : NumberSet). set.contains s n) (sym e ∙ sym c.marks-marks.ensures.members) ∙ member)),
     )
 
 pub returns-clause-greatest : goal.returns-clause-greatest
 returns-clause-greatest c =
     let marks = c.marks-marks.result.now in
     let n = get_or marks (length marks - 1) 0 in
-    let some : 0 < length marks = elim (cases_eq (length marks) 0) [ inl e ↦ absurd (false≢true (c.if-is_empty.ensures ∙ eq-eqb (length marks) 0 e)) | inr other ↦ omega (arith, other) ] in
+    let some : 0 < length marks = elim (cases_eq (length marks) 0) [
+      | inl e ↦ absurd (false≢true (c.if-is_empty.ensures ∙ eq-eqb (length marks) 0 e))
+      | inr other ↦ omega (arith, other)
+    ] in
     record {
-      member = ap (λ (s : NumberSet). set.contains s n) (sym c.marks-marks.ensures.members) ∙ contains-marks marks n ∙ mark_at marks (length marks - 1) n (omega (arith, some)) refl;
-      bound = λ j lt. ap (λ (s : NumberSet). set.contains s j) (sym c.marks-marks.ensures.members) ∙ contains-marks marks j ∙ beyond_last marks n j c.marks-marks.ensures.ascending some refl lt;
+      member =
+          ap (λ (s : NumberSet). set.contains s n) (sym c.marks-marks.ensures.members) ∙ contains-marks marks n
+          ∙ mark_at marks (length marks - 1) n (omega (arith, some)) refl;
+      bound =
+          λ j lt. ap (λ (s : NumberSet). set.contains s j) (sym c.marks-marks.ensures.members) ∙ contains-marks marks j
+          ∙ beyond_last marks n j c.marks-marks.ensures.ascending some refl lt;
     }

@@ -10,10 +10,14 @@ use Rattle.axiom_sets.proofs.deps.Deps.with_others.Goals as goal
 
 pub invariant_of-result : goal.invariant_of-result
 invariant_of-result c =
-    let is : c.in_ok-new.field-0.value.items ≡ filter (λ m. not (m == c.args.mark)) c.marks.result.now = (λ i. (c.in_ok-new.ensures.ok i).items) ∙ c.in_ok-marks.ensures in
-    subst IsStrictlyIncreasing (sym is) (IsStrictlyIncreasing-filter (λ m. not (m == c.args.mark)) c.marks.result.now c.marks.ensures.ascending)
+    let is : c.in_ok-new.field-0.value.items ≡ filter (λ m. not (m == c.args.mark)) c.marks.result.now =
+    (λ i. (c.in_ok-new.ensures.ok i).items) ∙ c.in_ok-marks.ensures in
+    subst IsStrictlyIncreasing (sym is)
+    (IsStrictlyIncreasing-filter (λ m. not (m == c.args.mark)) c.marks.result.now c.marks.ensures.ascending)
 
 pub returns : goal.returns
 returns c =
-    let is : c.in_ok-new.field-0.value.items ≡ filter (λ m. not (m == c.args.mark)) c.marks.result.now = (λ i. (c.in_ok-new.ensures.ok i).items) ∙ c.in_ok-marks.ensures in
-    ap marks_set is ∙ remove-marks c.marks.result.now c.args.mark ∙ ap (λ (s : NumberSet). set.remove s c.args.mark) c.marks.ensures.members
+    let is : c.in_ok-new.field-0.value.items ≡ filter (λ m. not (m == c.args.mark)) c.marks.result.now =
+    (λ i. (c.in_ok-new.ensures.ok i).items) ∙ c.in_ok-marks.ensures in
+    ap marks_set is ∙ remove-marks c.marks.result.now c.args.mark
+    ∙ ap (λ (s : NumberSet). set.remove s c.args.mark) c.marks.ensures.members

@@ -12,4 +12,5 @@ pub returns-clause-first : goal.returns-clause-first
 returns-clause-first g c =
     let fs = facts_in c.args.tree.now.entries in
     let p = c.follow.new.self in
-    on_ok c.follow.result (IsCurrent c.args.tree.now.first fs p) (AreFirstBlocks c.args.tree.now.first fs p) (all_are_first c.args.tree.now.first fs p) c.follow.ensures.followed
+    on_ok c.follow.result (IsCurrent c.args.tree.now.first fs p) (AreFirstBlocks c.args.tree.now.first fs p)
+    (all_are_first c.args.tree.now.first fs p) c.follow.ensures.followed

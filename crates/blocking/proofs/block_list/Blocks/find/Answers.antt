@@ -21,6 +21,9 @@ returns-clause-block g c =
     let found : take c.sift-count.result c.deref.result.now ≡ places 0 print p.prints =
     ap (take c.sift-count.result) c.deref.ensures.value ∙ c.sift-count.ensures.found ∙ ap (places 0 print) table in
     let up : is_parent_clear fs c.as_slice-2.result.now (parent_from c.args.tree.now.first fs x) ≡ true =
-    ap (λ (bs : List Block). is_parent_clear fs bs (parent_from c.args.tree.now.first fs x)) (second ∙ sym front) ∙ sym c.if-not-has_clear_parent.ensures in
+    ap (λ (bs : List Block). is_parent_clear fs bs (parent_from c.args.tree.now.first fs x)) (second ∙ sym front)
+    ∙ sym c.if-not-has_clear_parent.ensures in
     c.first_blocking.ensures
-    ∙ block_found c.args.tree.now.first fs x p c.requires.followed print c.requires.print c.requires.words c.sift-count.ensures.fits c.as_slice-2.result.now (take c.sift-count.result c.deref.result.now) second found (omega (arith, c.if-node-first.false, c.first.ensures.first)) up
+    ∙ block_found c.args.tree.now.first fs x p c.requires.followed print c.requires.print c.requires.words
+    c.sift-count.ensures.fits c.as_slice-2.result.now (take c.sift-count.result c.deref.result.now) second found
+    (omega (arith, c.if-node-first.false, c.first.ensures.first)) up

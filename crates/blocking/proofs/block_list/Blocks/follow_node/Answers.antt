@@ -16,6 +16,8 @@ returns-clause-followed g c =
     let block = c.find-block.result in
     let print = c.print_to_keep.result in
     let now = c.put.new.self in
-    on_ok c.put.result (now ≡ printed_more c.find-block.new.self block print) (IsFollowed first fs (c.args.node + 1) now)
-    (λ is. followed_more first fs c.args.node c.args.self.now now block print c.requires.followed c.find-block.ensures.block c.print_to_keep.ensures
+    on_ok c.put.result (now ≡ printed_more c.find-block.new.self block print)
+    (IsFollowed first fs (c.args.node + 1) now)
+    (λ is. followed_more first fs c.args.node c.args.self.now now block print c.requires.followed
+    c.find-block.ensures.block c.print_to_keep.ensures
     (is ∙ ap (λ (p : Printed). printed_more p block print) c.find-block.ensures.unchanged)) c.put.ensures.put

@@ -5,7 +5,10 @@ use Rattle.blocking.proofs.BlockLists.{enough_blocks, first_kept}
 use Rattle.blocking.proofs.block_list.Blocks.keep.Goals as goal
 
 pub cut-requires-clause-blocks : goal.cut-requires-clause-blocks
-cut-requires-clause-blocks g c = enough_blocks c.args.tree.now.first (facts_in c.args.tree.now.entries) c.args.len c.args.self.now c.requires
+cut-requires-clause-blocks g c =
+    enough_blocks c.args.tree.now.first (facts_in c.args.tree.now.entries) c.args.len c.args.self.now c.requires
 
 pub returns-clause-first : goal.returns-clause-first
-returns-clause-first g c = subst (AreFirstBlocks c.args.tree.now.first (facts_in c.args.tree.now.entries)) (sym c.cut.ensures) (first_kept c.args.tree.now.first (facts_in c.args.tree.now.entries) c.args.len c.args.self.now c.requires)
+returns-clause-first g c =
+    subst (AreFirstBlocks c.args.tree.now.first (facts_in c.args.tree.now.entries)) (sym c.cut.ensures)
+    (first_kept c.args.tree.now.first (facts_in c.args.tree.now.entries) c.args.len c.args.self.now c.requires)

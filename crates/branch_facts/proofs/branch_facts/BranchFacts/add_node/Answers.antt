@@ -9,5 +9,7 @@ returns-clause-added c =
     let keys : List ℕ = c.self.inside.nodes.keys in
     let view = c.self.view_is in
     let new = knows_is keys c.args.node ∙ ap (λ (k : NumberedBranch). has_node k c.args.node) view ∙ c.requires in
-    let nodes = c.in_ok-insert_full.ensures.keys ∙ ap (λ (b : Bool). if b then keys else keys ++ c.args.node ∷ []) new ∙ ap (λ (k : NumberedBranch). k.nodes ++ c.args.node ∷ []) view in
+    let nodes =
+    c.in_ok-insert_full.ensures.keys ∙ ap (λ (b : Bool). if b then keys else keys ++ c.args.node ∷ []) new
+    ∙ ap (λ (k : NumberedBranch). k.nodes ++ c.args.node ∷ []) view in
     λ k. record { nodes = nodes k; facts = (view k).facts }

@@ -7,5 +7,7 @@ pub loop-place-preserved : goal.loop-place-preserved
 loop-place-preserved c =
     let old : PlainIndex = c.args.self.now in
     let seen = ap (λ (i : PlainIndex). length i.seen) c.self.view_is in
-    let lt : c.loop-place.place < length old.seen = omega (arith, c.loop-place-test.true, c.len-place-end.ensures.len, seen) in
-    copying_on c.args.high c.args.low c.loop-place.place old c.loop-place.self c.copy_at.new.self lt c.loop-place.invariant c.in_ok-copy_at.ensures.put
+    let lt : c.loop-place.place < length old.seen =
+    omega (arith, c.loop-place-test.true, c.len-place-end.ensures.len, seen) in
+    copying_on c.args.high c.args.low c.loop-place.place old c.loop-place.self c.copy_at.new.self lt
+    c.loop-place.invariant c.in_ok-copy_at.ensures.put

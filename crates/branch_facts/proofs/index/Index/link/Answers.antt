@@ -9,7 +9,8 @@ returns-in_err-insert-clause-begins c =
     let old : PlainIndex = c.args.self.now in
     let links = c.in_err-insert.ensures.err in
     let left : PlainIndex = record { seen = c.self.inside.seen.keys; links = c.insert.new.self.entries } in
-    let unchanged : left ≡ record { seen = copied c.args.high c.args.low old.seen old.seen; links = old.links } = (λ k. record { seen = c.self.inside.seen.keys; links = links k }) ∙ c.self.view_is ∙ c.in_ok-copy.ensures.put in
+    let unchanged : left ≡ record { seen = copied c.args.high c.args.low old.seen old.seen; links = old.links } =
+    (λ k. record { seen = c.self.inside.seen.keys; links = links k }) ∙ c.self.view_is ∙ c.in_ok-copy.ensures.put in
     on_err c.from_residual-in_err-insert.result _ (copied_begins c.args.high c.args.low old left unchanged)
 
 pub invariant_of-self-2 : goal.invariant_of-self-2
@@ -17,7 +18,8 @@ invariant_of-self-2 c =
     let high = c.args.high in
     let low = c.args.low in
     let links = c.self.inside.links in
-    let kept : links.entries ≡ c.args.self.now.links = ap (λ (i : PlainIndex). i.links) (c.self.view_is ∙ c.in_ok-copy.ensures.put) in
+    let kept : links.entries ≡ c.args.self.now.links =
+    ap (λ (i : PlainIndex). i.links) (c.self.view_is ∙ c.in_ok-copy.ensures.put) in
     let is : IsLink links.entries (high, low) = record {
       falls = c.requires.falls;
       from_representative = ap (λ ls. through ls high) kept ∙ c.requires.from_representative;
@@ -33,5 +35,7 @@ returns-clause-put c =
     let links = c.self.inside.links in
     let copy = c.self.view_is ∙ c.in_ok-copy.ensures.put in
     let stays = ap (λ (i : PlainIndex). through i.links high) copy ∙ c.requires.from_representative in
-    let added : c.insert.new.self.entries ≡ links.entries ++ (high, low) ∷ [] = c.in_ok-insert.ensures.entries ∙ adds_link links high low c.self.invariant stays in
-    (λ k. record { seen = c.self.inside.seen.keys; links = added k }) ∙ ap (λ (i : PlainIndex). record { seen = i.seen; links = i.links ++ (high, low) ∷ [] }) copy
+    let added : c.insert.new.self.entries ≡ links.entries ++ (high, low) ∷ [] =
+    c.in_ok-insert.ensures.entries ∙ adds_link links high low c.self.invariant stays in
+    (λ k. record { seen = c.self.inside.seen.keys; links = added k })
+    ∙ ap (λ (i : PlainIndex). record { seen = i.seen; links = i.links ++ (high, low) ∷ [] }) copy

@@ -14,7 +14,8 @@ loop-lower-preserved c =
     let links = c.self.inside.links.entries in
     let x = c.loop-lower.reached in
     let leads = (subst (IsStep links x) (sym c.in-Some.ensures.value) (step links c.self.invariant x)).1 in
-    ap (λ (i : PlainIndex). through i.links c.in-Some.lower.now) (sym c.self.view_is) ∙ leads ∙ ap (λ (i : PlainIndex). through i.links x) c.self.view_is ∙ c.loop-lower.invariant
+    ap (λ (i : PlainIndex). through i.links c.in-Some.lower.now) (sym c.self.view_is) ∙ leads
+    ∙ ap (λ (i : PlainIndex). through i.links x) c.self.view_is ∙ c.loop-lower.invariant
 
 pub returns-clause-reached : goal.returns-clause-reached
 returns-clause-reached c =

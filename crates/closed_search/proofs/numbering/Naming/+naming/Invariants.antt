@@ -15,4 +15,5 @@ abbrev pub decreases-named_parts : goal.decreases-named_parts
 decreases-named_parts l = 4 * l.above
 
 abbrev pub invariant-named_parts-loop-part : goal.invariant-named_parts-loop-part
-invariant-named_parts-loop-part l = AreRenamed l.concepts l.fn.self l.self l.above (take l.part-index l.parts) l.numbers.items
+invariant-named_parts-loop-part l =
+    AreRenamed l.concepts l.fn.self l.self l.above (take l.part-index l.parts) l.numbers.items

@@ -7,4 +7,5 @@ pub returns : goal.returns
 returns g c =
     let es = c.self.inside.entries.items in
     let len : c.len.result ≡ length c.self.inside.facts.items = omega (arith, c.len.ensures) in
-    len ∙ ap length c.self.invariant.0 ∙ places-length is_fact 0 es ∙ facts-count es ∙ ap (λ us. length (facts_in us)) c.self.view_is
+    len ∙ ap length c.self.invariant.0 ∙ places-length is_fact 0 es ∙ facts-count es
+    ∙ ap (λ us. length (facts_in us)) c.self.view_is

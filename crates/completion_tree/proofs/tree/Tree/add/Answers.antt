@@ -11,4 +11,6 @@ invariant_of-self-in-Ok g c =
     let es = c.self.inside.trail in
     let more = Grounded c.args.fact c.args.by ∷ [] in
     let put = c.in-Ok.ensures.put in
-    ap (λ (u : TreeFacts). u.facts) c.in_ok-add.ensures.added ∙ ap (λ (fs : List (Fact ℕ)). fs ++ c.args.fact ∷ []) c.self.invariant ∙ sym (facts_in-append es more) ∙ ap facts_in (sym put)
+    ap (λ (u : TreeFacts). u.facts) c.in_ok-add.ensures.added
+    ∙ ap (λ (fs : List (Fact ℕ)). fs ++ c.args.fact ∷ []) c.self.invariant ∙ sym (facts_in-append es more)
+    ∙ ap facts_in (sym put)

@@ -7,7 +7,8 @@ pub invariant_of-result : goal.invariant_of-result
 invariant_of-result g c = (
   search rules,
   subst (λ (cs : List ℕ). ArePrinted cs c.put_number.new.words) (sym c.in_ok-push-2.ensures.items)
-      (printed_top c.new-concepts.result.items _ c.put_number.new.words c.new-concepts.ensures.items c.put_number.ensures),
+      (printed_top c.new-concepts.result.items _ c.put_number.new.words c.new-concepts.ensures.items
+      c.put_number.ensures),
   search rules,
   search rules,
 )

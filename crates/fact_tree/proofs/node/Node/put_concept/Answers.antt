@@ -9,7 +9,8 @@ pub invariant_of-self-in_err-put_last : goal.invariant_of-self-in_err-put_last
 invariant_of-self-in_err-put_last g c = (
   search rules,
   subst (λ (cs : List ℕ). ArePrinted cs c.put_number.new.words) (sym c.in_err-put_last.ensures.unchanged)
-      (printed_more c.self.inside.concepts.items c.self.inside.print c.put_number.new.words _ c.put_number.ensures c.self.invariant.1),
+      (printed_more c.self.inside.concepts.items c.self.inside.print c.put_number.new.words _ c.put_number.ensures
+      c.self.invariant.1),
   c.put_last.ensures.indexed,
   subst EachIsNew (sym c.in_err-put_last.ensures.unchanged) c.self.invariant.3,
 )
@@ -19,12 +20,20 @@ invariant_of-self-2 g c = (
   record {
     members_short = c.self.invariant.0.members_short;
     concepts_short =
-        omega (arith, ap length c.in_ok-put_last.ensures.put, length-append c.self.inside.concepts.items (c.args.concept ∷ []), c.if-len-ge-MOST.false, c.len.ensures);
+        omega (
+          arith,
+          ap length c.in_ok-put_last.ensures.put,
+          length-append c.self.inside.concepts.items (c.args.concept ∷ []),
+          c.if-len-ge-MOST.false,
+          c.len.ensures,
+        );
     edges_short = c.self.invariant.0.edges_short;
     aparts_short = c.self.invariant.0.aparts_short;
   },
   subst (λ (cs : List ℕ). ArePrinted cs c.put_number.new.words) (sym c.in_ok-put_last.ensures.put)
-      (printed_put c.self.inside.concepts.items c.self.inside.print c.put_number.new.words c.args.concept c.put_number.ensures c.self.invariant.1),
+      (printed_put c.self.inside.concepts.items c.self.inside.print c.put_number.new.words c.args.concept
+      c.put_number.ensures c.self.invariant.1),
   c.put_last.ensures.indexed,
-  new_behind c.self.inside.concepts.items c.put_last.new.concepts.items c.args.concept c.in_ok-put_last.ensures.put (search rules) c.self.invariant.3,
+  new_behind c.self.inside.concepts.items c.put_last.new.concepts.items c.args.concept c.in_ok-put_last.ensures.put
+      (search rules) c.self.invariant.3,
 )

@@ -10,10 +10,14 @@ pub returns-then-names_apart : goal.returns-then-names_apart
 returns-then-names_apart g c =
     let fs = c.args.self.now.facts in
     let other = list_any (gives_first (rep fs) (rep fs c.args.second) (rep fs c.args.first)) fs in
-    c.if-names_apart.true ∙ sym (apart_is_either fs c.args.first c.args.second ∙ ap (λ (b : Bool). b || other) (sym c.names_apart.ensures ∙ c.if-names_apart.true))
+    c.if-names_apart.true
+    ∙ sym (apart_is_either fs c.args.first c.args.second
+    ∙ ap (λ (b : Bool). b || other) (sym c.names_apart.ensures ∙ c.if-names_apart.true))
 
 pub returns-else-names_apart : goal.returns-else-names_apart
 returns-else-names_apart g c =
     let fs = c.args.self.now.facts in
     let other = list_any (gives_first (rep fs) (rep fs c.args.second) (rep fs c.args.first)) fs in
-    c.names_apart-else-names_apart.ensures ∙ sym (apart_is_either fs c.args.first c.args.second ∙ ap (λ (b : Bool). b || other) (sym c.names_apart.ensures ∙ c.if-names_apart.false))
+    c.names_apart-else-names_apart.ensures
+    ∙ sym (apart_is_either fs c.args.first c.args.second
+    ∙ ap (λ (b : Bool). b || other) (sym c.names_apart.ensures ∙ c.if-names_apart.false))

@@ -8,4 +8,5 @@ use Rattle.fact_tree.proofs.tree.FactTree.first.Goals as goal
 pub returns-clause-nodes : goal.returns-clause-nodes
 returns-clause-nodes g c =
     let first = c.self.inside.first in
-    subst (λ (t : TreeFacts). first ≤ node_count_from t.first t.facts) c.self.view_is (first_within first (facts_of c.self.inside.entries.items))
+    subst (λ (t : TreeFacts). first ≤ node_count_from t.first t.facts) c.self.view_is
+    (first_within first (facts_of c.self.inside.entries.items))

@@ -11,5 +11,7 @@ pub returns-then-node-nodes : goal.returns-then-node-nodes
 returns-then-node-nodes g c =
     let first = c.self.inside.first in
     let fs = facts_of c.self.inside.entries.items in
-    let le : node_count_from first fs ≤ c.args.node = omega (arith, c.if-node-nodes.true, c.nodes.ensures.count, ap count_in c.self.view_is) in
-    subst (λ (t : TreeFacts). (c.args.concept == 0) ≡ has t.facts c.args.node c.args.concept) c.self.view_is (has_beyond first fs c.args.node c.args.concept c.self.invariant.2 le)
+    let le : node_count_from first fs ≤ c.args.node =
+    omega (arith, c.if-node-nodes.true, c.nodes.ensures.count, ap count_in c.self.view_is) in
+    subst (λ (t : TreeFacts). (c.args.concept == 0) ≡ has t.facts c.args.node c.args.concept) c.self.view_is
+    (has_beyond first fs c.args.node c.args.concept c.self.invariant.2 le)

@@ -15,5 +15,7 @@ pub returns-then-node-nodes-clause-held : goal.returns-then-node-nodes-clause-he
 returns-then-node-nodes-clause-held g c =
     let first = c.self.inside.first in
     let fs = facts_of c.self.inside.entries.items in
-    let le : node_count_from first fs ≤ c.args.node = omega (arith, c.if-node-nodes.true, c.nodes.ensures.count, ap count_in c.self.view_is) in
-    subst (λ (t : TreeFacts). IsLabel t.facts c.args.node (0 ∷ [])) c.self.view_is (label_beyond first fs c.args.node c.self.invariant.2 le)
+    let le : node_count_from first fs ≤ c.args.node =
+    omega (arith, c.if-node-nodes.true, c.nodes.ensures.count, ap count_in c.self.view_is) in
+    subst (λ (t : TreeFacts). IsLabel t.facts c.args.node (0 ∷ [])) c.self.view_is
+    (label_beyond first fs c.args.node c.self.invariant.2 le)

@@ -13,8 +13,18 @@ node-requires g c =
     let first = c.self.inside.first in
     let fs = facts_of c.self.inside.entries.items in
     let links = kept_linked first fs c.self.invariant.2 in
-    let at = root_is first fs c.self.inside.store c.args.node c.root.result c.self.invariant.2 c.self.invariant.0 c.root.ensures.linked c.root.ensures.beyond in
-    omega (arith, at, links.below c.args.node, c.requires, ap count_in c.self.view_is, count_is first fs c.self.invariant.2, ap (λ (k : Kept). length k.nodes) c.self.invariant.0)
+    let at =
+    root_is first fs c.self.inside.store c.args.node c.root.result c.self.invariant.2 c.self.invariant.0
+    c.root.ensures.linked c.root.ensures.beyond in
+    omega (
+      arith,
+      at,
+      links.below c.args.node,
+      c.requires,
+      ap count_in c.self.view_is,
+      count_is first fs c.self.invariant.2,
+      ap (λ (k : Kept). length k.nodes) c.self.invariant.0,
+    )
 
 pub returns : goal.returns
 returns g c =
@@ -23,8 +33,13 @@ returns g c =
     let x = c.args.node in
     let fit = c.self.invariant.2 in
     let lt : x < node_count_from first fs = omega (arith, c.requires, ap count_in c.self.view_is) in
-    let at = root_is first fs c.self.inside.store x c.root.result fit c.self.invariant.0 c.root.ensures.linked c.root.ensures.beyond in
-    let is : c.node.result.now ≡ lists_at (kept_of first fs) (rep fs x) = c.node.ensures ∙ (λ i. lists_at (c.self.invariant.0 i) (at i)) in
-    let members : c.members.result.now ≡ (lists_at (kept_of first fs) (rep fs x)).members = c.members.ensures ∙ ap (λ (n : Lists). n.members) is in
+    let at =
+    root_is first fs c.self.inside.store x c.root.result fit c.self.invariant.0 c.root.ensures.linked
+    c.root.ensures.beyond in
+    let is : c.node.result.now ≡ lists_at (kept_of first fs) (rep fs x) =
+    c.node.ensures ∙ (λ i. lists_at (c.self.invariant.0 i) (at i)) in
+    let members : c.members.result.now ≡ (lists_at (kept_of first fs) (rep fs x)).members =
+    c.members.ensures ∙ ap (λ (n : Lists). n.members) is in
     subst (λ (t : TreeFacts). AreJoined t.facts (node_count_from t.first t.facts) x c.members.result.now) c.self.view_is
-    (subst (λ (ms : List ℕ). AreJoined fs (node_count_from first fs) x ms) (sym members) (members_are first fs x fit lt))
+    (subst (λ (ms : List ℕ). AreJoined fs (node_count_from first fs) x ms) (sym members)
+    (members_are first fs x fit lt))

@@ -10,5 +10,8 @@ pub returns : goal.returns
 returns g c =
     let fs = c.args.self.now.facts in
     let zs = c.aparts-other-items.result.now in
-    c.loop-other.invariant ∙ ap (list_any (λ (z : ℕ). rep fs z == c.representative-root.result)) (take_whole c.loop-other.other-index zs c.loop-other-test.false ∙ c.aparts-other-items.ensures)
-    ∙ c.lists.ensures.aparts c.representative-root.result ∙ ap (λ (b : ℕ). list_any (gives_first (rep fs) (rep fs c.args.first) b) fs) c.representative-root.ensures
+    c.loop-other.invariant
+    ∙ ap (list_any (λ (z : ℕ). rep fs z == c.representative-root.result))
+    (take_whole c.loop-other.other-index zs c.loop-other-test.false ∙ c.aparts-other-items.ensures)
+    ∙ c.lists.ensures.aparts c.representative-root.result
+    ∙ ap (λ (b : ℕ). list_any (gives_first (rep fs) (rep fs c.args.first) b) fs) c.representative-root.ensures

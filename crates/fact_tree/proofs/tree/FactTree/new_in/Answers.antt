@@ -10,6 +10,7 @@ invariant_of-result g c =
     let none = sym c.new.ensures.items in (
       c.in_ok-new_in.ensures ∙ ap (λ (es : List Entry). kept_of first (facts_of es)) none,
       subst (AreEntries first) none (record { each = λ p d lt. absurd (omega (arith, lt)) }),
-      subst (λ (es : List Entry). AreFit first (facts_of es)) none (record { each = λ p d lt. absurd (omega (arith, lt)) }),
+      subst (λ (es : List Entry). AreFit first (facts_of es)) none
+          (record { each = λ p d lt. absurd (omega (arith, lt)) }),
       c.requires,
     )

@@ -12,12 +12,16 @@ invariant_of-self g c =
     let es = c.self.inside.entries.items in
     let last = c.len-last.result - 1 in
     let e : Entry = c.index.result.now in
-    let at : last + 1 ≡ length es = omega (arith, c.requires, ap (λ (t : TreeFacts). length t.facts) c.self.view_is, facts-length es, c.len-last.ensures) in
+    let at : last + 1 ≡ length es = omega
+    (arith, c.requires, ap (λ (t : TreeFacts). length t.facts) c.self.view_is, facts-length es, c.len-last.ensures) in
     let kept : take last es ≡ c.truncate.new.self.items = sym c.truncate.ensures.items in
     let back = (last_back first es last e at c.self.invariant.1).back in
-    let store = c.undo.ensures ∙ ap (λ (x : Entry). undone x.lengths c.self.inside.store) c.index.ensures ∙ ap (undone (get_or es last e).lengths) c.self.invariant.0 ∙ back in (
+    let store =
+    c.undo.ensures ∙ ap (λ (x : Entry). undone x.lengths c.self.inside.store) c.index.ensures
+    ∙ ap (undone (get_or es last e).lengths) c.self.invariant.0 ∙ back in (
       store ∙ ap (λ (us : List Entry). kept_of first (facts_of us)) kept,
       subst (AreEntries first) kept (first_entries first last es (omega (arith, at)) c.self.invariant.1),
-      subst (λ (us : List Entry). AreFit first (facts_of us)) kept (subst (AreFit first) (facts-take last es) (first_fit first last (facts_of es) c.self.invariant.2)),
+      subst (λ (us : List Entry). AreFit first (facts_of us)) kept
+          (subst (AreFit first) (facts-take last es) (first_fit first last (facts_of es) c.self.invariant.2)),
       c.self.invariant.3,
     )

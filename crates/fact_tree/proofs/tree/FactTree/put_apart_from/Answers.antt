@@ -12,8 +12,14 @@ loop-place-preserved g c =
     let first = c.args.first in
     let part = Apart y (first + i) ∷ [] in
     record {
-      facts = moved_on c.loop-place.self c.add.new.self _ part (apart_from y (first + (i + 1)) (n - (i + 1))) (apart_from y (first + i) (n - i)) c.loop-place.invariant.facts
+      facts =
+          moved_on c.loop-place.self c.add.new.self _ part (apart_from y (first + (i + 1)) (n - (i + 1)))
+          (apart_from y (first + i) (n - i)) c.loop-place.invariant.facts
           (apart_step y first n i c.loop-place-test.true) c.in_ok-add.ensures.added;
-      nodes = count_apart c.loop-place.self c.add.new.self y (first + i) c.in_ok-add.ensures.added ∙ c.loop-place.invariant.nodes;
-      begins = begins_on c.args.self.now c.loop-place.self c.add.new.self part c.loop-place.invariant.begins c.in_ok-add.ensures.added;
+      nodes =
+          count_apart c.loop-place.self c.add.new.self y (first + i) c.in_ok-add.ensures.added
+          ∙ c.loop-place.invariant.nodes;
+      begins =
+          begins_on c.args.self.now c.loop-place.self c.add.new.self part c.loop-place.invariant.begins
+          c.in_ok-add.ensures.added;
     }

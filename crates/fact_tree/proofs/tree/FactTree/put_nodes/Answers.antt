@@ -14,8 +14,12 @@ loop-place-preserved g c =
     let first = c.args.first in
     let part = Edge s x (first + i) ∷ Has (first + i) e ∷ [] in
     record {
-      facts = moved_on c.loop-place.self c.put_node.new.self _ part (new_nodes x s e (first + (i + 1)) (n - (i + 1))) (new_nodes x s e (first + i) (n - i)) c.loop-place.invariant.facts
+      facts =
+          moved_on c.loop-place.self c.put_node.new.self _ part (new_nodes x s e (first + (i + 1)) (n - (i + 1)))
+          (new_nodes x s e (first + i) (n - i)) c.loop-place.invariant.facts
           (nodes_step x s e first n i c.loop-place-test.true) c.in_ok-put_node.ensures.made;
       nodes = omega (arith, c.in_ok-put_node.ensures.nodes);
-      begins = begins_on c.args.self.now c.loop-place.self c.put_node.new.self part c.loop-place.invariant.begins c.in_ok-put_node.ensures.made;
+      begins =
+          begins_on c.args.self.now c.loop-place.self c.put_node.new.self part c.loop-place.invariant.begins
+          c.in_ok-put_node.ensures.made;
     }

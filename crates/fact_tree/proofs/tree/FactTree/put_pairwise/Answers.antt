@@ -10,8 +10,13 @@ loop-place-preserved g c =
     let first = c.args.first in
     let part = apart_from (first + i) (first + i + 1) (n - i - 1) in
     record {
-      facts = moved_on c.loop-place.self c.put_apart_from.new.self _ part (pairwise_apart (first + (i + 1)) (n - (i + 1))) (pairwise_apart (first + i) (n - i)) c.loop-place.invariant.facts
-          (pairwise_step first n i (n - i - 1) c.loop-place-test.true (omega arith)) c.in_ok-put_apart_from.ensures.made;
+      facts =
+          moved_on c.loop-place.self c.put_apart_from.new.self _ part (pairwise_apart (first + (i + 1)) (n - (i + 1)))
+          (pairwise_apart (first + i) (n - i)) c.loop-place.invariant.facts
+          (pairwise_step first n i (n - i - 1) c.loop-place-test.true (omega arith))
+          c.in_ok-put_apart_from.ensures.made;
       nodes = c.in_ok-put_apart_from.ensures.nodes ∙ c.loop-place.invariant.nodes;
-      begins = begins_on c.args.self.now c.loop-place.self c.put_apart_from.new.self part c.loop-place.invariant.begins c.in_ok-put_apart_from.ensures.made;
+      begins =
+          begins_on c.args.self.now c.loop-place.self c.put_apart_from.new.self part c.loop-place.invariant.begins
+          c.in_ok-put_apart_from.ensures.made;
     }

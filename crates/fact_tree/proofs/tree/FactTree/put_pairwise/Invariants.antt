@@ -7,7 +7,8 @@ use Rattle.fact_tree.proofs.tree.FactTree.put_pairwise.Given as goal
 
 abbrev pub invariant-loop-place : goal.invariant-loop-place
 invariant-loop-place g l = record {
-  facts : with_more l.self (pairwise_apart (l.first + l.place) (l.count - l.place)) ≡ with_more l.fn.self (pairwise_apart l.first l.count);
+  facts : with_more l.self (pairwise_apart (l.first + l.place) (l.count - l.place))
+      ≡ with_more l.fn.self (pairwise_apart l.first l.count);
   nodes : count_in l.self ≡ count_in l.fn.self;
   begins : Continues l.fn.self l.self;
 }

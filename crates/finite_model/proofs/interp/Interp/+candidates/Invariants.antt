@@ -19,4 +19,5 @@ abbrev pub invariant-next_in_all-loop-part : goal.invariant-next_in_all-loop-par
 invariant-next_in_all-loop-part l = IsNextAt l.self.size l.from (hold_all (meaning l.self) (parts_of l.parts)) l.next
 
 abbrev pub invariant-next_in_any-loop-part : goal.invariant-next_in_any-loop-part
-invariant-next_in_any-loop-part l = IsNext l.self.size l.from (hold_any (meaning l.self) (parts_of (take l.part-index l.parts))) l.next
+invariant-next_in_any-loop-part l =
+    IsNext l.self.size l.from (hold_any (meaning l.self) (parts_of (take l.part-index l.parts))) l.next

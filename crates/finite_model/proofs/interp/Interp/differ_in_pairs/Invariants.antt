@@ -4,4 +4,5 @@ use Rattle.finite_model.specs.ModelLists.{meaning}
 use Rattle.finite_model.proofs.interp.Interp.differ_in_pairs.Given as goal
 
 abbrev pub invariant-loop-index : goal.invariant-loop-index
-invariant-loop-index l = are_different (meaning l.self) l.individuals ≡ are_different (meaning l.self) (drop l.index l.individuals)
+invariant-loop-index l =
+    are_different (meaning l.self) l.individuals ≡ are_different (meaning l.self) (drop l.index l.individuals)

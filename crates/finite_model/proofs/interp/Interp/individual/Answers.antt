@@ -8,4 +8,6 @@ returns-clause-inside c =
     let k = c.args.self.now in
     let is : c.unwrap_or.result ≡ element_at k.individuals c.args.individual = search rules in
     subst (λ x. x < k.size) (sym is)
-    (placed_inside k (subst (λ (l : ModelLists). IsDomain l.size l.members l.links l.individuals) c.self.view_is c.self.invariant) c.args.individual)
+    (placed_inside k
+    (subst (λ (l : ModelLists). IsDomain l.size l.members l.links l.individuals) c.self.view_is c.self.invariant)
+    c.args.individual)

@@ -8,4 +8,6 @@ loop-role-preserved c =
     let k = c.args.self.now in
     let roles = c.args.roles.now in
     let index = c.loop-role.role-index in
-    more_of_any k.size c.args.from (begins k) roles index 0 (get_or roles index 0) c.loop-role-test.true refl c.loop-role.next c.next_beginning.result c.least-next.result c.loop-role.invariant c.next_beginning.ensures c.least-next.ensures
+    more_of_any k.size c.args.from (begins k) roles index 0 (get_or roles index 0) c.loop-role-test.true refl
+    c.loop-role.next c.next_beginning.result c.least-next.result c.loop-role.invariant c.next_beginning.ensures
+    c.least-next.ensures

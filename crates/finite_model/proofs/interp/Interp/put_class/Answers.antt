@@ -5,6 +5,10 @@ use Rattle.finite_model.proofs.interp.Interp.put_class.Goals as goal
 
 pub invariant_of-self-2 : goal.invariant_of-self-2
 invariant_of-self-2 c =
-    let within : c.args.x < c.self.inside.size = subst (λ (k : ModelLists). c.args.x < k.size) (sym c.self.view_is) c.requires in
-    let put = member_put c.self.inside.size c.args.class c.args.x c.self.inside.members.keys c.self.inside.links.keys c.self.inside.individuals.entries c.self.invariant within in
-    subst (λ ks. IsDomain c.self.inside.size ks c.self.inside.links.keys c.self.inside.individuals.entries) (sym c.in_ok-insert.ensures.keys) put
+    let within : c.args.x < c.self.inside.size =
+    subst (λ (k : ModelLists). c.args.x < k.size) (sym c.self.view_is) c.requires in
+    let put =
+    member_put c.self.inside.size c.args.class c.args.x c.self.inside.members.keys c.self.inside.links.keys
+    c.self.inside.individuals.entries c.self.invariant within in
+    subst (λ ks. IsDomain c.self.inside.size ks c.self.inside.links.keys c.self.inside.individuals.entries)
+    (sym c.in_ok-insert.ensures.keys) put

@@ -15,7 +15,9 @@ returns-then-refutes_at c =
     record {
       below = next.below;
       passes = sym c.refutes_at.ensures ∙ c.if-refutes_at.true;
-      least = all_before p q (unrefuted i c.args.query.now) c.args.self.now.size c.loop-x.from c.in-Some.x next ∙ c.loop-x.invariant.so_far;
+      least =
+          all_before p q (unrefuted i c.args.query.now) c.args.self.now.size c.loop-x.from c.in-Some.x next
+          ∙ c.loop-x.invariant.so_far;
     }
 
 pub loop-x-preserved : goal.loop-x-preserved
@@ -25,7 +27,10 @@ loop-x-preserved c =
     let q : ℕ → Bool = λ x. not (refutes_at i c.args.query.now x) in
     let next = c.in-Some.ensures in
     record {
-      so_far = all_passed p q (unrefuted i c.args.query.now) c.args.self.now.size c.loop-x.from c.in-Some.x c.after-from.result c.loop-x.invariant.so_far next (ap not (sym c.refutes_at.ensures ∙ c.if-refutes_at.false)) c.after-from.ensures;
+      so_far =
+          all_passed p q (unrefuted i c.args.query.now) c.args.self.now.size c.loop-x.from c.in-Some.x
+          c.after-from.result c.loop-x.invariant.so_far next (ap not (sym c.refutes_at.ensures ∙ c.if-refutes_at.false))
+          c.after-from.ensures;
       within = omega (arith, next.below, c.after-from.ensures);
     }
 
@@ -34,4 +39,6 @@ returns c =
     let i = meaning c.args.self.now in
     let p : ℕ → Bool = can_refute i c.args.query.now in
     let q : ℕ → Bool = λ x. not (refutes_at i c.args.query.now x) in
-    all_ended p q (unrefuted i c.args.query.now) c.args.self.now.size c.loop-x.from c.loop-x.invariant.within c.in_default.ensures ∙ c.loop-x.invariant.so_far
+    all_ended p q (unrefuted i c.args.query.now) c.args.self.now.size c.loop-x.from c.loop-x.invariant.within
+    c.in_default.ensures
+    ∙ c.loop-x.invariant.so_far

@@ -5,4 +5,5 @@ use Rattle.finite_model.proofs.interp.Interp.size.Goals as goal
 
 pub returns-clause-places : goal.returns-clause-places
 returns-clause-places c =
-    placed_inside c.args.self.now (subst (λ (k : ModelLists). IsDomain k.size k.members k.links k.individuals) c.self.view_is c.self.invariant)
+    placed_inside c.args.self.now
+    (subst (λ (k : ModelLists). IsDomain k.size k.members k.links k.individuals) c.self.view_is c.self.invariant)

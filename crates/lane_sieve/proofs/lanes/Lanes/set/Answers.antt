@@ -6,4 +6,5 @@ pub index_mut-requires-2 : goal.index_mut-requires-2
 index_mut-requires-2 c = omega (arith, firsts-length _ _ c.self.invariant.1, ap length c.self.view_is)
 
 pub invariant_of-self : goal.invariant_of-self
-invariant_of-self c = (rw length-set c.self.invariant.0, firsts-set c.args.place _ _ c.args.print (omega arith) c.self.invariant.1)
+invariant_of-self c =
+    (rw length-set c.self.invariant.0, firsts-set c.args.place _ _ c.args.print (omega arith) c.self.invariant.1)

@@ -18,11 +18,13 @@ pub decide-requires-clause-is_new : goal.decide-requires-clause-is_new
 decide-requires-clause-is_new c =
     let i = c.self.inside in
     let s = c.args.part.now in
-    let new : ¬ IsAnswered (lists_of i.oracle i.query.now i.among i.first i.asks).gained s i.query.now = subst (λ (a : AskerLists). ¬ IsAnswered a.gained s a.query) (sym c.self.view_is) c.requires.is_new in
+    let new : ¬ IsAnswered (lists_of i.oracle i.query.now i.among i.first i.asks).gained s i.query.now =
+    subst (λ (a : AskerLists). ¬ IsAnswered a.gained s a.query) (sym c.self.view_is) c.requires.is_new in
     is_new i.oracle i.query.now i.among i.first i.asks c.self.invariant.can_ask.others s new
 
 pub returns-then-left-eq0-clause-unknown : goal.returns-then-left-eq0-clause-unknown
-returns-then-left-eq0-clause-unknown c = subst (λ (a : AskerLists). ¬ IsAnswered a.gained c.args.part.now a.query) (sym c.self.view_is) c.requires.is_new
+returns-then-left-eq0-clause-unknown c =
+    subst (λ (a : AskerLists). ¬ IsAnswered a.gained c.args.part.now a.query) (sym c.self.view_is) c.requires.is_new
 
 pub returns-then-left-eq0-clause-shown : goal.returns-then-left-eq0-clause-shown
 returns-then-left-eq0-clause-shown c = λ s h. subst (λ (a : AskerLists). IsShownYes a.gained a.query s) c.self.view_is h
@@ -32,8 +34,10 @@ returns-then-left-eq0-clause-gains c =
     let i = c.self.inside in
     let s = c.args.part.now in
     let a = lists_of i.oracle i.query.now i.among i.first i.asks in
-    subst (λ (n : ℕ). GainsTest c.args.self.now (lists_of i.oracle i.query.now i.among i.first n) s Undecided) (sym c.saturating_add-counted.ensures)
-    (subst (λ (b : AskerLists). GainsTest b (with_asks a (one_more i.asks)) s Undecided) c.self.view_is (gains_none a s))
+    subst (λ (n : ℕ). GainsTest c.args.self.now (lists_of i.oracle i.query.now i.among i.first n) s Undecided)
+    (sym c.saturating_add-counted.ensures)
+    (subst (λ (b : AskerLists). GainsTest b (with_asks a (one_more i.asks)) s Undecided) c.self.view_is
+    (gains_none a s))
 
 pub invariant_of-self-2 : goal.invariant_of-self-2
 invariant_of-self-2 c =
@@ -44,14 +48,20 @@ invariant_of-self-2 c =
     let d = c.decide.ensures in
     let ok = c.in_ok-answer.ensures in
     let v = outcome_of c.in_ok-answer.answer in
-    let new : ¬ IsAnswered a.gained s i.query.now = subst (λ (b : AskerLists). ¬ IsAnswered b.gained s b.query) (sym c.self.view_is) c.requires.is_new in
-    let part : IsPart s.members a.local_part = subst (λ (b : AskerLists). IsPart s.members b.local_part) (sym c.self.view_is) c.requires.local_part in
-    let some : ¬ (spent_of o.log ≡ o.budget) = λ e. absurd (omega (arith, e, c.left.ensures.left, c.if-left-eq0.false)) in
+    let new : ¬ IsAnswered a.gained s i.query.now =
+    subst (λ (b : AskerLists). ¬ IsAnswered b.gained s b.query) (sym c.self.view_is) c.requires.is_new in
+    let part : IsPart s.members a.local_part =
+    subst (λ (b : AskerLists). IsPart s.members b.local_part) (sym c.self.view_is) c.requires.local_part in
+    let some : ¬ (spent_of o.log ≡ o.budget) =
+    λ e. absurd (omega (arith, e, c.left.ensures.left, c.if-left-eq0.false)) in
     subst (IsAsker c.decide.new.self i.query.now i.among i.first i.memo) (sym c.saturating_add-counted.ensures)
-    (after_test o i.query.now i.among i.first i.asks c.decide.new.self s v c.self.invariant.is_log some d.same_ontology d.same_budget ok.entry ok.spent d.within part new i.memo c.self.invariant)
+    (after_test o i.query.now i.among i.first i.asks c.decide.new.self s v c.self.invariant.is_log some d.same_ontology
+    d.same_budget ok.entry ok.spent d.within part new i.memo c.self.invariant)
 
 pub returns-clause-evidence : goal.returns-clause-evidence
-returns-clause-evidence c = subst (λ (a : AskerLists). IsAnswer a.ontology c.args.part.now a.query c.in_ok-answer.answer) c.self.view_is c.in_ok-answer.ensures.answer
+returns-clause-evidence c =
+    subst (λ (a : AskerLists). IsAnswer a.ontology c.args.part.now a.query c.in_ok-answer.answer) c.self.view_is
+    c.in_ok-answer.ensures.answer
 
 pub returns-clause-answer : goal.returns-clause-answer
 returns-clause-answer c =
@@ -62,12 +72,18 @@ returns-clause-answer c =
     let d = c.decide.ensures in
     let ok = c.in_ok-answer.ensures in
     let v = outcome_of c.in_ok-answer.answer in
-    let new : ¬ IsAnswered a.gained s i.query.now = subst (λ (b : AskerLists). ¬ IsAnswered b.gained s b.query) (sym c.self.view_is) c.requires.is_new in
-    let part : IsPart s.members a.local_part = subst (λ (b : AskerLists). IsPart s.members b.local_part) (sym c.self.view_is) c.requires.local_part in
-    let some : ¬ (spent_of o.log ≡ o.budget) = λ e. absurd (omega (arith, e, c.left.ensures.left, c.if-left-eq0.false)) in
-    let limit : s.limit ≡ length o.ontology.axioms = c.requires.limit ∙ ap (λ (b : AskerLists). length b.ontology.axioms) (sym c.self.view_is) in
-    subst (λ (n : ℕ). Answers (asker_meaning (lists_of c.decide.new.self i.query.now i.among i.first n)) s (reply_of v)) (sym c.saturating_add-counted.ensures)
-    (answered o i.query.now i.among i.first i.asks c.decide.new.self s v c.self.invariant.is_log some d.same_ontology d.same_budget ok.entry ok.spent d.within part new i.memo c.self.invariant limit (reply_of v) refl)
+    let new : ¬ IsAnswered a.gained s i.query.now =
+    subst (λ (b : AskerLists). ¬ IsAnswered b.gained s b.query) (sym c.self.view_is) c.requires.is_new in
+    let part : IsPart s.members a.local_part =
+    subst (λ (b : AskerLists). IsPart s.members b.local_part) (sym c.self.view_is) c.requires.local_part in
+    let some : ¬ (spent_of o.log ≡ o.budget) =
+    λ e. absurd (omega (arith, e, c.left.ensures.left, c.if-left-eq0.false)) in
+    let limit : s.limit ≡ length o.ontology.axioms =
+    c.requires.limit ∙ ap (λ (b : AskerLists). length b.ontology.axioms) (sym c.self.view_is) in
+    subst (λ (n : ℕ). Answers (asker_meaning (lists_of c.decide.new.self i.query.now i.among i.first n)) s (reply_of v))
+    (sym c.saturating_add-counted.ensures)
+    (answered o i.query.now i.among i.first i.asks c.decide.new.self s v c.self.invariant.is_log some d.same_ontology
+    d.same_budget ok.entry ok.spent d.within part new i.memo c.self.invariant limit (reply_of v) refl)
 
 pub returns-clause-unknown : goal.returns-clause-unknown
 returns-clause-unknown c =
@@ -78,11 +94,16 @@ returns-clause-unknown c =
     let d = c.decide.ensures in
     let ok = c.in_ok-answer.ensures in
     let v = outcome_of c.in_ok-answer.answer in
-    let new : ¬ IsAnswered a.gained s i.query.now = subst (λ (b : AskerLists). ¬ IsAnswered b.gained s b.query) (sym c.self.view_is) c.requires.is_new in
-    let part : IsPart s.members a.local_part = subst (λ (b : AskerLists). IsPart s.members b.local_part) (sym c.self.view_is) c.requires.local_part in
-    let some : ¬ (spent_of o.log ≡ o.budget) = λ e. absurd (omega (arith, e, c.left.ensures.left, c.if-left-eq0.false)) in
-    subst (λ (n : ℕ). IsUnknown (lists_of c.decide.new.self i.query.now i.among i.first n) s (reply_of v)) (sym c.saturating_add-counted.ensures)
-    (unknown o i.query.now i.among i.first i.asks c.decide.new.self s v c.self.invariant.is_log some d.same_ontology d.same_budget ok.entry ok.spent d.within part new c.self.invariant.first_within (reply_of v) refl)
+    let new : ¬ IsAnswered a.gained s i.query.now =
+    subst (λ (b : AskerLists). ¬ IsAnswered b.gained s b.query) (sym c.self.view_is) c.requires.is_new in
+    let part : IsPart s.members a.local_part =
+    subst (λ (b : AskerLists). IsPart s.members b.local_part) (sym c.self.view_is) c.requires.local_part in
+    let some : ¬ (spent_of o.log ≡ o.budget) =
+    λ e. absurd (omega (arith, e, c.left.ensures.left, c.if-left-eq0.false)) in
+    subst (λ (n : ℕ). IsUnknown (lists_of c.decide.new.self i.query.now i.among i.first n) s (reply_of v))
+    (sym c.saturating_add-counted.ensures)
+    (unknown o i.query.now i.among i.first i.asks c.decide.new.self s v c.self.invariant.is_log some d.same_ontology
+    d.same_budget ok.entry ok.spent d.within part new c.self.invariant.first_within (reply_of v) refl)
 
 pub returns-clause-shown : goal.returns-clause-shown
 returns-clause-shown c =
@@ -93,12 +114,20 @@ returns-clause-shown c =
     let d = c.decide.ensures in
     let ok = c.in_ok-answer.ensures in
     let v = outcome_of c.in_ok-answer.answer in
-    let new : ¬ IsAnswered a.gained s i.query.now = subst (λ (b : AskerLists). ¬ IsAnswered b.gained s b.query) (sym c.self.view_is) c.requires.is_new in
-    let part : IsPart s.members a.local_part = subst (λ (b : AskerLists). IsPart s.members b.local_part) (sym c.self.view_is) c.requires.local_part in
-    let some : ¬ (spent_of o.log ≡ o.budget) = λ e. absurd (omega (arith, e, c.left.ensures.left, c.if-left-eq0.false)) in
-    subst (λ (n : ℕ). ShowsNoOther (asker_meaning c.args.self.now) (asker_meaning (lists_of c.decide.new.self i.query.now i.among i.first n)) (reply_of v)) (sym c.saturating_add-counted.ensures)
-    (subst (λ (b : AskerLists). ShowsNoOther (asker_meaning b) (asker_meaning (lists_of c.decide.new.self i.query.now i.among i.first (one_more i.asks))) (reply_of v)) c.self.view_is
-    (shows o i.query.now i.among i.first i.asks c.decide.new.self s v c.self.invariant.is_log some d.same_ontology d.same_budget ok.entry ok.spent d.within part new c.self.invariant.first_within (reply_of v) refl))
+    let new : ¬ IsAnswered a.gained s i.query.now =
+    subst (λ (b : AskerLists). ¬ IsAnswered b.gained s b.query) (sym c.self.view_is) c.requires.is_new in
+    let part : IsPart s.members a.local_part =
+    subst (λ (b : AskerLists). IsPart s.members b.local_part) (sym c.self.view_is) c.requires.local_part in
+    let some : ¬ (spent_of o.log ≡ o.budget) =
+    λ e. absurd (omega (arith, e, c.left.ensures.left, c.if-left-eq0.false)) in
+    subst (λ (n : ℕ). ShowsNoOther (asker_meaning c.args.self.now)
+    (asker_meaning (lists_of c.decide.new.self i.query.now i.among i.first n)) (reply_of v))
+    (sym c.saturating_add-counted.ensures)
+    (subst (λ (b : AskerLists). ShowsNoOther (asker_meaning b)
+    (asker_meaning (lists_of c.decide.new.self i.query.now i.among i.first (one_more i.asks))) (reply_of v))
+    c.self.view_is
+    (shows o i.query.now i.among i.first i.asks c.decide.new.self s v c.self.invariant.is_log some d.same_ontology
+    d.same_budget ok.entry ok.spent d.within part new c.self.invariant.first_within (reply_of v) refl))
 
 pub returns-clause-gains : goal.returns-clause-gains
 returns-clause-gains c =
@@ -109,9 +138,16 @@ returns-clause-gains c =
     let d = c.decide.ensures in
     let ok = c.in_ok-answer.ensures in
     let v = outcome_of c.in_ok-answer.answer in
-    let new : ¬ IsAnswered a.gained s i.query.now = subst (λ (b : AskerLists). ¬ IsAnswered b.gained s b.query) (sym c.self.view_is) c.requires.is_new in
-    let part : IsPart s.members a.local_part = subst (λ (b : AskerLists). IsPart s.members b.local_part) (sym c.self.view_is) c.requires.local_part in
-    let some : ¬ (spent_of o.log ≡ o.budget) = λ e. absurd (omega (arith, e, c.left.ensures.left, c.if-left-eq0.false)) in
-    subst (λ (n : ℕ). GainsTest c.args.self.now (lists_of c.decide.new.self i.query.now i.among i.first n) s v) (sym c.saturating_add-counted.ensures)
-    (subst (λ (b : AskerLists). GainsTest b (lists_of c.decide.new.self i.query.now i.among i.first (one_more i.asks)) s v) c.self.view_is
-    (gains o i.query.now i.among i.first i.asks c.decide.new.self s v c.self.invariant.is_log some d.same_ontology d.same_budget ok.entry ok.spent d.within part new c.self.invariant.first_within))
+    let new : ¬ IsAnswered a.gained s i.query.now =
+    subst (λ (b : AskerLists). ¬ IsAnswered b.gained s b.query) (sym c.self.view_is) c.requires.is_new in
+    let part : IsPart s.members a.local_part =
+    subst (λ (b : AskerLists). IsPart s.members b.local_part) (sym c.self.view_is) c.requires.local_part in
+    let some : ¬ (spent_of o.log ≡ o.budget) =
+    λ e. absurd (omega (arith, e, c.left.ensures.left, c.if-left-eq0.false)) in
+    subst (λ (n : ℕ). GainsTest c.args.self.now (lists_of c.decide.new.self i.query.now i.among i.first n) s v)
+    (sym c.saturating_add-counted.ensures)
+    (subst
+    (λ (b : AskerLists). GainsTest b (lists_of c.decide.new.self i.query.now i.among i.first (one_more i.asks)) s v)
+    c.self.view_is
+    (gains o i.query.now i.among i.first i.asks c.decide.new.self s v c.self.invariant.is_log some d.same_ontology
+    d.same_budget ok.entry ok.spent d.within part new c.self.invariant.first_within))

@@ -14,8 +14,10 @@ returns-in-Some-clause-known c =
     let known = c.in-Some.known in
     let p = c.in_ok-part.part in
     let new = c.count_ask.new.self in
-    let counted : new ≡ with_asks a (one_more a.asks) = c.count_ask.ensures ∙ ap (λ (b : AskerLists). with_asks b (one_more b.asks)) c.recall.ensures.same in
-    let told : Answers (asker_meaning a) p known = known_is a p c.in_ok-known.field-0 known c.in-Some.is c.in_ok-known.ensures.recalled in (
+    let counted : new ≡ with_asks a (one_more a.asks) =
+    c.count_ask.ensures ∙ ap (λ (b : AskerLists). with_asks b (one_more b.asks)) c.recall.ensures.same in
+    let told : Answers (asker_meaning a) p known =
+    known_is a p c.in_ok-known.field-0 known c.in-Some.is c.in_ok-known.ensures.recalled in (
       counted,
       answers_counted a new (one_more a.asks) s known counted (lifted a s p known c.in_ok-part.ensures.part told),
       known_answers a new (part_in new s) p c.in_ok-known.field-0 known c.in-Some.is c.in_ok-known.ensures.recalled,
@@ -23,5 +25,8 @@ returns-in-Some-clause-known c =
 
 pub returns-clause-known : goal.returns-clause-known
 returns-clause-known c =
-    let p = c.in_ok-part.part in
-    (c.recall.ensures.same, c.in_ok-part.ensures.part, new_if_none c.args.self.now p c.in_ok-known.field-0 c.in_default.not-Some c.in_ok-known.ensures.recalled)
+    let p = c.in_ok-part.part in (
+      c.recall.ensures.same,
+      c.in_ok-part.ensures.part,
+      new_if_none c.args.self.now p c.in_ok-known.field-0 c.in_default.not-Some c.in_ok-known.ensures.recalled,
+    )

@@ -10,11 +10,14 @@ pub returns : goal.returns
 returns c =
     let i = c.self.inside in
     let s = c.args.set.now in
-    let limit : s.limit ≡ length i.oracle.ontology.axioms = c.requires ∙ ap (λ (a : AskerLists). length a.ontology.axioms) (sym c.self.view_is) in
-    let within : IsWithin (length i.oracle.ontology.axioms) s.members = subst (λ (n : ℕ). IsWithin n s.members) limit c.limit-limit.ensures.within in
+    let limit : s.limit ≡ length i.oracle.ontology.axioms =
+    c.requires ∙ ap (λ (a : AskerLists). length a.ontology.axioms) (sym c.self.view_is) in
+    let within : IsWithin (length i.oracle.ontology.axioms) s.members =
+    subst (λ (n : ℕ). IsWithin n s.members) limit c.limit-limit.ensures.within in
     let a = lists_of i.oracle i.query.now i.among i.first i.asks in
     record {
       part = IfOk-weaker c.part_in.result (IsPartIn i.among s) (IsLocalPart c.args.self.now s)
-          (λ p h. subst (λ (b : AskerLists). IsLocalPart b s p) c.self.view_is (is_local a i.among s p refl c.self.invariant.can_ask.keeps within h))
+          (λ p h. subst (λ (b : AskerLists). IsLocalPart b s p) c.self.view_is
+          (is_local a i.among s p refl c.self.invariant.can_ask.keeps within h))
           c.part_in.ensures;
     }

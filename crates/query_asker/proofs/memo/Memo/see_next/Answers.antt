@@ -10,13 +10,15 @@ pub put_found-requires-clause-yes_limits : goal.put_found-requires-clause-yes_li
 put_found-requires-clause-yes_limits c =
     let memo = c.args.self.now in
     let e = c.index-log-self.result in
-    limits_of yes_of Minimal c.args.log.now memo.seen e e (kept_sets memo.yes) c.requires.more (sym c.index-log-self.is) c.requires.yes_limits c.requires.memo.yes_kept
+    limits_of yes_of Minimal c.args.log.now memo.seen e e (kept_sets memo.yes) c.requires.more (sym c.index-log-self.is)
+    c.requires.yes_limits c.requires.memo.yes_kept
 
 pub put_found-requires-clause-no_limits : goal.put_found-requires-clause-no_limits
 put_found-requires-clause-no_limits c =
     let memo = c.args.self.now in
     let e = c.index-log-self.result in
-    limits_of no_of Maximal c.args.log.now memo.seen e e (kept_sets memo.no) c.requires.more (sym c.index-log-self.is) c.requires.no_limits c.requires.memo.no_kept
+    limits_of no_of Maximal c.args.log.now memo.seen e e (kept_sets memo.no) c.requires.more (sym c.index-log-self.is)
+    c.requires.no_limits c.requires.memo.no_kept
 
 pub returns-clause-memo : goal.returns-clause-memo
 returns-clause-memo c =
@@ -24,12 +26,20 @@ returns-clause-memo c =
     let old = c.requires.memo in
     let put = c.in_ok-put_found.ensures in
     let e = c.index-log-self.result in
-    let yes' : KeepsWithAll Minimal (yes_of e) (kept_sets memo.yes) (kept_sets c.put_found.new.yes) = subst (λ (k : Kind). KeepsWithAll k (yes_of e) (kept_sets memo.yes) (kept_sets c.put_found.new.yes)) old.yes_kind put.yes in
-    let no' : KeepsWithAll Maximal (no_of e) (kept_sets memo.no) (kept_sets c.put_found.new.no) = subst (λ (k : Kind). KeepsWithAll k (no_of e) (kept_sets memo.no) (kept_sets c.put_found.new.no)) old.no_kind put.no in
+    let yes' : KeepsWithAll Minimal (yes_of e) (kept_sets memo.yes) (kept_sets c.put_found.new.yes) =
+    subst (λ (k : Kind). KeepsWithAll k (yes_of e) (kept_sets memo.yes) (kept_sets c.put_found.new.yes)) old.yes_kind
+    put.yes in
+    let no' : KeepsWithAll Maximal (no_of e) (kept_sets memo.no) (kept_sets c.put_found.new.no) =
+    subst (λ (k : Kind). KeepsWithAll k (no_of e) (kept_sets memo.no) (kept_sets c.put_found.new.no)) old.no_kind
+    put.no in
     record {
       within = omega (arith, c.requires.more);
       yes_kind = put.yes_kind ∙ old.yes_kind;
       no_kind = put.no_kind ∙ old.no_kind;
-      yes_kept = kept_more yes_of Minimal c.args.log.now memo.seen e e (kept_sets memo.yes) (kept_sets c.put_found.new.yes) c.requires.more (sym c.index-log-self.is) old.yes_kept yes';
-      no_kept = kept_more no_of Maximal c.args.log.now memo.seen e e (kept_sets memo.no) (kept_sets c.put_found.new.no) c.requires.more (sym c.index-log-self.is) old.no_kept no';
+      yes_kept =
+          kept_more yes_of Minimal c.args.log.now memo.seen e e (kept_sets memo.yes) (kept_sets c.put_found.new.yes)
+          c.requires.more (sym c.index-log-self.is) old.yes_kept yes';
+      no_kept =
+          kept_more no_of Maximal c.args.log.now memo.seen e e (kept_sets memo.no) (kept_sets c.put_found.new.no)
+          c.requires.more (sym c.index-log-self.is) old.no_kept no';
     }

@@ -16,5 +16,7 @@ loop-place-preserved c =
     let edge = Edge n.role n.from (n.first + place) in
     let has = Has (n.first + place) n.concept in
     let first : knowing c.add.new.self (has ∷ rest) ≡ all =
-    know_step c.loop-place.self c.add.new.self all (edge ∷ []) (has ∷ rest) left c.in_ok-add.ensures (next_edge n.from n.role n.concept n.first place n.count c.loop-place-test.true) c.loop-place.invariant in
-    know_step c.add.new.self c.add-in-loop-place.new.self all (has ∷ []) rest (has ∷ rest) c.in_ok-add-2.ensures refl first
+    know_step c.loop-place.self c.add.new.self all (edge ∷ []) (has ∷ rest) left c.in_ok-add.ensures
+    (next_edge n.from n.role n.concept n.first place n.count c.loop-place-test.true) c.loop-place.invariant in
+    know_step c.add.new.self c.add-in-loop-place.new.self all (has ∷ []) rest (has ∷ rest) c.in_ok-add-2.ensures refl
+    first

@@ -21,7 +21,9 @@ returns-in_ok-add-in-Some c =
     let next = c.in-Some.next in
     let k = c.self.inside.branch in
     let part = taken all left next k c.in-Some.ensures.items c.self.invariant in
-    let now : c.add.new.self ≡ branch_at k next = c.in_ok-add-in-Some.ensures.added ∙ ap (λ (b : Branch). branch_with_facts b (next.fact ∷ [])) c.undo_to.ensures in
+    let now : c.add.new.self ≡ branch_at k next =
+    c.in_ok-add-in-Some.ensures.added ∙ ap (λ (b : Branch). branch_with_facts b (next.fact ∷ [])) c.undo_to.ensures in
     let same = next_waits all left next k c.add.new.self c.in-Some.ensures.items part now in
     let open_now : c.self.inside.closed ≡ false = ap (λ (o : Open). o.closed) c.self.view_is ∙ c.requires in
-    ap (λ (b : Bool). branches_of b c.add.new.self (branches_at c.add.new.self left)) open_now ∙ same ∙ ap (λ (o : Open). o.waiting) c.self.view_is
+    ap (λ (b : Bool). branches_of b c.add.new.self (branches_at c.add.new.self left)) open_now ∙ same
+    ∙ ap (λ (o : Open). o.waiting) c.self.view_is

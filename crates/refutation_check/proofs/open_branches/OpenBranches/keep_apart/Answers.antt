@@ -11,8 +11,11 @@ loop-place-preserved c =
     let place = c.loop-place.place in
     let count = c.args.count in
     let left : count - 1 - place ≡ count - (place + 1) = omega arith in
-    let kept : c.keep_from.new.self ≡ knowing c.loop-place.self (apart_from (first + place) (first + place + 1) (count - (place + 1))) =
-    c.in_ok-keep_from.ensures ∙ ap (λ n. knowing c.loop-place.self (apart_from (first + place) (first + place + 1) n)) left in
-    know_step c.loop-place.self c.keep_from.new.self (knowing c.args.self.now (pairwise_apart first count)) (apart_from (first + place) (first + place + 1) (count - (place + 1)))
+    let kept : c.keep_from.new.self
+    ≡ knowing c.loop-place.self (apart_from (first + place) (first + place + 1) (count - (place + 1))) =
+    c.in_ok-keep_from.ensures
+    ∙ ap (λ n. knowing c.loop-place.self (apart_from (first + place) (first + place + 1) n)) left in
+    know_step c.loop-place.self c.keep_from.new.self (knowing c.args.self.now (pairwise_apart first count))
+    (apart_from (first + place) (first + place + 1) (count - (place + 1)))
     (pairwise_apart (first + (place + 1)) (count - (place + 1))) (pairwise_apart (first + place) (count - place))
     kept (next_pairs first place count c.loop-place-test.true) c.loop-place.invariant

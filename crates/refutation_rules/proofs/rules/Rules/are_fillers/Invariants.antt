@@ -6,4 +6,6 @@ use Rattle.refutation_rules.specs.RefutationContext.{theory}
 use Rattle.refutation_rules.proofs.rules.Rules.are_fillers.Given as goal
 
 abbrev pub invariant-loop-end : goal.invariant-loop-end
-invariant-loop-end l = l.fill ≡ are_fillers (theory l.self) (known_of l.self.table l.fn.branch) l.node l.role (tree_of l.self.table l.filler) (take l.end-index l.ends)
+invariant-loop-end l =
+    l.fill ≡ are_fillers (theory l.self) (known_of l.self.table l.fn.branch) l.node l.role
+    (tree_of l.self.table l.filler) (take l.end-index l.ends)

@@ -6,5 +6,7 @@ pub returns-clause-outcome : goal.returns-clause-outcome
 returns-clause-outcome c =
     let a = c.args in
     IfOk-weaker c.either.result _ _
-    (λ o are. chosen a.self.now c.negated.new.self a.branch.now a.node a.concept c.in-Some.number c.in_ok-complement.complement o c.negated.ensures.same c.negated.ensures.kept c.requires.listed c.in-Some.ensures c.in_ok-complement.ensures.number are)
+    (λ o are. chosen a.self.now c.negated.new.self a.branch.now a.node a.concept c.in-Some.number
+    c.in_ok-complement.complement o c.negated.ensures.same c.negated.ensures.kept c.requires.listed c.in-Some.ensures
+    c.in_ok-complement.ensures.number are)
     c.either.ensures

@@ -7,4 +7,6 @@ returns-in-Name c =
     class_held c.args.self.now c.args.branch.now c.args.node c.args.concept c.in-Name.class held
 
 pub returns-in_default-shape : goal.returns-in_default-shape
-returns-in_default-shape c = class_none c.args.self.now c.args.branch.now c.args.node c.args.concept c.in-Some.shape c.in-Some.ensures c.in_default-shape.not-Name
+returns-in_default-shape c =
+    class_none c.args.self.now c.args.branch.now c.args.node c.args.concept c.in-Some.shape c.in-Some.ensures
+    c.in_default-shape.not-Name

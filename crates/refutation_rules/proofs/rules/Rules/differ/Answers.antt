@@ -9,4 +9,5 @@ returns c =
     let a = c.args in
     let f = a.self.now in
     let k = a.branch.now in
-    closed_by f k (differ_line a.first a.second) _ c.are_differing.result c.closed_if.result refl (c.are_differing.ensures ∙ differ_read f.table k a.first a.second) c.closed_if.ensures
+    closed_by f k (differ_line a.first a.second) _ c.are_differing.result c.closed_if.result refl
+    (c.are_differing.ensures ∙ differ_read f.table k a.first a.second) c.closed_if.ensures

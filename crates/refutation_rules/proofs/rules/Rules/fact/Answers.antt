@@ -13,4 +13,6 @@ returns-clause-outcome c =
     let line = fact_line a.axiom a.place in
     let known = sym c.knows.ensures ∙ c.if-not-knows.false in
     IfOk-weaker c.one_fact.result _ _
-    (λ o is. fact_given g k line ((question g).fact_of a.axiom a.place) c.in_ok-fact.fact o refl known c.in_ok-fact.ensures.fact is) c.one_fact.ensures
+    (λ o is. fact_given g k line ((question g).fact_of a.axiom a.place) c.in_ok-fact.fact o refl known
+    c.in_ok-fact.ensures.fact is)
+    c.one_fact.ensures

@@ -13,7 +13,9 @@ returns-then-own c =
     let a = c.args in
     let kind : ℕ → Bool = λ r. (theory f).below r a.role in
     let is = (test_is_below (role_axioms f.axioms f.named) a.role a.role).1 (itself a.role) in
-    let own = edge_own a.branch.now.facts kind a.role c.role_bound-bound.result a.from a.to is (λ r le. c.role_bound-bound.ensures r a.role le) (sym c.has_edge-own.ensures ∙ c.if-own.true) in
+    let own =
+    edge_own a.branch.now.facts kind a.role c.role_bound-bound.result a.from a.to is
+    (λ r le. c.role_bound-bound.ensures r a.role le) (sym c.has_edge-own.ensures ∙ c.if-own.true) in
     c.if-own.true ∙ sym (edge_read f.table a.branch.now.facts kind a.from a.to ∙ own)
 
 pub returns-else-own : goal.returns-else-own
@@ -22,5 +24,7 @@ returns-else-own c =
     let a = c.args in
     let kind : ℕ → Bool = λ r. (theory f).below r a.role in
     let is = (test_is_below (role_axioms f.axioms f.named) a.role a.role).1 (itself a.role) in
-    let lower = edge_lower a.branch.now.facts kind a.role c.role_bound-bound.result a.from a.to is (λ r le. c.role_bound-bound.ensures r a.role le) (sym c.has_edge-own.ensures ∙ c.if-own.false) in
+    let lower =
+    edge_lower a.branch.now.facts kind a.role c.role_bound-bound.result a.from a.to is
+    (λ r le. c.role_bound-bound.ensures r a.role le) (sym c.has_edge-own.ensures ∙ c.if-own.false) in
     c.has_lower_edge.ensures ∙ sym (edge_read f.table a.branch.now.facts kind a.from a.to ∙ lower)

@@ -13,6 +13,7 @@ returns c =
       parts_below = c.shape.ensures.parts;
       normal = c.shape.ensures.normal;
       goes_on = λ answer.
-          at_held (known_of f.table c.args.branch.now) c.args.node (concept_at f.shapes c.args.concept) answer (tree_of f.table c.in-Some.number) at.0 (sym c.is_in.ensures ∙ c.if-not-is_in.false)
+          at_held (known_of f.table c.args.branch.now) c.args.node (concept_at f.shapes c.args.concept) answer
+          (tree_of f.table c.in-Some.number) at.0 (sym c.is_in.ensures ∙ c.if-not-is_in.false)
           ∙ ap answer c.shape.ensures.tree;
     }

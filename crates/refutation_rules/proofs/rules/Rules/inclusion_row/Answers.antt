@@ -4,4 +4,6 @@ use Rattle.refutation_rules.proofs.rules.Rules.inclusion_row.Goals as goal
 pub invariant_of-self : goal.invariant_of-self
 invariant_of-self c =
     let i = c.self.inside in
-    context_stays i.individuals i.rows c.inclusion_row.new.self i.refutation.now.shapes i.query.now i.roles i.numbers.items i.sub i.not_sup i.bottom c.self.invariant c.inclusion_row.ensures.kept c.inclusion_row.ensures.axioms
+    context_stays i.individuals i.rows c.inclusion_row.new.self i.refutation.now.shapes i.query.now i.roles
+    i.numbers.items i.sub i.not_sup i.bottom c.self.invariant c.inclusion_row.ensures.kept
+    c.inclusion_row.ensures.axioms

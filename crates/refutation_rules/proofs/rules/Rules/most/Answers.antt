@@ -15,10 +15,13 @@ returns-in-Max c =
     let a = c.args in
     let held = rw c.in-Max.is at c.in-Some.ensures in
     closed_by a.self.now a.branch.now (most_line a.node a.concept a.ends.now) _ c.exceed.result c.closed_if.result
-    (most_held a.self.now a.branch.now a.node a.concept c.in-Max.count c.in-Max.role c.in-Max.filler a.ends.now held) c.exceed.ensures c.closed_if.ensures
+    (most_held a.self.now a.branch.now a.node a.concept c.in-Max.count c.in-Max.role c.in-Max.filler a.ends.now held)
+    c.exceed.ensures c.closed_if.ensures
 
 pub returns-in_default-shape : goal.returns-in_default-shape
 returns-in_default-shape c = record {
-  children = most_none c.args.self.now c.args.branch.now c.args.node c.args.concept c.args.ends.now c.in-Some.shape c.in-Some.ensures c.in_default-shape.not-Max;
+  children =
+      most_none c.args.self.now c.args.branch.now c.args.node c.args.concept c.args.ends.now c.in-Some.shape
+      c.in-Some.ensures c.in_default-shape.not-Max;
   fit = tt;
 }

@@ -15,4 +15,5 @@ returns-clause-outcome c =
     let line = range_line a.node a.end a.axiom in
     let adds = range_adds g k a.node a.end (part_at (theory g) a.axiom 1) c.in_ok-row.row c.in_ok-row.ensures.row in
     let found = subst (λ (n : Option ℕ). LineAdds g k line a.end n) (sym c.class_of_end-concept.ensures) adds in
-    IfOk-weaker c.one_more.result _ _ (λ o is. added g k line a.end c.class_of_end-concept.result o found is) c.one_more.ensures
+    IfOk-weaker c.one_more.result _ _ (λ o is. added g k line a.end c.class_of_end-concept.result o found is)
+    c.one_more.ensures

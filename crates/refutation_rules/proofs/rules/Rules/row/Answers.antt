@@ -15,6 +15,9 @@ returns-clause-outcome c =
     let g = c.inclusion_row.new.self in
     let line = row_line a.node a.axiom a.part a.positions.now in
     let listed = (branch_stays a.self.now.table g.table k c.inclusion_row.ensures.kept c.requires).listed in
-    let adds = row_adds g.table c.inclusion_row.ensures.table k listed a.node (part_at (theory g) a.axiom a.part) a.positions.now c.in_ok-row.row c.in_ok-row.ensures.row in
+    let adds =
+    row_adds g.table c.inclusion_row.ensures.table k listed a.node (part_at (theory g) a.axiom a.part) a.positions.now
+    c.in_ok-row.row c.in_ok-row.ensures.row in
     let found = subst (λ (n : Option ℕ). LineAdds g k line a.node n) (sym c.used-concept.ensures) adds in
-    IfOk-weaker c.one_more.result _ _ (λ o is. added g k line a.node c.used-concept.result o found is) c.one_more.ensures
+    IfOk-weaker c.one_more.result _ _ (λ o is. added g k line a.node c.used-concept.result o found is)
+    c.one_more.ensures

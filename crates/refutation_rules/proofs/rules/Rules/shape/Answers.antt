@@ -21,4 +21,5 @@ returns-clause-parts c =
     let shape = rw c.concepts.ensures at c.shape.ensures.shape in
     let long = length c.self.inside.rows.table in
     rw (← c.self.view_is)
-    (ap (has_parts_below long) shape ∙ parts_more c.args.number long _ (omega arith) (table.parts_below c.args.number lt))
+    (ap (has_parts_below long) shape
+    ∙ parts_more c.args.number long _ (omega arith) (table.parts_below c.args.number lt))

@@ -10,5 +10,7 @@ returns-then-fits c =
     let keys = c.self.inside.shapes.keys in
     let forms : map form_of_owned keys ≡ c.args.self.now.shapes = ap (λ k. k.shapes) c.self.view_is in
     let s = form_of_owned c.args.shape.now in
-    let listed = c.contains.ensures ∙ kept_listed c.args.shape.now keys ∙ ap (λ (t : List Shape). is_among_shapes t s) forms in
-    ap not listed ∙ ap (λ (b : Bool). b && not (is_among_shapes c.args.self.now.shapes s)) (sym c.if-fits.true ∙ c.fits.ensures)
+    let listed =
+    c.contains.ensures ∙ kept_listed c.args.shape.now keys ∙ ap (λ (t : List Shape). is_among_shapes t s) forms in
+    ap not listed
+    ∙ ap (λ (b : Bool). b && not (is_among_shapes c.args.self.now.shapes s)) (sym c.if-fits.true ∙ c.fits.ensures)

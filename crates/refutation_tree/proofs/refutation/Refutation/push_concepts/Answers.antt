@@ -14,7 +14,8 @@ loop-index-preserved c =
     let lt : i < length shapes = omega (arith, c.loop-index-test.true, c.shape_count-index-end.ensures.count) in
     record {
       text = ap (λ (t : List ℕ). t ++ text_of (concept_lines o (i + 1 + 1) (drop (i + 1) shapes)))
-          (c.in_ok-push_concept.ensures ∙ ap (λ (s : Shape). before ++ (concept_line o (i + 1) s ++ 10 ∷ [])) c.shape.ensures.shape)
+          (c.in_ok-push_concept.ensures
+          ∙ ap (λ (s : Shape). before ++ (concept_line o (i + 1) s ++ 10 ∷ [])) c.shape.ensures.shape)
           ∙ line_first o shapes i lt before ∙ c.loop-index.invariant.text;
       listed = (listed_first o shapes i lt c.loop-index.invariant.listed).1;
     }

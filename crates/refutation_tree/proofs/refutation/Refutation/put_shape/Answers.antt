@@ -10,15 +10,20 @@ pub invariant_of-self-2 : goal.invariant_of-self-2
 invariant_of-self-2 c =
     let keys = c.self.inside.shapes.keys in
     let forms : map form_of_owned keys ≡ c.args.self.now.shapes = ap (λ k. k.shapes) c.self.view_is in
-    let admitted = subst (λ (t : List Shape). admits t (form_of_owned c.args.shape) ≡ true) (sym forms) c.requires.admitted in
-    kept_pushed keys c.insert.new.self.keys c.args.shape c.in_ok-insert.ensures.keys admitted _ (ap (λ k. k.lines) c.self.view_is ∙ c.requires.lines) (subst (λ (t : List Shape). length t + 1 < 2 ^ 32) (sym forms) c.requires.room) c.self.invariant.are_shapes
+    let admitted =
+    subst (λ (t : List Shape). admits t (form_of_owned c.args.shape) ≡ true) (sym forms) c.requires.admitted in
+    kept_pushed keys c.insert.new.self.keys c.args.shape c.in_ok-insert.ensures.keys admitted _
+    (ap (λ k. k.lines) c.self.view_is ∙ c.requires.lines)
+    (subst (λ (t : List Shape). length t + 1 < 2 ^ 32) (sym forms) c.requires.room) c.self.invariant.are_shapes
 
 pub returns-clause-ok : goal.returns-clause-ok
 returns-clause-ok c =
     let keys = c.self.inside.shapes.keys in
     let forms : map form_of_owned keys ≡ c.args.self.now.shapes = ap (λ k. k.shapes) c.self.view_is in
-    let admitted = subst (λ (t : List Shape). admits t (form_of_owned c.args.shape) ≡ true) (sym forms) c.requires.admitted in
+    let admitted =
+    subst (λ (t : List Shape). admits t (form_of_owned c.args.shape) ≡ true) (sym forms) c.requires.admitted in
     let after = c.insert.new.self.keys in
     let pushed = forms_pushed keys after c.args.shape c.in_ok-insert.ensures.keys admitted in
     ap (λ (k : RefutationLists). record k { shapes = map form_of_owned after }) c.self.view_is
-    ∙ ap (λ (t : List Shape). record c.args.self.now { shapes = t }) (pushed ∙ ap (λ (t : List Shape). t ++ form_of_owned c.args.shape ∷ []) forms)
+    ∙ ap (λ (t : List Shape). record c.args.self.now { shapes = t })
+    (pushed ∙ ap (λ (t : List Shape). t ++ form_of_owned c.args.shape ∷ []) forms)

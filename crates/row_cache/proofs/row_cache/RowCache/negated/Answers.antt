@@ -4,4 +4,5 @@ use Rattle.row_cache.proofs.row_cache.RowCache.negated.Goals as goal
 pub invariant_of-self : goal.invariant_of-self
 invariant_of-self c =
     let i = c.self.inside in
-    table_stays i.ontology.now.axioms i.named.now i.concepts c.negated.new.self i.rows.entries i.ranges.entries c.negated.ensures.kept c.self.invariant
+    table_stays i.ontology.now.axioms i.named.now i.concepts c.negated.new.self i.rows.entries i.ranges.entries
+    c.negated.ensures.kept c.self.invariant

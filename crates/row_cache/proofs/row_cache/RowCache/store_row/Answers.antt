@@ -5,5 +5,6 @@ pub invariant_of-self : goal.invariant_of-self
 invariant_of-self c =
     let i = c.self.inside in
     let a = c.args in
-    row_stored i.ontology.now.axioms i.named.now i.concepts a.axiom i.rows c.store_row.new.rows i.ranges.entries a.part (record { positions = a.positions.now; row = a.row.now }) c.store_row.result
+    row_stored i.ontology.now.axioms i.named.now i.concepts a.axiom i.rows c.store_row.new.rows i.ranges.entries a.part
+    (record { positions = a.positions.now; row = a.row.now }) c.store_row.result
     c.store_row.ensures.stored c.store_row.ensures.unchanged (rw (← c.self.view_is) at c.requires) c.self.invariant

@@ -6,10 +6,13 @@ use Rattle.search_rules.proofs.Stays.{kept_all}
 use Rattle.search_rules.proofs.search_rules.SearchRules.build.Goals as goal
 
 pub build-requires : goal.build-requires
-build-requires c = members_within c.args.set.now _ c.deref.result.now (c.deref.ensures.value ∙ c.in_ok-only.ensures) c.requires.numbers
+build-requires c =
+    members_within c.args.set.now _ c.deref.result.now (c.deref.ensures.value ∙ c.in_ok-only.ensures) c.requires.numbers
 
 pub build-requires-3-clause-numbers : goal.build-requires-3-clause-numbers
-build-requires-3-clause-numbers c = members_within c.args.set.now _ c.deref-2.result.now (c.deref-2.ensures.value ∙ c.in_ok-only.ensures) c.requires.numbers
+build-requires-3-clause-numbers c =
+    members_within c.args.set.now _ c.deref-2.result.now (c.deref-2.ensures.value ∙ c.in_ok-only.ensures)
+    c.requires.numbers
 
 pub invariant_of-result : goal.invariant_of-result
 invariant_of-result c =
@@ -20,6 +23,11 @@ invariant_of-result c =
     let e = c.put_complements_of_names.new.concepts in
     let d = c.closed_tables.new.concepts in
     let same_only = c.deref.ensures.value ∙ sym c.deref-2.ensures.value in
-    kept_all o c.args.set.now c.in_ok-try_clone.field-0 only c.in_ok-roles.roles a b d c.in_ok-rows.rows c.in_ok-given.given c.in_ok-numbers.numbers c.in_ok-edges.edges
-    c.requires.in_limit c.in_ok-try_clone.ensures (c.deref-2.ensures.value ∙ c.in_ok-only.ensures) (c.in_ok-roles.ensures ∙ ap (role_axioms o.axioms) same_only) c.closed_tables.ensures.table c.in_ok-numbers.ensures.closed
-    c.in_ok-given.ensures.kept (extends_twice b e d c.put_complements_of_names.ensures.kept c.closed_tables.ensures.kept) c.in_ok-rows.ensures.table c.in_ok-given.ensures.given c.in_ok-numbers.ensures.tables c.in_ok-edges.ensures
+    kept_all o c.args.set.now c.in_ok-try_clone.field-0 only c.in_ok-roles.roles a b d c.in_ok-rows.rows
+    c.in_ok-given.given c.in_ok-numbers.numbers c.in_ok-edges.edges
+    c.requires.in_limit c.in_ok-try_clone.ensures (c.deref-2.ensures.value ∙ c.in_ok-only.ensures)
+    (c.in_ok-roles.ensures ∙ ap (role_axioms o.axioms) same_only) c.closed_tables.ensures.table
+    c.in_ok-numbers.ensures.closed
+    c.in_ok-given.ensures.kept
+    (extends_twice b e d c.put_complements_of_names.ensures.kept c.closed_tables.ensures.kept)
+    c.in_ok-rows.ensures.table c.in_ok-given.ensures.given c.in_ok-numbers.ensures.tables c.in_ok-edges.ensures

@@ -7,4 +7,5 @@ use Rattle.search_rules.proofs.search_rules.SearchRulesRules.given_into.Goals as
 pub returns : goal.returns
 returns c =
     subst (λ (r : RuleLists). AreGivenInto (context_in r) c.args.node c.edges_into.result.now) c.self.view_is
-    (subst (AreGivenInto _ c.args.node) (sym c.edges_into.ensures) (edges_are _ c.args.node _ c.self.invariant.ready.facts_are))
+    (subst (AreGivenInto _ c.args.node) (sym c.edges_into.ensures)
+    (edges_are _ c.args.node _ c.self.invariant.ready.facts_are))

@@ -10,4 +10,5 @@ pub returns-clause-ranged : goal.returns-clause-ranged
 returns-clause-ranged c = ranges_first c.args.self.now.ontology.axioms (numbers_in c.args.self.now)
 
 pub returns-clause-filed : goal.returns-clause-filed
-returns-clause-filed c = subst (λ (r : RuleLists). AreFiled (context_in r) (files_in r)) c.self.view_is (filed _ c.self.invariant.ready)
+returns-clause-filed c =
+    subst (λ (r : RuleLists). AreFiled (context_in r) (files_in r)) c.self.view_is (filed _ c.self.invariant.ready)

@@ -9,11 +9,13 @@ use Rattle.search_state.proofs.progress.Progress.choose.Goals as goal
 
 pub left_after_first-requires : goal.left_after_first-requires
 left_after_first-requires g c =
-    alternative_counts (g.R.Rules.context c.args.rules.now).table (branch_of c.args.choosing.now) 1 c.requires.choosable.first c.requires.choosable.is_first
+    alternative_counts (g.R.Rules.context c.args.rules.now).table (branch_of c.args.choosing.now) 1
+    c.requires.choosable.first c.requires.choosable.is_first
 
 pub first_of-fact-requires-clause-some : goal.first_of-fact-requires-clause-some
 first_of-fact-requires-clause-some g c =
-    alternative_counts (g.R.Rules.context c.args.rules.now).table (branch_of c.args.choosing.now) 1 c.requires.choosable.first c.requires.choosable.is_first
+    alternative_counts (g.R.Rules.context c.args.rules.now).table (branch_of c.args.choosing.now) 1
+    c.requires.choosable.first c.requires.choosable.is_first
 
 pub first_of-fact-requires-clause-numbered : goal.first_of-fact-requires-clause-numbered
 first_of-fact-requires-clause-numbered g c = c.in_ok-resting.ensures.alternatives.numbered
@@ -23,9 +25,11 @@ put_choice-requires-clause-fits g c =
     let w = g.R.Rules.context c.args.rules.now in
     let fs = facts_in c.args.self.now.entries in
     subst (λ (k : ℕ). IsFit (node_count_from k fs) c.first_of-fact.result) (sym c.requires.standing.first_is)
-    (alternative_fits w.table (node_count_from w.first fs) (branch_of c.args.choosing.now) 1 c.first_of-fact.result c.first_of-fact.ensures (choice_on w fs c.args.choosing.now c.requires.choosable.why))
+    (alternative_fits w.table (node_count_from w.first fs) (branch_of c.args.choosing.now) 1 c.first_of-fact.result
+    c.first_of-fact.ensures (choice_on w fs c.args.choosing.now c.requires.choosable.why))
 
 pub look-requires-clause-lookable : goal.look-requires-clause-lookable
 look-requires-clause-lookable g c =
     let w = g.R.Rules.context c.args.rules.now in
-    lookable w c.put_choice.new.self c.in_ok-put_choice.ensures.moved.standing c.first_of-fact.result c.in_ok-put_choice.ensures.last
+    lookable w c.put_choice.new.self c.in_ok-put_choice.ensures.moved.standing c.first_of-fact.result
+    c.in_ok-put_choice.ensures.last

@@ -22,6 +22,9 @@ returns g c =
     let w = g.R.Rules.context c.args.rules.now in
     let old = c.args.self.now in
     let new = c.close_child.new.self in
-    let trace : new ≡ record old { trace = closed_trace old.trace (line_of c.args.resting.line) c.args.resting.marks } = c.in_ok-close_child.ensures.trace in
-    let same : new ≡ record old { trace = new.trace } = trace ∙ ap (λ t. record old { trace = t }) (sym (ap (λ (q : ProgressLists). q.trace) trace)) in
-    closing_is_closed w old new same (subst (λ (b : Back). HasGoneBack w new b) c.in-Closed.is c.in_ok-close_child.ensures.gone_back)
+    let trace : new ≡ record old { trace = closed_trace old.trace (line_of c.args.resting.line) c.args.resting.marks } =
+    c.in_ok-close_child.ensures.trace in
+    let same : new ≡ record old { trace = new.trace } =
+    trace ∙ ap (λ t. record old { trace = t }) (sym (ap (λ (q : ProgressLists). q.trace) trace)) in
+    closing_is_closed w old new same
+    (subst (λ (b : Back). HasGoneBack w new b) c.in-Closed.is c.in_ok-close_child.ensures.gone_back)

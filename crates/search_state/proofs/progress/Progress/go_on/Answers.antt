@@ -5,8 +5,10 @@ use Rattle.search_state.proofs.progress.Progress.go_on.Goals as goal
 
 pub make-requires-clause-none : goal.make-requires-clause-none
 make-requires-clause-none g c =
-    subst (λ (s : ProgressLists). IsClashOf (g.R.Rules.context c.args.rules.now) (facts_in s.entries) None) (sym c.latest_at_any.ensures.same) c.requires.none
+    subst (λ (s : ProgressLists). IsClashOf (g.R.Rules.context c.args.rules.now) (facts_in s.entries) None)
+    (sym c.latest_at_any.ensures.same) c.requires.none
 
 pub go_on_with_blocks-requires-clause-none : goal.go_on_with_blocks-requires-clause-none
 go_on_with_blocks-requires-clause-none g c =
-    subst (λ (s : ProgressLists). IsClashOf (g.R.Rules.context c.args.rules.now) (facts_in s.entries) None) (sym c.latest_at_any.ensures.same) c.requires.none
+    subst (λ (s : ProgressLists). IsClashOf (g.R.Rules.context c.args.rules.now) (facts_in s.entries) None)
+    (sym c.latest_at_any.ensures.same) c.requires.none

@@ -5,8 +5,10 @@ use Rattle.search_state.proofs.progress.Progress.go_on_followed.Goals as goal
 
 pub make-requires-clause-none : goal.make-requires-clause-none
 make-requires-clause-none g c =
-    subst (λ (s : ProgressLists). IsClashOf (g.R.Rules.context c.args.rules.now) (facts_in s.entries) None) (sym c.latest_with_blocks.ensures.same) c.requires.none
+    subst (λ (s : ProgressLists). IsClashOf (g.R.Rules.context c.args.rules.now) (facts_in s.entries) None)
+    (sym c.latest_with_blocks.ensures.same) c.requires.none
 
 pub go_on_anywhere-requires-clause-none : goal.go_on_anywhere-requires-clause-none
 go_on_anywhere-requires-clause-none g c =
-    subst (λ (s : ProgressLists). IsClashOf (g.R.Rules.context c.args.rules.now) (facts_in s.entries) None) (sym c.latest_with_blocks.ensures.same) c.requires.none
+    subst (λ (s : ProgressLists). IsClashOf (g.R.Rules.context c.args.rules.now) (facts_in s.entries) None)
+    (sym c.latest_with_blocks.ensures.same) c.requires.none

@@ -11,7 +11,8 @@ use Rattle.search_state.proofs.progress.Progress.new_in.Goals as goal
 pub complete-requires : goal.complete-requires
 complete-requires g c =
     let t = c.put_start-2.new.tree in
-    subst (AreFirstBlocks t.first (facts_in t.entries)) (sym c.new-prints.ensures) (c.blocks_stay.ensures.none t.first (facts_in t.entries) no_prints)
+    subst (AreFirstBlocks t.first (facts_in t.entries)) (sym c.new-prints.ensures)
+    (c.blocks_stay.ensures.none t.first (facts_in t.entries) no_prints)
 
 pub returns-clause-begun : goal.returns-clause-begun
 returns-clause-begun g c =
@@ -21,7 +22,14 @@ returns-clause-begun g c =
     let not_sup = c.args.not_sup in
     let t = c.put_start-2.new.tree in
     let are : t ≡ record { first = c.first.result; entries = begun_entries at sub not_sup } =
-    c.in_ok-put_start-2.ensures ∙ ap (λ (k : TreeEntries). record { first = k.first; entries = k.entries ++ Grounded (Has at not_sup) by_start ∷ [] })
-    (c.in_ok-put_start.ensures ∙ ap (λ (k : TreeEntries). record { first = k.first; entries = k.entries ++ Grounded (Has at sub) by_start ∷ [] }) c.in_ok-tree.ensures) in
-    begins w c.args.query.now at sub not_sup c.requires t.first (ap (λ (k : TreeEntries). k.first) are ∙ c.first.ensures) t.entries (ap (λ (k : TreeEntries). k.entries) are) c.complete.new.self c.in_ok-complete.ensures.current
-    c.in_ok-complete.ensures.first c.new.result c.new.ensures (reverse c.new-2.result.items) (ap reverse c.new-2.ensures.items) c.find_clash_at_start-clash.result c.find_clash_at_start-clash.ensures
+    c.in_ok-put_start-2.ensures
+    ∙ ap
+    (λ (k : TreeEntries). record { first = k.first; entries = k.entries ++ Grounded (Has at not_sup) by_start ∷ [] })
+    (c.in_ok-put_start.ensures
+    ∙ ap (λ (k : TreeEntries). record { first = k.first; entries = k.entries ++ Grounded (Has at sub) by_start ∷ [] })
+    c.in_ok-tree.ensures) in
+    begins w c.args.query.now at sub not_sup c.requires t.first
+    (ap (λ (k : TreeEntries). k.first) are ∙ c.first.ensures) t.entries (ap (λ (k : TreeEntries). k.entries) are)
+    c.complete.new.self c.in_ok-complete.ensures.current
+    c.in_ok-complete.ensures.first c.new.result c.new.ensures (reverse c.new-2.result.items)
+    (ap reverse c.new-2.ensures.items) c.find_clash_at_start-clash.result c.find_clash_at_start-clash.ensures

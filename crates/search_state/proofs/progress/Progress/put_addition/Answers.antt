@@ -17,12 +17,36 @@ returns-clause-moved g c =
     let files = g.R.Rules.files c.args.rules.now in
     let a = c.args.addition.now in
     let s = c.self.inside in
-    let old : ProgressLists = record { query = s.query.now; at = s.at; sub = s.sub; not_sup = s.not_sup; first = s.tree.first; entries = s.tree.entries; prints = s.prints; trace = s.trace; marks = reverse s.marks.items; clash = s.clash; steps = s.steps } in
+    let old : ProgressLists = record {
+      query = s.query.now;
+      at = s.at;
+      sub = s.sub;
+      not_sup = s.not_sup;
+      first = s.tree.first;
+      entries = s.tree.entries;
+      prints = s.prints;
+      trace = s.trace;
+      marks = reverse s.marks.items;
+      clash = s.clash;
+      steps = s.steps;
+    } in
     let is : old ≡ c.args.self.now = c.self.view_is in
     let line = line_of c.args.resting.line in
     let u = c.args.resting.marks in
     let by : By = record { line = c.in_ok-number.number; marks = u } in
-    let new : ProgressLists = record { query = s.query.now; at = s.at; sub = s.sub; not_sup = s.not_sup; first = c.add.new.self.first; entries = c.add.new.self.entries; prints = c.keep_blocks.new.prints; trace = c.put.new.self; marks = reverse s.marks.items; clash = s.clash; steps = s.steps + 1 } in
+    let new : ProgressLists = record {
+      query = s.query.now;
+      at = s.at;
+      sub = s.sub;
+      not_sup = s.not_sup;
+      first = c.add.new.self.first;
+      entries = c.add.new.self.entries;
+      prints = c.keep_blocks.new.prints;
+      trace = c.put.new.self;
+      marks = reverse s.marks.items;
+      clash = s.clash;
+      steps = s.steps + 1;
+    } in
     subst (λ (q : ProgressLists). HasMoved w q new) is
     (addition_moves w old (subst (λ (q : ProgressLists). IsStanding w q) (sym is) c.requires.standing) files a
     (subst (λ (q : ProgressLists). IsClashOf w (facts_in q.entries) None) (sym is) c.requires.none)
@@ -47,7 +71,19 @@ pub returns-clause-last : goal.returns-clause-last
 returns-clause-last g c =
     let w = g.R.Rules.context c.args.rules.now in
     let s = c.self.inside in
-    let old : ProgressLists = record { query = s.query.now; at = s.at; sub = s.sub; not_sup = s.not_sup; first = s.tree.first; entries = s.tree.entries; prints = s.prints; trace = s.trace; marks = reverse s.marks.items; clash = s.clash; steps = s.steps } in
+    let old : ProgressLists = record {
+      query = s.query.now;
+      at = s.at;
+      sub = s.sub;
+      not_sup = s.not_sup;
+      first = s.tree.first;
+      entries = s.tree.entries;
+      prints = s.prints;
+      trace = s.trace;
+      marks = reverse s.marks.items;
+      clash = s.clash;
+      steps = s.steps;
+    } in
     let is : old ≡ c.args.self.now = c.self.view_is in
     record {
       front = s.tree.entries;

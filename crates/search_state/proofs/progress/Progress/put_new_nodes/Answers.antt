@@ -18,12 +18,36 @@ returns-clause-moved g c =
     let w = g.R.Rules.context c.args.rules.now in
     let m = c.args.new.now in
     let s = c.self.inside in
-    let old : ProgressLists = record { query = s.query.now; at = s.at; sub = s.sub; not_sup = s.not_sup; first = s.tree.first; entries = s.tree.entries; prints = s.prints; trace = s.trace; marks = reverse s.marks.items; clash = s.clash; steps = s.steps } in
+    let old : ProgressLists = record {
+      query = s.query.now;
+      at = s.at;
+      sub = s.sub;
+      not_sup = s.not_sup;
+      first = s.tree.first;
+      entries = s.tree.entries;
+      prints = s.prints;
+      trace = s.trace;
+      marks = reverse s.marks.items;
+      clash = s.clash;
+      steps = s.steps;
+    } in
     let is : old ≡ c.args.self.now = c.self.view_is in
     let line = line_of c.args.resting.line in
     let u = c.args.resting.marks in
     let by : By = record { line = c.in_ok-number.number; marks = u } in
-    let new : ProgressLists = record { query = s.query.now; at = s.at; sub = s.sub; not_sup = s.not_sup; first = c.fresh.new.self.first; entries = c.fresh.new.self.entries; prints = c.keep_blocks.new.prints; trace = c.put.new.self; marks = reverse s.marks.items; clash = s.clash; steps = s.steps + 1 } in
+    let new : ProgressLists = record {
+      query = s.query.now;
+      at = s.at;
+      sub = s.sub;
+      not_sup = s.not_sup;
+      first = c.fresh.new.self.first;
+      entries = c.fresh.new.self.entries;
+      prints = c.keep_blocks.new.prints;
+      trace = c.put.new.self;
+      marks = reverse s.marks.items;
+      clash = s.clash;
+      steps = s.steps + 1;
+    } in
     let st : IsStanding w old = subst (λ (q : ProgressLists). IsStanding w q) (sym is) c.requires.standing in
     subst (λ (q : ProgressLists). HasMoved w q new) is
     (new_nodes_move w old st m
@@ -38,7 +62,9 @@ returns-clause-moved g c =
       sub = refl;
       not_sup = refl;
       first = ap (λ (t : TreeEntries). t.first) c.in_ok-first.ensures.made;
-      entries_are = ap (λ (t : TreeEntries). t.entries) c.in_ok-first.ensures.made ∙ ap (λ (k : ℕ). with_nodes k s.tree.entries m by) st.first_is;
+      entries_are =
+          ap (λ (t : TreeEntries). t.entries) c.in_ok-first.ensures.made
+          ∙ ap (λ (k : ℕ). with_nodes k s.tree.entries m by) st.first_is;
       trace_is = c.in_ok-number.ensures.put ∙ ap (λ (v : NumberSet). with_line s.trace line v) c.in_ok-shared.ensures;
       marks_are = refl;
       counted = refl;
@@ -50,7 +76,19 @@ returns-clause-last g c =
     let w = g.R.Rules.context c.args.rules.now in
     let m = c.args.new.now in
     let s = c.self.inside in
-    let old : ProgressLists = record { query = s.query.now; at = s.at; sub = s.sub; not_sup = s.not_sup; first = s.tree.first; entries = s.tree.entries; prints = s.prints; trace = s.trace; marks = reverse s.marks.items; clash = s.clash; steps = s.steps } in
+    let old : ProgressLists = record {
+      query = s.query.now;
+      at = s.at;
+      sub = s.sub;
+      not_sup = s.not_sup;
+      first = s.tree.first;
+      entries = s.tree.entries;
+      prints = s.prints;
+      trace = s.trace;
+      marks = reverse s.marks.items;
+      clash = s.clash;
+      steps = s.steps;
+    } in
     let is : old ≡ c.args.self.now = c.self.view_is in
     let st = subst (λ (q : ProgressLists). IsStanding w q) (sym is) c.requires.standing in
     let making = subst (λ (q : ProgressLists). IsMaking w (facts_in q.entries) m) (sym is) c.requires.making in
@@ -58,7 +96,9 @@ returns-clause-last g c =
     record {
       front = s.tree.entries;
       by = by;
-      splits = ap (λ (t : TreeEntries). t.entries) c.in_ok-first.ensures.made ∙ ap (λ (k : ℕ). with_nodes k s.tree.entries m by) st.first_is;
+      splits =
+          ap (λ (t : TreeEntries). t.entries) c.in_ok-first.ensures.made
+          ∙ ap (λ (k : ℕ). with_nodes k s.tree.entries m by) st.first_is;
       none = subst (λ (q : ProgressLists). IsClashOf w (facts_in q.entries) None) (sym is) c.requires.none;
       is_node = making.is_open.is_node;
       is_some = some_are_made w (facts_in s.tree.entries) m st.asked.is_table making;

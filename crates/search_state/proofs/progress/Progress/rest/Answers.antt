@@ -8,7 +8,19 @@ pub rest_without_clash-requires-clause-none : goal.rest_without_clash-requires-c
 rest_without_clash-requires-clause-none g c =
     let w = g.R.Rules.context c.args.rules.now in
     let s = c.self.inside in
-    let old : ProgressLists = record { query = s.query.now; at = s.at; sub = s.sub; not_sup = s.not_sup; first = s.tree.first; entries = s.tree.entries; prints = s.prints; trace = s.trace; marks = reverse s.marks.items; clash = s.clash; steps = s.steps } in
+    let old : ProgressLists = record {
+      query = s.query.now;
+      at = s.at;
+      sub = s.sub;
+      not_sup = s.not_sup;
+      first = s.tree.first;
+      entries = s.tree.entries;
+      prints = s.prints;
+      trace = s.trace;
+      marks = reverse s.marks.items;
+      clash = s.clash;
+      steps = s.steps;
+    } in
     let is : old ≡ c.args.self.now = c.self.view_is in
     let none : c.args.self.now.clash ≡ None = ap (λ (q : ProgressLists). q.clash) (sym is) ∙ c.in-None.is in
     subst (λ (k : Option Clash). IsClashOf w (facts_in c.args.self.now.entries) k) none c.requires.searching.clash

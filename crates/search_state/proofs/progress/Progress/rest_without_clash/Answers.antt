@@ -18,8 +18,13 @@ returns-in-Some g c =
     let s = c.follow.new.self in
     let same = c.in_ok-follow.ensures.followed.same in
     let is : IsStep w (facts_in s.entries) files c.in-Some.field-0 =
-    subst (λ (found : Option Step). MatchOption found (NoStep w (facts_in s.entries)) (IsStep w (facts_in s.entries) files)) c.in-Some.is c.in_ok-next_step.ensures in
-    (same, still_searches w c.args.self.now s same c.in_ok-follow.ensures.first c.requires.searching, step_has_next w s files c.in-Some.field-0 (still_none w c.args.self.now s same c.requires.none) is)
+    subst
+    (λ (found : Option Step). MatchOption found (NoStep w (facts_in s.entries)) (IsStep w (facts_in s.entries) files))
+    c.in-Some.is c.in_ok-next_step.ensures in (
+      same,
+      still_searches w c.args.self.now s same c.in_ok-follow.ensures.first c.requires.searching,
+      step_has_next w s files c.in-Some.field-0 (still_none w c.args.self.now s same c.requires.none) is,
+    )
 
 pub returns-in-None : goal.returns-in-None
 returns-in-None g c =
@@ -28,9 +33,12 @@ returns-in-None g c =
     let es = s.entries in
     let same = c.in_ok-follow.ensures.followed.same in
     let none : NoStep w (facts_in es) =
-    subst (λ (found : Option Step). MatchOption found (NoStep w (facts_in es)) (IsStep w (facts_in es) (g.R.Rules.files c.args.rules.now))) c.in-None.is c.in_ok-next_step.ensures in (
+    subst (λ (found : Option Step). MatchOption found (NoStep w (facts_in es))
+    (IsStep w (facts_in es) (g.R.Rules.files c.args.rules.now)))
+    c.in-None.is c.in_ok-next_step.ensures in (
       c.in_ok-follow.ensures.followed,
       c.no_step_is_saturated.ensures w (items_of es)
-          (subst (λ (fs : List (Fact ℕ)). ¬ IsPlainClash w.first (below_of w) w.table fs) (sym (facts-items es)) (still_none w c.args.self.now s same c.requires.none))
+          (subst (λ (fs : List (Fact ℕ)). ¬ IsPlainClash w.first (below_of w) w.table fs) (sym (facts-items es))
+          (still_none w c.args.self.now s same c.requires.none))
           (subst (λ (fs : List (Fact ℕ)). NoStep w fs) (sym (facts-items es)) none),
     )

@@ -11,6 +11,11 @@ loop-place-preserved g c =
     let was = c.loop-place.self in
     let now = c.note_item.new.self in
     record {
-      at_node = notes_one (gives_class c.args.at table) items c.args.from c.loop-place.place c.item.result old.at_node was.at_node now.at_node c.item.ensures c.loop-place.invariant.at_node c.note_item.ensures.at_node;
-      complements = notes_one (gives_complement c.args.at table) items c.args.from c.loop-place.place c.item.result old.complements was.complements now.complements c.item.ensures c.loop-place.invariant.complements c.note_item.ensures.complements;
+      at_node =
+          notes_one (gives_class c.args.at table) items c.args.from c.loop-place.place c.item.result old.at_node
+          was.at_node now.at_node c.item.ensures c.loop-place.invariant.at_node c.note_item.ensures.at_node;
+      complements =
+          notes_one (gives_complement c.args.at table) items c.args.from c.loop-place.place c.item.result
+          old.complements was.complements now.complements c.item.ensures c.loop-place.invariant.complements
+          c.note_item.ensures.complements;
     }

@@ -5,6 +5,8 @@ use Rattle.seen_concepts.proofs.seen.SeenClasses.note.Given as goal
 
 abbrev pub invariant-loop-place : goal.invariant-loop-place
 invariant-loop-place g l = record {
-  at_node : IsNoting (gives_class l.at (g.R.Rules.context l.rules).table) (items_of l.tree.entries) l.from l.place l.fn.self.at_node l.self.at_node;
-  complements : IsNoting (gives_complement l.at (g.R.Rules.context l.rules).table) (items_of l.tree.entries) l.from l.place l.fn.self.complements l.self.complements;
+  at_node : IsNoting (gives_class l.at (g.R.Rules.context l.rules).table) (items_of l.tree.entries) l.from l.place
+      l.fn.self.at_node l.self.at_node;
+  complements : IsNoting (gives_complement l.at (g.R.Rules.context l.rules).table) (items_of l.tree.entries) l.from
+      l.place l.fn.self.complements l.self.complements;
 }

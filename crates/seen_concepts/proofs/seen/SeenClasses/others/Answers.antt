@@ -14,10 +14,14 @@ returns-clause-exact c =
     let all = c.in_ok-classes.classes.members in
     let root_is : root ≡ s.at_node = ap (λ (t : SeenSets). t.at_node) c.self.view_is in
     let complements_is : complements ≡ s.complements = ap (λ (t : SeenSets). t.complements) c.self.view_is in
-    let members : c.take_all-2.new.self.members ≡ sets.difference (sets.difference all root.members) complements.members =
-    c.take_all-2.ensures.members ∙ ap (λ (t : NumberSet). sets.difference t complements.members) c.take_all.ensures.members in
+    let members : c.take_all-2.new.self.members
+    ≡ sets.difference (sets.difference all root.members) complements.members =
+    c.take_all-2.ensures.members
+    ∙ ap (λ (t : NumberSet). sets.difference t complements.members) c.take_all.ensures.members in
     λ a lt.
     ap (λ (t : NumberSet). sets.contains t (a + 1)) members
     ∙ left_open s.at_node.limit a all root.members complements.members (holds s.at_node a) (holds s.complements a)
-    (subst (λ (n : ℕ). IsFull n all) (c.limit.ensures.limit ∙ ap (λ (t : Limited). t.limit) root_is) c.in_ok-classes.ensures.members) lt
+    (subst (λ (n : ℕ). IsFull n all) (c.limit.ensures.limit ∙ ap (λ (t : Limited). t.limit) root_is)
+    c.in_ok-classes.ensures.members)
+    lt
     (ap (λ (t : Limited). holds t a) root_is) (ap (λ (t : Limited). holds t a) complements_is)

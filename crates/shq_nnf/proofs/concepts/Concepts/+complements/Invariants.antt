@@ -17,4 +17,7 @@ abbrev pub decreases-quantified_complement : goal.decreases-quantified_complemen
 decreases-quantified_complement l = 3 * l.filler + 3
 
 abbrev pub invariant-complements-loop-part : goal.invariant-complements-loop-part
-invariant-complements-loop-part l = record { are : AreNumbers l.self l.numbers.items (map (λ c. negated_form (tree_of l.fn.self c)) (take l.part-index l.parts)); kept : Extends l.fn.self l.self }
+invariant-complements-loop-part l = record {
+  are : AreNumbers l.self l.numbers.items (map (λ c. negated_form (tree_of l.fn.self c)) (take l.part-index l.parts));
+  kept : Extends l.fn.self l.self;
+}

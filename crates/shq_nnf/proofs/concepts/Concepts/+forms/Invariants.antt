@@ -24,4 +24,7 @@ abbrev pub decreases-filler : goal.decreases-filler
 decreases-filler l = 4 * depth l.filler.now + 3
 
 abbrev pub invariant-forms-loop-concept : goal.invariant-forms-loop-concept
-invariant-forms-loop-concept l = record { are : AreNumbers l.self l.numbers.items (map (signed_form l.negated) (take l.concept-index l.concepts)); kept : Extends l.fn.self l.self }
+invariant-forms-loop-concept l = record {
+  are : AreNumbers l.self l.numbers.items (map (signed_form l.negated) (take l.concept-index l.concepts));
+  kept : Extends l.fn.self l.self;
+}

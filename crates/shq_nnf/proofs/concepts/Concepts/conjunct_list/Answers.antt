@@ -12,4 +12,6 @@ returns c =
     let t = c.args.self.now in
     let k = c.args.concept in
     let pushed = ap (λ (l : List ℕ). l ++ conjunct_numbers_of k (shape_of t k)) c.new-members.ensures.items in
-    subst (λ ns. AreNumbers t ns (conjuncts_in (tree_of t k))) (sym (c.in_ok-numbers.ensures ∙ c.deref.ensures.value ∙ c.in_ok-push_conjuncts.ensures ∙ pushed)) (conjuncts_of_number t c.len-count.ensures.table k c.requires)
+    subst (λ ns. AreNumbers t ns (conjuncts_in (tree_of t k)))
+    (sym (c.in_ok-numbers.ensures ∙ c.deref.ensures.value ∙ c.in_ok-push_conjuncts.ensures ∙ pushed))
+    (conjuncts_of_number t c.len-count.ensures.table k c.requires)

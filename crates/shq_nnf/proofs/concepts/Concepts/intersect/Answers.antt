@@ -2,21 +2,26 @@ use Rattle.std.proofs.Common.{IfOk, subst, sym, ◌∙◌}
 use Rattle.shq_meaning.specs.Concept.{Concept}
 use Rattle.shq_nnf.specs.Numbers.{IsNumber}
 use Rattle.shq_nnf.proofs.Numbers.{top_number}
-use Rattle.shq_nnf.proofs.Opened.{intersection_with_bottom, intersection_without, intersection_is_normal, intersection_of_none, intersection_of_one, intersection_of_many, listed_at}
+use Rattle.shq_nnf.proofs.Opened.{intersection_with_bottom, intersection_without, intersection_is_normal}
+use Rattle.shq_nnf.proofs.Opened.{intersection_of_none, intersection_of_one, intersection_of_many, listed_at}
 use Rattle.shq_nnf.proofs.concepts.Concepts.intersect.Goals as goal
 
 pub returns-then-any_bottom-clause-number : goal.returns-then-any_bottom-clause-number
 returns-then-any_bottom-clause-number c =
     let t = c.args.self.now in
     subst (λ (k : Concept). IfOk c.put.result (λ n. IsNumber c.put.new.self n k))
-    (intersection_with_bottom t c.len-count.ensures.table c.args.members.now c.requires.listed (sym c.any_bottom.ensures ∙ c.if-any_bottom.true)) c.put.ensures.number
+    (intersection_with_bottom t c.len-count.ensures.table c.args.members.now c.requires.listed
+    (sym c.any_bottom.ensures ∙ c.if-any_bottom.true))
+    c.put.ensures.number
 
 pub returns-in-empty-clause-number : goal.returns-in-empty-clause-number
 returns-in-empty-clause-number c =
     let t = c.args.self.now in
     let good = c.len-count.ensures.table in
     subst (λ (k : Concept). IsNumber t 0 k)
-    (sym (intersection_of_none t good c.args.members.now c.in-empty.len_below) ∙ intersection_without t good c.args.members.now c.requires.listed (sym c.any_bottom.ensures ∙ c.if-any_bottom.false))
+    (sym (intersection_of_none t good c.args.members.now c.in-empty.len_below)
+    ∙ intersection_without t good c.args.members.now c.requires.listed
+    (sym c.any_bottom.ensures ∙ c.if-any_bottom.false))
     (top_number t good)
 
 pub returns-in-len1-clause-number : goal.returns-in-len1-clause-number
@@ -25,17 +30,23 @@ returns-in-len1-clause-number c =
     let good = c.len-count.ensures.table in
     record {
       listed = listed_at t good c.args.members.now c.requires.listed c.in-len1.len_at_least;
-      stands_for = sym (intersection_of_one t good c.args.members.now c.in-len1.len_at_least c.in-len1.len_below) ∙ intersection_without t good c.args.members.now c.requires.listed (sym c.any_bottom.ensures ∙ c.if-any_bottom.false);
+      stands_for =
+          sym (intersection_of_one t good c.args.members.now c.in-len1.len_at_least c.in-len1.len_below)
+          ∙ intersection_without t good c.args.members.now c.requires.listed
+          (sym c.any_bottom.ensures ∙ c.if-any_bottom.false);
     }
 
 pub put-requires-in_default-clause-normal : goal.put-requires-in_default-clause-normal
 put-requires-in_default-clause-normal c =
-    intersection_is_normal c.args.self.now c.len-count.ensures.table c.args.members.now c.requires.listed c.requires.opened (sym c.any_bottom.ensures ∙ c.if-any_bottom.false) c.in_default.len_at_least
+    intersection_is_normal c.args.self.now c.len-count.ensures.table c.args.members.now c.requires.listed
+    c.requires.opened (sym c.any_bottom.ensures ∙ c.if-any_bottom.false) c.in_default.len_at_least
 
 pub returns-in_default-clause-number : goal.returns-in_default-clause-number
 returns-in_default-clause-number c =
     let t = c.args.self.now in
     let good = c.len-count.ensures.table in
     subst (λ (k : Concept). IfOk c.put-in_default.result (λ n. IsNumber c.put-in_default.new.self n k))
-    (intersection_of_many t good c.args.members.now c.in_default.len_at_least ∙ intersection_without t good c.args.members.now c.requires.listed (sym c.any_bottom.ensures ∙ c.if-any_bottom.false))
+    (intersection_of_many t good c.args.members.now c.in_default.len_at_least
+    ∙ intersection_without t good c.args.members.now c.requires.listed
+    (sym c.any_bottom.ensures ∙ c.if-any_bottom.false))
     c.put-in_default.ensures.number

@@ -11,16 +11,20 @@ use Rattle.shq_nnf.proofs.concepts.Concepts.intersection_of.Goals as goal
 pub intersect-requires-clause-listed : goal.intersect-requires-clause-listed
 intersect-requires-clause-listed c =
     let t = c.args.self.now in
-    ap (list_all (λ k. ltb k (length t))) (c.deref.ensures.value ∙ c.in_ok-members.ensures) ∙ conjuncts_listed t c.len-count.ensures.table c.args.parts.now c.requires
+    ap (list_all (λ k. ltb k (length t))) (c.deref.ensures.value ∙ c.in_ok-members.ensures)
+    ∙ conjuncts_listed t c.len-count.ensures.table c.args.parts.now c.requires
 
 pub intersect-requires-clause-opened : goal.intersect-requires-clause-opened
 intersect-requires-clause-opened c =
     let t = c.args.self.now in
-    ap (list_all (λ k. is_open_conjunct (shape_of t k))) (c.deref.ensures.value ∙ c.in_ok-members.ensures) ∙ conjuncts_open t c.len-count.ensures.table c.args.parts.now c.requires
+    ap (list_all (λ k. is_open_conjunct (shape_of t k))) (c.deref.ensures.value ∙ c.in_ok-members.ensures)
+    ∙ conjuncts_open t c.len-count.ensures.table c.args.parts.now c.requires
 
 pub returns-clause-number : goal.returns-clause-number
 returns-clause-number c =
     let t = c.args.self.now in
     subst (λ (k : Concept). IfOk c.intersect.result (λ n. IsNumber c.intersect.new.self n k))
-    (ap open_intersection (ap (map (tree_of t)) (c.deref.ensures.value ∙ c.in_ok-members.ensures) ∙ conjunct_trees t c.len-count.ensures.table c.args.parts.now c.requires))
+    (ap open_intersection
+    (ap (map (tree_of t)) (c.deref.ensures.value ∙ c.in_ok-members.ensures)
+    ∙ conjunct_trees t c.len-count.ensures.table c.args.parts.now c.requires))
     c.intersect.ensures.number

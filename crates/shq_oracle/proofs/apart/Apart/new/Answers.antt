@@ -10,6 +10,9 @@ invariant_of-result c =
     let o = c.args.ontology.now in
     record {
       of_axioms = subst (IsAxiomSet o) (sym c.in_ok-axioms.ensures) c.requires.of_axioms;
-      apart = subst (λ (s : Limited). AreApart o s c.in_ok-expression.expression c.args.steps c.args.classes) (sym c.in_ok-axioms.ensures)
-          (subst (λ (u : Concept). AreApart o c.args.set.now u c.args.steps c.args.classes) (sym c.in_ok-expression.ensures) c.requires.apart);
+      apart =
+          subst (λ (s : Limited). AreApart o s c.in_ok-expression.expression c.args.steps c.args.classes)
+          (sym c.in_ok-axioms.ensures)
+          (subst (λ (u : Concept). AreApart o c.args.set.now u c.args.steps c.args.classes)
+          (sym c.in_ok-expression.ensures) c.requires.apart);
     }

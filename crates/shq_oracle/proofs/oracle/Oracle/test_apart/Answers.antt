@@ -16,6 +16,11 @@ returns-clause-entry c =
     let r = c.note_shown.result in
     let after = c.note_shown.new.self.log in
     let same : c.try_out.new.self ≡ l = c.in_ok-tested.ensures.same in
-    let about = subst (λ (o : OracleLists). IfOk r (λ (v : Shown). IfSome v.apart (IsAbout o.ontology s q.sub))) same c.note_shown.ensures.about in
-    let log = subst (λ (o : OracleLists). IfOk r (λ (v : Shown). after ≡ o.log ++ Test s q t.steps t.ended ∷ [])) same c.note_shown.ensures.entry in
-    adds_shown l.ontology s q c.left-fuel.result l.log after t r c.in_ok-tested.ensures.set c.in_ok-tested.ensures.tested c.note_shown.ensures.outcome about c.note_shown.ensures.counted log
+    let about =
+    subst (λ (o : OracleLists). IfOk r (λ (v : Shown). IfSome v.apart (IsAbout o.ontology s q.sub))) same
+    c.note_shown.ensures.about in
+    let log =
+    subst (λ (o : OracleLists). IfOk r (λ (v : Shown). after ≡ o.log ++ Test s q t.steps t.ended ∷ [])) same
+    c.note_shown.ensures.entry in
+    adds_shown l.ontology s q c.left-fuel.result l.log after t r c.in_ok-tested.ensures.set
+    c.in_ok-tested.ensures.tested c.note_shown.ensures.outcome about c.note_shown.ensures.counted log

@@ -14,7 +14,8 @@ invariant_of-self c =
       added_within old new c.args.iri.now 20000 c.add.result told.room told.unchanged c.self.invariant.1,
       c.self.invariant.2,
       c.self.invariant.3,
-      all_use_more (length old) (length new) (length o.roles) (length o.roles) (length o.individuals) (length o.individuals) longer (omega arith) (omega arith) o.axioms.items c.self.invariant.4,
+      all_use_more (length old) (length new) (length o.roles) (length o.roles) (length o.individuals)
+          (length o.individuals) longer (omega arith) (omega arith) o.axioms.items c.self.invariant.4,
       added_distinct old new c.args.iri.now c.add.result told.added told.unchanged c.self.invariant.5,
       c.self.invariant.6,
       c.self.invariant.7,

@@ -14,7 +14,8 @@ invariant_of-self c =
       c.self.invariant.1,
       added_within old new c.args.iri.now 1000 c.add.result told.room told.unchanged c.self.invariant.2,
       c.self.invariant.3,
-      all_use_more (length o.classes) (length o.classes) (length old) (length new) (length o.individuals) (length o.individuals) (omega arith) longer (omega arith) o.axioms.items c.self.invariant.4,
+      all_use_more (length o.classes) (length o.classes) (length old) (length new) (length o.individuals)
+          (length o.individuals) (omega arith) longer (omega arith) o.axioms.items c.self.invariant.4,
       c.self.invariant.5,
       added_distinct old new c.args.iri.now c.add.result told.added told.unchanged c.self.invariant.6,
       c.self.invariant.7,

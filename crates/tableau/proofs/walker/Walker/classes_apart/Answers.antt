@@ -15,8 +15,12 @@ returns g c =
     let classes = c.in_ok-classes.classes in
     let kept = subst (λ (t : SearchState). IsKept t c.self.inside.progress) c.self.view_is c.self.invariant in
     let whole = c.requires.whole in
-    let limit = subst (λ (t : SearchState). classes.limit ≡ t.seen.at_node.limit) c.self.view_is c.in_ok-classes.ensures.limit in
-    let exact = subst (λ (t : SearchState). (a : ℕ) → a < t.seen.at_node.limit → holds classes a ≡ not (has_seen t.seen a)) c.self.view_is c.in_ok-classes.ensures.exact in
+    let limit =
+    subst (λ (t : SearchState). classes.limit ≡ t.seen.at_node.limit) c.self.view_is c.in_ok-classes.ensures.limit in
+    let exact =
+    subst (λ (t : SearchState). (a : ℕ) → a < t.seen.at_node.limit → holds classes a ≡ not (has_seen t.seen a))
+    c.self.view_is c.in_ok-classes.ensures.exact in
     let on_any : is_any c.self.inside.query.now.on ≡ true = sym c.is_on_any.ensures ∙ c.if-not-is_on_any.false in
     let any = subst AsksForAny c.self.view_is (asks_for_any i (any_is i.query.on on_any) c.if-self-ne0.false) in
-    left_out_classes s kept.in_limit kept.numbers (kept.reached whole) (kept.has_run whole) c.requires.ended any classes limit exact
+    left_out_classes s kept.in_limit kept.numbers (kept.reached whole) (kept.has_run whole) c.requires.ended any classes
+    limit exact

@@ -11,14 +11,20 @@ new_in-requires g c =
     let rules = c.args.rules.now in
     let query = c.args.query.now in
     subst (λ (x : ℕ). IsAsked (context_in rules) query x c.args.sub c.args.not_sup) (sym c.node_in_question-at.ensures)
-    (is_asked rules query c.args.sub c.args.not_sup c.concepts.ensures.ready c.is_ready.ensures.chosen c.requires.in_limit c.requires.numbers)
+    (is_asked rules query c.args.sub c.args.not_sup c.concepts.ensures.ready c.is_ready.ensures.chosen
+    c.requires.in_limit c.requires.numbers)
 
 pub invariant_of-result : goal.invariant_of-result
 invariant_of-result g c =
     let rules = c.args.rules.now in
     let p = c.in_ok-progress.progress in
     let begun = c.in_ok-progress.ensures in
-    let seen = subst (λ (x : ℕ). AreSeenIn x rules.table (items_of p.entries ∷ []) c.in_ok-seen.seen) c.node_in_question-at.ensures
-    (subst (λ (t : TreeEntries). AreSeenIn c.node_in_question-at.result rules.table (items_of t.entries ∷ []) c.in_ok-seen.seen) c.tree.ensures c.in_ok-seen.ensures.seen) in
-    begun_is_kept rules c.args.query.now c.args.sub c.args.not_sup p c.in_ok-seen.seen c.requires.in_limit c.requires.set c.requires.numbers begun.begun begun.query.0 (begun.query.1 ∙ c.node_in_question-at.ensures)
-    begun.numbers.0 begun.numbers.1 (subst (λ (room : ℕ). AreOver room c.in_ok-seen.seen) c.room_for-room.ensures c.in_ok-seen.ensures.over) seen
+    let seen =
+    subst (λ (x : ℕ). AreSeenIn x rules.table (items_of p.entries ∷ []) c.in_ok-seen.seen) c.node_in_question-at.ensures
+    (subst (λ (t : TreeEntries). AreSeenIn c.node_in_question-at.result rules.table (items_of t.entries ∷ [])
+    c.in_ok-seen.seen)
+    c.tree.ensures c.in_ok-seen.ensures.seen) in
+    begun_is_kept rules c.args.query.now c.args.sub c.args.not_sup p c.in_ok-seen.seen c.requires.in_limit
+    c.requires.set c.requires.numbers begun.begun begun.query.0 (begun.query.1 ∙ c.node_in_question-at.ensures)
+    begun.numbers.0 begun.numbers.1
+    (subst (λ (room : ℕ). AreOver room c.in_ok-seen.seen) c.room_for-room.ensures c.in_ok-seen.ensures.over) seen

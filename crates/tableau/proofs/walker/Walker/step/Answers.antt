@@ -11,8 +11,14 @@ returns-clause-event g c =
     let goes : i.ended ≡ false = ap (λ (s : SearchState). s.ended) c.self.view_is ∙ c.requires.goes_on in
     let p = c.advance.new.progress in
     let e = c.in_ok-event.event in
-    subst (λ (s : SearchState). IsEvent s (state i.rules.now i.query.now i.sub i.not_sup p c.advance.new.seen c.steps-self-inside.result (not c.goes_on.result) false) e) c.self.view_is
-    (event_is i.rules.now i.query.now i.sub i.not_sup i.progress p i.seen c.advance.new.seen i.steps c.steps-self-inside.result i.ended i.failed c.self.invariant whole goes e c.in_ok-event.ensures.advanced c.steps-self-inside.ensures c.goes_on.result c.goes_on.ensures)
+    subst (λ (s : SearchState). IsEvent s
+    (state i.rules.now i.query.now i.sub i.not_sup p c.advance.new.seen c.steps-self-inside.result
+    (not c.goes_on.result) false)
+    e)
+    c.self.view_is
+    (event_is i.rules.now i.query.now i.sub i.not_sup i.progress p i.seen c.advance.new.seen i.steps
+    c.steps-self-inside.result i.ended i.failed c.self.invariant whole goes e c.in_ok-event.ensures.advanced
+    c.steps-self-inside.ensures c.goes_on.result c.goes_on.ensures)
 
 pub invariant_of-self-2 : goal.invariant_of-self-2
 invariant_of-self-2 g c =
@@ -20,5 +26,7 @@ invariant_of-self-2 g c =
     let whole : i.failed ≡ false = ap (λ (s : SearchState). s.failed) c.self.view_is ∙ c.requires.whole in
     let goes : i.ended ≡ false = ap (λ (s : SearchState). s.ended) c.self.view_is ∙ c.requires.goes_on in
     let p = c.advance.new.progress in
-    stepped_kept i.rules.now i.query.now i.sub i.not_sup i.progress p i.seen c.advance.new.seen i.steps c.steps-self-inside.result i.ended i.failed c.self.invariant whole goes c.in_ok-event.event
-    c.in_ok-event.ensures.advanced c.in_ok-event.ensures.noted c.steps-self-inside.ensures c.goes_on.result c.goes_on.ensures
+    stepped_kept i.rules.now i.query.now i.sub i.not_sup i.progress p i.seen c.advance.new.seen i.steps
+    c.steps-self-inside.result i.ended i.failed c.self.invariant whole goes c.in_ok-event.event
+    c.in_ok-event.ensures.advanced c.in_ok-event.ensures.noted c.steps-self-inside.ensures c.goes_on.result
+    c.goes_on.ensures
