@@ -26,13 +26,13 @@ use Rattle.search_rules.specs.Limits.{IsInLimit, has_enough_parts}
 use Rattle.tableau_specs.specs.declared.Item.{Item}
 use Rattle.tableau_specs.specs.Items.{facts_of}
 use Rattle.tableau_specs.specs.Reached.{start}
-use Rattle.seen_concepts.proofs.CounterModelLaws.{saturated_does_not_entail}
-use Rattle.seen_concepts.specs.Runs.{IsRun, was_ever, puts, puts_at, LeavesOut}
-use Rattle.seen_concepts.specs.ReuseLaws.{EndsSaturated, with_sup}
-use Rattle.seen_concepts.proofs.Answering.{one_run_answers_more}
-use Rattle.seen_concepts.proofs.Unnamed.{any_is_unnamed}
-use Rattle.seen_concepts.specs.Seen.{holds, class_of, complement_of, union_parts, is_one, is_complement, has_complement}
-use Rattle.seen_concepts.specs.Seen.{gives_class, gives_complement, has_seen}
+use Rattle.search_laws.proofs.CounterModelLaws.{saturated_does_not_entail}
+use Rattle.search_laws.specs.Runs.{IsRun, was_ever, puts, puts_at, LeavesOut}
+use Rattle.search_laws.specs.ReuseLaws.{EndsSaturated, with_sup}
+use Rattle.search_laws.proofs.Answering.{one_run_answers_more}
+use Rattle.search_laws.proofs.Unnamed.{any_is_unnamed}
+use Rattle.tableau.specs.Seen.{holds, class_of, complement_of, union_parts, is_one, is_complement, has_complement}
+use Rattle.tableau.specs.Seen.{gives_class, gives_complement, has_seen}
 use Rattle.search_rules.specs.RuleLists.{AreNumbersOf}
 use Rattle.tableau.specs.SearchState.{SearchState, is_any, room_for, question_of, context_of, trail_of, IsReachedBy}
 use Rattle.tableau.specs.SearchState.{HasRun}

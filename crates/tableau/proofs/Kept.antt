@@ -15,8 +15,8 @@ use Rattle.tableau_specs.specs.Steps.{SearchContext, IsLegal, IsSaturated, HasCl
 use Rattle.tableau_specs.specs.declared.Item.{Item}
 use Rattle.completion_tree.specs.declared.tree.Entry.{Entry}
 use Rattle.completion_tree.specs.Trail.{items_of, facts_in}
-use Rattle.seen_concepts.specs.Runs.{IsRun}
-use Rattle.seen_concepts.specs.Seen.{SeenSets, AreOver, AreSeenIn}
+use Rattle.search_laws.specs.Runs.{IsRun}
+use Rattle.tableau.specs.Seen.{SeenSets, AreOver, AreSeenIn}
 use Rattle.closed_search.specs.Trace.{begun}
 use Rattle.search_rules.specs.RuleLists.{RuleLists, IsReady, AreNumbersOf, numbers_in, theory_in, context_in}
 use Rattle.search_state.specs.Progress.{ProgressLists, asked_of, asked_by, IsAsked, IsStanding, IsSearching, HasMoved}

@@ -26,8 +26,8 @@ use Rattle.closed_search.specs.Written.{line_is_listed}
 use Rattle.tableau_specs.specs.KeptKinds.{IsKept}
 use Rattle.tableau_specs.specs.Lines.{concept_in}
 use Rattle.tableau_specs.specs.Steps.{SearchContext}
-use Rattle.seen_concepts.proofs.Allowed.{IsAllowed, allowed_normal, allowed_negated}
-use Rattle.seen_concepts.proofs.AllowedParts.{allowed_kept}
+use Rattle.search_laws.proofs.Allowed.{IsAllowed, allowed_normal, allowed_negated}
+use Rattle.search_laws.proofs.AllowedParts.{allowed_kept}
 use Rattle.closed_search.specs.Premises.{carry_rule, rule_of}
 use Rattle.closed_search.specs.Leaves.{leaves}
 use Rattle.closed_search.specs.Noted.{Noted, NotedLine, noted_by, noted_children, start_of}

@@ -13,10 +13,10 @@ use Rattle.tableau_specs.specs.Items.{facts_of}
 use Rattle.tableau_specs.specs.Steps.{SearchContext, IsLegal}
 use Rattle.completion_tree.specs.declared.tree.Entry.{Entry}
 use Rattle.completion_tree.specs.Trail.{items_of, item_of}
-use Rattle.seen_concepts.specs.Runs.{was_ever}
-use Rattle.seen_concepts.proofs.Last.{steps_put_last}
-use Rattle.seen_concepts.specs.Seen.{SeenSets, holds, no_classes, nothing_seen, gives_class, gives_complement, AreOver}
-use Rattle.seen_concepts.specs.Seen.{HasNoted, AreSeenIn}
+use Rattle.search_laws.specs.Runs.{was_ever}
+use Rattle.search_laws.proofs.Last.{steps_put_last}
+use Rattle.tableau.specs.Seen.{SeenSets, holds, no_classes, nothing_seen, gives_class, gives_complement, AreOver}
+use Rattle.tableau.specs.Seen.{HasNoted, AreSeenIn}
 use Rattle.search_rules.specs.RuleLists.{RuleLists, context_in}
 use Rattle.tableau.specs.Inside.{HasNotedNew}
 

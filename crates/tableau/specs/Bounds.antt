@@ -4,9 +4,9 @@ use Rattle.shq_terms.specs.Concept.{Concept}
 use Rattle.calculus_specs.specs.declared.facts.Fact.{Fact}
 use Rattle.calculus_specs.specs.State.{node_count_from}
 use Rattle.tableau_specs.specs.Items.{facts_of}
-use Rattle.seen_concepts.specs.Closure.{IsClosure}
-use Rattle.seen_concepts.specs.BoundLaws.{AreAtFirst, mark_count}
-use Rattle.seen_concepts.specs.ComputedClosure.{HasFacts}
+use Rattle.search_laws.specs.Closure.{IsClosure}
+use Rattle.search_laws.specs.BoundLaws.{AreAtFirst, mark_count}
+use Rattle.search_laws.specs.ComputedClosure.{HasFacts}
 use Rattle.tableau.specs.SearchState.{SearchState, question_of, context_of, trail_of}
 
 -- the concepts are those that the search can give to nodes, each once

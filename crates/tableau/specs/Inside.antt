@@ -7,7 +7,7 @@ use Rattle.tableau_specs.specs.Steps.{IsLegal, IsSaturated, HasClash}
 use Rattle.tableau_specs.specs.Items.{facts_of}
 use Rattle.completion_tree.specs.declared.tree.Entry.{Entry}
 use Rattle.completion_tree.specs.Trail.{items_of, facts_in}
-use Rattle.seen_concepts.specs.Seen.{SeenSets, HasNoted}
+use Rattle.tableau.specs.Seen.{SeenSets, HasNoted}
 use Rattle.closed_search.specs.Leaves.{leaves}
 use Rattle.closed_search.specs.Noted.{start_of}
 use Rattle.closed_search.specs.Back.{step_of}

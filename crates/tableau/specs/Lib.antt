@@ -1,9 +1,15 @@
+pub mod Seen
 pub mod SearchState
 pub mod Steps
 pub mod Inside
 pub mod Bounds
 pub use Rattle.search_rules.specs.RuleLists
-pub use Rattle.seen_concepts.specs.CounterModelLaws
 pub use Rattle.closed_search.specs.Named
 pub use Rattle.closed_search.specs.RefutationLists
 pub use Rattle.closed_search.specs.ReadBack
+pub use Rattle.search_laws.specs.Runs
+pub use Rattle.search_laws.specs.Closure
+pub use Rattle.search_laws.specs.ComputedClosure
+pub use Rattle.search_laws.specs.BoundLaws
+pub use Rattle.search_laws.specs.CounterModelLaws
+pub use Rattle.search_laws.specs.ReuseLaws

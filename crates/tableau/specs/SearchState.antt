@@ -12,8 +12,8 @@ use Rattle.completion_tree.specs.declared.tree.Entry.{Entry}
 use Rattle.completion_tree.specs.Trail.{TreeEntries, items_of, facts_in}
 use Rattle.search_state.specs.Followed.{Printed, IsCurrent}
 use Rattle.search_rules.specs.RuleLists.{RuleLists, numbers_in, context_in}
-use Rattle.seen_concepts.specs.Runs.{IsRun}
-use Rattle.seen_concepts.specs.Seen.{SeenSets, AreOver, AreSeenIn}
+use Rattle.search_laws.specs.Runs.{IsRun}
+use Rattle.tableau.specs.Seen.{SeenSets, AreOver, AreSeenIn}
 
 -- the rules and the query, the numbers of what the query asks, how many first nodes there are, the entries of the
 -- trail, what is known of blocked nodes, the classes with which its run had to do, how many steps were made, whether

@@ -10,10 +10,10 @@ ghost use Rattle.tableau.specs.Inside.{IsAtQuestion, IsAdvanced, IsNotedAfter, H
 use crate::NoMemory;
 use crate::closing::refutation;
 use crate::search::{End, Event};
+use crate::seen::SeenClasses;
 use completion_tree::Tree;
 use search_rules::SearchRules;
 use search_state::{Progress, Rested, Stepped};
-use seen_concepts::SeenClasses;
 use std::alloc::{Allocator, Global};
 
 /// Makes the next step, if there is one, and notes what it put. If it `follows`, it finds the blocks of all nodes then.

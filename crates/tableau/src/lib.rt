@@ -1,14 +1,21 @@
 //! A search whether a query follows from a set of axioms.
+//!
+//! Going back takes facts out of a trail. What one run shows of other queries depends on all that it ever put
+//! (`search_laws`), so with which classes a run has had to do is noted beside the trail (`seen`), as two sets of bits
+//! over the classes of an ontology: those that the node in question was given, and those whose complements bear on it.
+//! A new fact costs a look at its concept, and a union of the node in question one at each part. A search of which
+//! nothing will be asked is given sets without room, which keep nothing.
 #![tactic(auto)]
 
 mod advancing;
 mod closing;
 mod search;
+mod seen;
 mod walker;
 
 pub use closed_search::Refutation;
 pub use search::{End, Event, Search};
+pub use search_laws::legal_runs_are_bounded;
 pub use search_rules::SearchRules;
 pub use search_state::Effort;
-pub use seen_concepts::legal_runs_are_bounded;
 pub use shq_terms::NoMemory;

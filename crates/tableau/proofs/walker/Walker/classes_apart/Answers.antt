@@ -1,5 +1,5 @@
 use Rattle.std.proofs.Common.{◌≡◌, ℕ, ◌<◌, true, not, sym, subst, ◌∙◌}
-use Rattle.seen_concepts.specs.Seen.{holds, has_seen}
+use Rattle.tableau.specs.Seen.{holds, has_seen}
 use Rattle.tableau.specs.SearchState.{SearchState, is_any}
 use Rattle.tableau.specs.Steps.{AsksForAny}
 use Rattle.tableau.proofs.Kept.{state}

@@ -1,6 +1,6 @@
 use Rattle.std.proofs.Common.{ℕ, [], ◌∷◌, sym, subst, ◌∙◌}
 use Rattle.completion_tree.specs.Trail.{TreeEntries, items_of}
-use Rattle.seen_concepts.specs.Seen.{AreOver, AreSeenIn}
+use Rattle.tableau.specs.Seen.{AreOver, AreSeenIn}
 use Rattle.search_rules.specs.RuleLists.{context_in}
 use Rattle.search_state.specs.Progress.{IsAsked}
 use Rattle.tableau.proofs.Kept.{begun_is_kept, is_asked}

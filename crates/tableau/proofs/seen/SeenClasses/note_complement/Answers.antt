@@ -1,6 +1,6 @@
 use Rattle.std.proofs.Common.{subst}
-use Rattle.seen_concepts.specs.Seen.{SeenSets, is_complement, HasGained}
-use Rattle.seen_concepts.proofs.seen.SeenClasses.note_complement.Goals as goal
+use Rattle.tableau.specs.Seen.{SeenSets, is_complement, HasGained}
+use Rattle.tableau.proofs.seen.SeenClasses.note_complement.Goals as goal
 
 pub returns-clause-complements : goal.returns-clause-complements
 returns-clause-complements g c =

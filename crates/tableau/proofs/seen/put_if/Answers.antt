@@ -1,9 +1,9 @@
 use Rattle.std.proofs.Common.{refl}
 use Rattle.std.specs.Prelude.{Option}
 use Rattle.std.proofs.Common.{ℕ, subst, sym}
-use Rattle.seen_concepts.specs.Seen.{is_one, HasGained}
-use Rattle.seen_concepts.proofs.Noting.{gains_none}
-use Rattle.seen_concepts.proofs.seen.put_if.Goals as goal
+use Rattle.tableau.specs.Seen.{is_one, HasGained}
+use Rattle.tableau.proofs.Noting.{gains_none}
+use Rattle.tableau.proofs.seen.put_if.Goals as goal
 
 pub returns-in-Some : goal.returns-in-Some
 returns-in-Some c =

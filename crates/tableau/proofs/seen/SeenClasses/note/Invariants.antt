@@ -1,7 +1,7 @@
 use Rattle.completion_tree.specs.Trail.{items_of}
-use Rattle.seen_concepts.specs.Seen.{gives_class, gives_complement}
-use Rattle.seen_concepts.proofs.Noting.{IsNoting}
-use Rattle.seen_concepts.proofs.seen.SeenClasses.note.Given as goal
+use Rattle.tableau.specs.Seen.{gives_class, gives_complement}
+use Rattle.tableau.proofs.Noting.{IsNoting}
+use Rattle.tableau.proofs.seen.SeenClasses.note.Given as goal
 
 abbrev pub invariant-loop-place : goal.invariant-loop-place
 invariant-loop-place g l = record {

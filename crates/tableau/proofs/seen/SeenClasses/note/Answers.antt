@@ -1,7 +1,7 @@
 use Rattle.completion_tree.specs.Trail.{items_of}
-use Rattle.seen_concepts.specs.Seen.{gives_class, gives_complement}
-use Rattle.seen_concepts.proofs.Noting.{notes_one}
-use Rattle.seen_concepts.proofs.seen.SeenClasses.note.Goals as goal
+use Rattle.tableau.specs.Seen.{gives_class, gives_complement}
+use Rattle.tableau.proofs.Noting.{notes_one}
+use Rattle.tableau.proofs.seen.SeenClasses.note.Goals as goal
 
 pub loop-place-preserved : goal.loop-place-preserved
 loop-place-preserved g c =

@@ -2,9 +2,9 @@ use Rattle.std.proofs.Common.{◌≡◌, ℕ, ◌+◌, ◌∙◌, ap, subst}
 use Rattle.std.specs.FinSet as sets
 use Rattle.lane_sieve.specs.Sets.{NumberSet}
 use Rattle.axiom_sets.specs.Sets.{Limited, IsFull}
-use Rattle.seen_concepts.specs.Seen.{SeenSets, holds}
-use Rattle.seen_concepts.proofs.Left.{left_open}
-use Rattle.seen_concepts.proofs.seen.SeenClasses.others.Goals as goal
+use Rattle.tableau.specs.Seen.{SeenSets, holds}
+use Rattle.tableau.proofs.Left.{left_open}
+use Rattle.tableau.proofs.seen.SeenClasses.others.Goals as goal
 
 pub returns-clause-exact : goal.returns-clause-exact
 returns-clause-exact c =

@@ -1,6 +1,6 @@
 use Rattle.std.proofs.Common.{ℕ, Option, subst}
-use Rattle.seen_concepts.specs.Seen.{is_one, HasGained}
-use Rattle.seen_concepts.proofs.seen.put_complement.Goals as goal
+use Rattle.tableau.specs.Seen.{is_one, HasGained}
+use Rattle.tableau.proofs.seen.put_complement.Goals as goal
 
 pub returns : goal.returns
 returns g c =

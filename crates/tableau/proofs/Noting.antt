@@ -11,8 +11,8 @@ use Rattle.axiom_sets.specs.Sets.{Limited}
 use Rattle.tableau_specs.specs.declared.Item.{Item}
 use Rattle.tableau_specs.specs.declared.Item.TheVariants.{Fact as Says, Mark}
 use Rattle.tableau_specs.specs.Items.{facts_of}
-use Rattle.seen_concepts.specs.Seen.{SeenSets, holds, class_of, union_parts, is_one, is_complement, has_complement}
-use Rattle.seen_concepts.specs.Seen.{gives_class, gives_complement, HasGained, HasNoted}
+use Rattle.tableau.specs.Seen.{SeenSets, holds, class_of, union_parts, is_one, is_complement, has_complement}
+use Rattle.tableau.specs.Seen.{gives_class, gives_complement, HasGained, HasNoted}
 
 -- ---- one set
 

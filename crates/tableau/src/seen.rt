@@ -4,9 +4,9 @@ ghost use Rattle.calculus_specs.specs.declared.facts.Fact.TheVariants.{Has};
 ghost use Rattle.calculus_specs.specs.Shape.{shape_of};
 ghost use Rattle.tableau_specs.specs.Items.{facts_of};
 ghost use Rattle.completion_tree.specs.Trail.{items_of};
-ghost use Rattle.seen_concepts.specs.Seen.{holds, nothing_seen, class_of, complement_of, union_parts, is_one};
-ghost use Rattle.seen_concepts.specs.Seen.{is_complement, has_complement};
-ghost use Rattle.seen_concepts.specs.Seen.{has_seen, HasGained, HasNoted};
+ghost use Rattle.tableau.specs.Seen.{holds, nothing_seen, class_of, complement_of, union_parts, is_one};
+ghost use Rattle.tableau.specs.Seen.{is_complement, has_complement};
+ghost use Rattle.tableau.specs.Seen.{has_seen, HasGained, HasNoted};
 
 use crate::NoMemory;
 use axiom_sets::AxiomSet;
@@ -30,7 +30,7 @@ impl Model for SeenClasses {
     ghost use Rattle.std.specs.Prelude.{◌≡◌};
     ghost use Rattle.std.specs.Coded.{codes};
     ghost use Rattle.axiom_sets.specs.Sets.{limited_code};
-    ghost use Rattle.seen_concepts.specs.Seen.{SeenSets};
+    ghost use Rattle.tableau.specs.Seen.{SeenSets};
 
     ghost Value = { SeenSets };
 

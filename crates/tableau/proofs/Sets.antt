@@ -4,7 +4,7 @@ use Rattle.std.specs.FinSet as set
 use Rattle.std.proofs.lemmas.Bool.{cases_Bool, eqb-true}
 use Rattle.lane_sieve.proofs.Bits.{contains_insert}
 use Rattle.axiom_sets.specs.Sets.{Limited}
-use Rattle.seen_concepts.specs.Seen.{holds}
+use Rattle.tableau.specs.Seen.{holds}
 
 shifted : (m n : ℕ) → eqb (m + 1) (n + 1) ≡ eqb n m
 shifted m n = elim (cases_Bool (eqb (m + 1) (n + 1))) [

@@ -1,8 +1,8 @@
 use Rattle.std.proofs.Common.{◌+◌, ap, ◌∙◌}
 use Rattle.std.specs.FinSet as set
 use Rattle.lane_sieve.specs.Sets.{NumberSet}
-use Rattle.seen_concepts.proofs.Sets.{holds-insert}
-use Rattle.seen_concepts.proofs.seen.put_class.Goals as goal
+use Rattle.tableau.proofs.Sets.{holds-insert}
+use Rattle.tableau.proofs.seen.put_class.Goals as goal
 
 pub returns-then-class-limit : goal.returns-then-class-limit
 returns-then-class-limit c = record {

@@ -1,7 +1,7 @@
 use Rattle.std.proofs.Common.{ℕ, List, Option, subst}
 use Rattle.calculus_specs.specs.Shape.{shape_of}
-use Rattle.seen_concepts.specs.Seen.{SeenSets, class_of, is_one, union_parts, has_complement, HasGained}
-use Rattle.seen_concepts.proofs.seen.SeenClasses.note_at_node.Goals as goal
+use Rattle.tableau.specs.Seen.{SeenSets, class_of, is_one, union_parts, has_complement, HasGained}
+use Rattle.tableau.proofs.seen.SeenClasses.note_at_node.Goals as goal
 
 pub returns-clause-at_node : goal.returns-clause-at_node
 returns-clause-at_node g c =
