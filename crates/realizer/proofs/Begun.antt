@@ -23,7 +23,7 @@ use Rattle.subsumption.specs.Settled.{IsSettled}
 use Rattle.subsumption.specs.declared.stop.Stop.TheVariants as stop
 use Rattle.subsumption.specs.Stops.{IsStop}
 use Rattle.subsumption.proofs.InLimit.{at_top, at_name}
-use Rattle.class_groups.specs.ClassSets.{has_class}
+use Rattle.subsumption.specs.ClassSets.{has_class}
 use Rattle.realizer.specs.Instances.{instance_query, IsInstance}
 use Rattle.realizer.specs.TypeRows.{typed_by}
 use Rattle.realizer.specs.Candidates.{AreCandidateRows}

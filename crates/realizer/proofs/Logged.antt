@@ -21,7 +21,7 @@ use Rattle.subsumption.specs.Subsumption.{class_at}
 use Rattle.subsumption.proofs.Added.{at_contains, once_more, new_more, within_more}
 use Rattle.subsumption.proofs.Added as added
 use Rattle.subsumption.proofs.InLimit.{at_top, at_name}
-use Rattle.class_groups.specs.ClassSets.{has_class}
+use Rattle.subsumption.specs.ClassSets.{has_class}
 use Rattle.realizer.specs.Instances.{instance_query}
 use Rattle.realizer.specs.Places.{IsPlaceChain, left_side, right_side, individual_place, class_place}
 use Rattle.realizer.specs.RealizationLogs.{IsInstanceTest, IsInstancesLog, IsTypingQuery, IsTypingTest, IsListedClass}

@@ -12,8 +12,8 @@ use Rattle.shq_terms.specs.Concept.{Concept, name}
 use Rattle.shq_meaning.specs.Truth.{Interpretation, holds}
 use Rattle.subsumption.specs.Matrices.{no_row, row_in}
 use Rattle.subsumption.specs.Progress.{IsOneOf}
-use Rattle.class_groups.specs.ClassSets.{has_class, HoldsClasses}
-use Rattle.class_groups.proofs.Members.{taken_out}
+use Rattle.subsumption.specs.ClassSets.{has_class, HoldsClasses}
+use Rattle.subsumption.proofs.Members.{taken_out}
 use Rattle.realizer.specs.TypeRows.{AreTypeRows, typed_by}
 use Rattle.realizer.specs.Candidates.{has_individual, stays_possible, ArePruned}
 use Rattle.realizer.specs.Asked.{is_open, IsOpenClass}

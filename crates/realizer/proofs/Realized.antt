@@ -16,9 +16,9 @@ use Rattle.subsumption.specs.Rows.{Rows, holds}
 use Rattle.subsumption.specs.Subsumption.{class_at}
 use Rattle.subsumption.specs.Settled.{IsSettled}
 use Rattle.subsumption.proofs.InLimit.{at_top, at_bottom}
-use Rattle.class_groups.specs.Groups.{Parthood}
-use Rattle.class_groups.specs.ClassNames.{are_listed}
-use Rattle.class_groups.proofs.Passing.{below-passing}
+use Rattle.subsumption.specs.Groups.{Parthood}
+use Rattle.subsumption.specs.ClassNames.{are_listed}
+use Rattle.subsumption.proofs.Passing.{below-passing}
 use Rattle.realizer.specs.TypeLists.{TypeLists}
 use Rattle.realizer.specs.Realization.{Typing, IsTyping, is_direct_type, direct_types, type_lists, AreTypeLines}
 use Rattle.realizer.specs.Realization.{AreTypes}

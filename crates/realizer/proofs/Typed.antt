@@ -32,7 +32,7 @@ use Rattle.subsumption.specs.Subsumption.{class_at}
 use Rattle.subsumption.specs.declared.stop.Stop.TheVariants as stop
 use Rattle.subsumption.proofs.Added.{goes_on}
 use Rattle.subsumption.proofs.InLimit.{at_name}
-use Rattle.class_groups.specs.ClassSets.{has_class}
+use Rattle.subsumption.specs.ClassSets.{has_class}
 use Rattle.realizer.specs.Instances.{instance_query, IsInstance}
 use Rattle.realizer.specs.RealizationLogs.{IsTypingTest, IsTypingQuery, IsListedClass, IsRealizationLog}
 use Rattle.realizer.specs.TypeRows.{AreTypeRows, typed_by}

@@ -11,8 +11,8 @@ use Rattle.role_box.specs.Counted.{counted_roles}
 use Rattle.role_box.specs.Simple.{is_simple, all_role_axioms}
 use Rattle.shq_nnf.specs.Counts.{has_counts_within}
 use Rattle.ontology_limits.specs.Limits.{has_enough_parts}
-use Rattle.class_groups.specs.Groups.{Parthood}
-use Rattle.class_groups.proofs.Same.{first_same, lowest_same}
+use Rattle.subsumption.specs.Groups.{Parthood}
+use Rattle.subsumption.proofs.Same.{first_same, lowest_same}
 use Rattle.realizer.specs.TypeLists.{TypeLists}
 use Rattle.realizer.specs.Realization.{Typing, is_type, is_direct_type, direct_types, types_of}
 use Rattle.realizer.specs.RealizationLaws.{InstanceQuestionsAreInLimit, InstancesAreOne, TypesAreOne}

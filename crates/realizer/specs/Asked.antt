@@ -18,7 +18,7 @@ use Rattle.subsumption.specs.Rows.{Rows, holds, IsOrder}
 use Rattle.subsumption.specs.Subsumption.{IsSubsumption}
 use Rattle.subsumption.specs.Stops.{IsStop}
 use Rattle.subsumption.specs.declared.stop.Stop.{Stop}
-use Rattle.class_groups.specs.ClassSets.{has_class}
+use Rattle.subsumption.specs.ClassSets.{has_class}
 use Rattle.realizer.specs.Instances.{IsInstance, instance_query}
 use Rattle.realizer.specs.RealizationLogs.{IsInstancesLog, IsRealizationLog}
 use Rattle.realizer.specs.TypeRows.{typed_by}

@@ -5,7 +5,7 @@ use Rattle.std.specs.Fmt.{digits}
 use Rattle.lane_sieve.specs.Sets.{passing}
 use Rattle.shq_terms.specs.Listed.{Listed}
 use Rattle.ofn_writer.specs.Canonical.{line}
-use Rattle.class_groups.specs.Groups.{Parthood}
+use Rattle.subsumption.specs.Groups.{Parthood}
 use Rattle.realizer.specs.Instances.{individuals_by, instances_text}
 use Rattle.realizer.specs.Realization.{Typing, direct_types, types_by, realization_text}
 use Rattle.realizer.specs.declared.types.Types.TheVariants.{Inconsistent}

@@ -1,7 +1,7 @@
 -- Whether the individuals and the classes of a realization are listed: their numbers are below the counts.
 use Rattle.std.specs.Prelude.{ℕ, true, Bool, List, ◌&&◌, nat_lt}
 use Rattle.std.specs.List.{list_all}
-use Rattle.class_groups.specs.ClassNames.{are_listed}
+use Rattle.subsumption.specs.ClassNames.{are_listed}
 use Rattle.realizer.specs.TypeLists.{TypeLists}
 use Rattle.realizer.specs.declared.types.Types.{Types}
 use Rattle.realizer.specs.declared.types.Types.TheVariants.{Inconsistent, Consistent}

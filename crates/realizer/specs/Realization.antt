@@ -8,8 +8,8 @@ use Rattle.shq_terms.specs.Concept.{name}
 use Rattle.shq_terms.specs.Listed.{Listed}
 use Rattle.ofn_writer.specs.Canonical.{individual_text, line}
 use Rattle.subsumption.specs.Subsumption.{IsSubsumption}
-use Rattle.class_groups.specs.Groups.{Parthood, is_first, is_lowest}
-use Rattle.class_groups.specs.ClassNames.{names_or_thing_text}
+use Rattle.subsumption.specs.Groups.{Parthood, is_first, is_lowest}
+use Rattle.subsumption.specs.ClassNames.{names_or_thing_text}
 use Rattle.realizer.specs.TypeLists.{TypeLists}
 use Rattle.realizer.specs.Instances.{IsInstance}
 use Rattle.realizer.specs.declared.types.Types.{Types}

@@ -2,7 +2,7 @@
 use Rattle.std.specs.Prelude.{◌≡◌, ℕ, ◌<◌, Bool, List, length}
 use Rattle.axiom_sets.specs.Sets.{Limited}
 use Rattle.subsumption.specs.Matrices.{row_in}
-use Rattle.class_groups.specs.ClassSets.{has_class, HoldsClasses}
+use Rattle.subsumption.specs.ClassSets.{has_class, HoldsClasses}
 
 -- whether the row of an individual has the class
 abbrev pub typed_by : List Limited → ℕ → ℕ → Bool

@@ -1,17 +1,16 @@
 // From the classes of each individual to its direct types.
 ghost use Rattle.std.specs.Prelude.{◌≡◌, IfOk};
 ghost use Rattle.subsumption.specs.Rows.{holds};
-ghost use Rattle.class_groups.specs.Groups.{is_first};
-ghost use Rattle.class_groups.specs.ClassSets.{has_class, HoldsClasses};
+ghost use Rattle.subsumption.specs.Groups.{is_first};
+ghost use Rattle.subsumption.specs.ClassSets.{has_class, HoldsClasses};
 ghost use Rattle.realizer.specs.Realization.{is_type, direct_types, type_lists};
 ghost use Rattle.realizer.specs.TypeRows.{AreTypeRows, typed_by};
 
 use crate::types::{TypeLine, TypeLines};
 use axiom_sets::AxiomSet;
-use class_groups::{classes_between, first_classes, keep, lowest};
 use shq_terms::NoMemory;
 use std::alloc::Global;
-use subsumption::Relation;
+use subsumption::{Relation, classes_between, first_classes, keep, lowest};
 
 /// The direct types of so many individuals, of which each has one row: the set of its classes.
 ///

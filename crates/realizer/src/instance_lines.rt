@@ -1,12 +1,12 @@
 // The text of a list of individuals.
 ghost use Rattle.std.specs.Prelude.{◌≡◌, ◌<◌, ◌++◌, OnOk, OnErr, IsTrue, length};
 ghost use Rattle.ofn_writer.specs.Canonical.{individual_text};
-ghost use Rattle.class_groups.specs.ClassNames.{are_listed};
+ghost use Rattle.subsumption.specs.ClassNames.{are_listed};
 ghost use Rattle.realizer.specs.Instances.{instances_text, individual_lines};
 
-use class_groups::put;
 use shq_terms::{NoMemory, Ontology};
 use std::alloc::Global;
+use subsumption::put;
 
 /// Appends the text that lists the individuals: the line `instances` with their number, and for each a line with its
 /// name as a full IRI between `<` and `>`.

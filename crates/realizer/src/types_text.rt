@@ -6,8 +6,8 @@ ghost use Rattle.realizer.specs.Listing.{line_is_listed, lines_are_listed, is_li
 
 use crate::instance_lines::put_individual;
 use crate::types::{TypeLine, Types};
-use class_groups::{put, put_names_or_thing};
 use shq_terms::{NoMemory, Ontology};
+use subsumption::{put, put_names_or_thing};
 
 impl Types {
     /// Appends the text of the realization, with names as full IRIs between `<` and `>`.

@@ -14,3 +14,8 @@ pub mod Mirrored
 pub mod Settled
 pub mod Firsts
 pub mod Begun
+pub mod Passing
+pub mod Members
+pub mod NoneBelow
+pub mod Grouped
+pub mod Same

@@ -10,3 +10,6 @@ pub mod RelationLaws
 pub mod Excluded
 pub mod Mirrors
 pub mod Settled
+pub mod ClassSets
+pub mod Groups
+pub mod ClassNames

@@ -21,9 +21,17 @@
 //! oracle shows each of its pairs, and that no question was asked whose answer followed from the answers before.
 //!
 //! What is known is kept as one row of bits for each class ([`Relation`]), and so is what is ruled out ([`BitMatrix`]).
+//!
+//! A taxonomy and a realization name classes in short: those that are equal stand together, as one group that goes by
+//! its first class, and of several groups only the lowest are named, from which the others follow (`grouping`, by the
+//! first of these papers). Classes that are equal to `owl:Nothing` or to `owl:Thing` are in no group. Sets of classes
+//! are sets of numbers, each greater by one, so that one step over words of bits compares a class with many.
 #![tactic(auto)]
 
+mod class_names;
+mod class_sets;
 mod finding;
+mod grouping;
 mod matrix;
 mod progress;
 mod relation;
@@ -33,7 +41,10 @@ mod stop;
 mod testing;
 mod told;
 
+pub use class_names::{put, put_names, put_names_or_thing};
+pub use class_sets::{classes_of, has_none_before, keep, push_if, put_if};
 pub use finding::{most_general, most_specific};
+pub use grouping::{classes_between, equal_classes, first_classes, lowest};
 pub use matrix::BitMatrix;
 pub use relation::Relation;
 pub use relation_laws::{first_is_order, relating_keeps_order, subsumption_is_one};

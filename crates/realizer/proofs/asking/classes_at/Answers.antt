@@ -2,8 +2,8 @@ use Rattle.std.proofs.Common.{◌&&◌}
 use Rattle.shq_terms.specs.Concept.{name}
 use Rattle.shq_meaning.specs.Truth.{holds}
 use Rattle.finite_model.specs.ModelLists.{meaning}
-use Rattle.class_groups.specs.ClassSets.{has_class}
-use Rattle.class_groups.proofs.Members.{holds_none}
+use Rattle.subsumption.specs.ClassSets.{has_class}
+use Rattle.subsumption.proofs.Members.{holds_none}
 use Rattle.realizer.proofs.asking.classes_at.Goals as goal
 
 pub loop-class-init : goal.loop-class-init

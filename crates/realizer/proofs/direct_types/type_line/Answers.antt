@@ -1,7 +1,7 @@
 use Rattle.std.proofs.Common.{ℕ, List, ◌∙◌, ap}
 use Rattle.subsumption.specs.Rows.{holds}
-use Rattle.class_groups.specs.ClassSets.{has_class}
-use Rattle.class_groups.proofs.Grouped.{lowest_by}
+use Rattle.subsumption.specs.ClassSets.{has_class}
+use Rattle.subsumption.proofs.Grouped.{lowest_by}
 use Rattle.realizer.specs.TypeLists.{TypeLists}
 use Rattle.realizer.specs.Realization.{is_type, direct_types}
 use Rattle.realizer.proofs.direct_types.type_line.Goals as goal

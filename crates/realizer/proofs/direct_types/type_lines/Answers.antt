@@ -4,7 +4,7 @@ use Rattle.std.proofs.lemmas.List.FromFn.{map-range_with_len_more}
 use Rattle.axiom_sets.specs.Sets.{Limited}
 use Rattle.subsumption.specs.Rows.{holds}
 use Rattle.subsumption.specs.Matrices.{no_row, row_in}
-use Rattle.class_groups.specs.ClassSets.{has_class}
+use Rattle.subsumption.specs.ClassSets.{has_class}
 use Rattle.realizer.specs.TypeLists.{TypeLists}
 use Rattle.realizer.specs.Realization.{direct_types}
 use Rattle.realizer.specs.TypeRows.{typed_by}

@@ -1,5 +1,5 @@
 use Rattle.std.proofs.Common.{◌≡◌, ◌++◌, drop, length, true}
-use Rattle.class_groups.specs.ClassNames.{are_listed}
+use Rattle.subsumption.specs.ClassNames.{are_listed}
 use Rattle.realizer.specs.Instances.{individual_lines}
 use Rattle.realizer.proofs.instance_lines.put_individuals.Given as goal
 

@@ -1,6 +1,6 @@
 use Rattle.std.proofs.Common.{arith}
 use Rattle.lane_sieve.specs.Sets.{passing}
-use Rattle.class_groups.proofs.Passing.{listed_more, listed_whole}
+use Rattle.subsumption.proofs.Passing.{listed_more, listed_whole}
 use Rattle.realizer.specs.Candidates.{has_individual}
 use Rattle.realizer.proofs.retrieval.listed.Goals as goal
 

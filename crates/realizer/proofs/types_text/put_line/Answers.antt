@@ -1,7 +1,7 @@
 use Rattle.std.proofs.Common.{◌≡◌, ℕ, List, [], ◌∷◌, ◌++◌, codes, ◌∙◌, ap, refl, append_assoc}
 use Rattle.std.proofs.lemmas.Result.{on_ok_weaker}
 use Rattle.ofn_writer.specs.Canonical.{individual_text}
-use Rattle.class_groups.specs.ClassNames.{names_or_thing_text}
+use Rattle.subsumption.specs.ClassNames.{names_or_thing_text}
 use Rattle.realizer.proofs.types_text.put_line.Goals as goal
 
 regroup : (out a i t n z : List ℕ) → ((((out ++ a) ++ i) ++ t) ++ n) ++ z ≡ out ++ ((a ++ (i ++ (t ++ n))) ++ z)

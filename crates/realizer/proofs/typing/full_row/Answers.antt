@@ -1,5 +1,5 @@
 use Rattle.std.proofs.Common.{◌+◌, true}
-use Rattle.class_groups.proofs.Members.{holds_none}
+use Rattle.subsumption.proofs.Members.{holds_none}
 use Rattle.realizer.proofs.typing.full_row.Goals as goal
 
 pub loop-class-init : goal.loop-class-init

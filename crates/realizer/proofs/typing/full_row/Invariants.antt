@@ -1,5 +1,5 @@
 use Rattle.std.proofs.Common.{◌+◌, true}
-use Rattle.class_groups.proofs.Members.{HoldsBelow}
+use Rattle.subsumption.proofs.Members.{HoldsBelow}
 use Rattle.realizer.proofs.typing.full_row.Given as goal
 
 abbrev pub invariant-loop-class : goal.invariant-loop-class

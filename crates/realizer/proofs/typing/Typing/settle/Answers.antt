@@ -1,7 +1,7 @@
 use Rattle.std.proofs.Common.{◌∙◌, ℕ, Some, refl, ap, subst}
 use Rattle.axiom_sets.specs.Sets.{Limited}
 use Rattle.subsumption.specs.Rows.{holds}
-use Rattle.class_groups.specs.ClassSets.{has_class}
+use Rattle.subsumption.specs.ClassSets.{has_class}
 use Rattle.realizer.specs.Asked.{IsOpenClass}
 use Rattle.realizer.proofs.Begun.{begins}
 use Rattle.realizer.proofs.Counting.{fewer_open}

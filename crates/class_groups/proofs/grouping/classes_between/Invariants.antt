@@ -1,9 +1,0 @@
-use Rattle.std.proofs.Common.{◌+◌}
-use Rattle.subsumption.specs.Rows.{holds}
-use Rattle.class_groups.specs.Groups.{is_between}
-use Rattle.class_groups.proofs.Members.{HoldsBelow}
-use Rattle.class_groups.proofs.grouping.classes_between.Given as goal
-
-abbrev pub invariant-loop-class : goal.invariant-loop-class
-invariant-loop-class l =
-    HoldsBelow l.class (is_between l.relation.count (holds l.relation)) (l.relation.count + 2) l.between

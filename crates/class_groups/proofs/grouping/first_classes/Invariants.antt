@@ -1,9 +1,0 @@
-use Rattle.std.proofs.Common.{◌+◌}
-use Rattle.subsumption.specs.Rows.{holds}
-use Rattle.class_groups.specs.Groups.{is_first}
-use Rattle.class_groups.proofs.Members.{HoldsBelow}
-use Rattle.class_groups.proofs.grouping.first_classes.Given as goal
-
-abbrev pub invariant-loop-class : goal.invariant-loop-class
-invariant-loop-class l =
-    HoldsBelow l.class (is_first l.relation.count (holds l.relation)) (l.relation.count + 2) l.firsts
