@@ -8,9 +8,9 @@ ghost use Rattle.classification_jobs.specs.Listing.{is_listed};
 ghost use Rattle.classification_jobs.specs.Taxonomies.{is_above, is_parent, group_of, groups_of, hierarchy_of};
 ghost use Rattle.classification_jobs.specs.Taxonomies.{taxonomy_of};
 
+use crate::groups::{Group, Hierarchy, Taxonomy};
 use axiom_sets::AxiomSet;
 use classifier::Relation;
-use crate::groups::{Group, Hierarchy, Taxonomy};
 use shq_terms::NoMemory;
 use std::alloc::Global;
 use subsumption::{

@@ -12,7 +12,7 @@ use Rattle.ofn_reader.specs.Queries.{IsQueryOn, IsNoQueryOn}
 use Rattle.job_inputs.specs.Answer.{line}
 use Rattle.job_inputs.specs.Complaints.{Complaint, complaint, complaint_text}
 use Rattle.job_inputs.specs.declared.complaint.Place.TheVariants as place
-use Rattle.answer_pieces.specs.SetText.{set_text}
+use Rattle.job_inputs.specs.SetText.{set_text}
 use Rattle.edit_session.specs.Sessions.{State}
 use Rattle.edit_session.specs.ScriptLines.{Request, adds, removes, asks, other, request}
 

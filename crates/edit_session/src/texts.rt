@@ -3,9 +3,8 @@ ghost use Rattle.std.specs.Prelude.{◌≡◌, IfOk, codes};
 ghost use Rattle.job_inputs.specs.Answer.{text_bytes};
 ghost use Rattle.edit_session.specs.Said.{bad_line, numbered_line, yes_line, no_line, SaysWrong};
 
-use answer_pieces::put_set;
 use axiom_sets::AxiomSet;
-use job_inputs::{Place, Text, complaint_of};
+use job_inputs::{Place, Text, complaint_of, put_set};
 use ofn_reader::Refusal;
 use shq_terms::NoMemory;
 use std::alloc::Global;

@@ -17,7 +17,7 @@ use Rattle.run_log.specs.declared.entry.Entry.{Entry}
 use Rattle.run_log.specs.declared.entry.Entry.TheVariants.{Test}
 use Rattle.run_log.specs.declared.entry.TestEnd.TheVariants.{No}
 use Rattle.run_log.specs.HonestLog.{IsTestOf}
-use Rattle.answer_pieces.specs.SetText.{numbers_text}
+use Rattle.job_inputs.specs.SetText.{numbers_text}
 use Rattle.pinpointing_jobs.specs.SetLists.{axiom_lines}
 use Rattle.realizer.specs.Instances.{instance_query}
 use Rattle.individual_jobs.specs.ReasonLists.{ReasonLists}

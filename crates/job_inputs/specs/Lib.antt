@@ -1,3 +1,4 @@
+pub mod SetText
 pub mod Answer
 pub mod Complaints
 pub mod Unread

@@ -6,13 +6,15 @@
 //!   inclusion of two class expressions or that an individual is in one, or whether a class expression has an element,
 //!   which asks for the inclusion of it in `owl:Nothing`.
 //! - **Answers.** Each job answers a status and one text. A document or a query that is refused is answered in the same
-//!   way by each of them: with the sort of the refusal, what is wrong, and where.
+//!   way by each of them: with the sort of the refusal, what is wrong, and where. Longer answers are put together of
+//!   bytes, numbers and sets of axioms (`pieces`).
 #![tactic(auto)]
 
 mod complaint;
 mod documents;
 mod laws;
 mod message;
+mod pieces;
 mod reading;
 mod rest;
 mod status;
@@ -26,6 +28,7 @@ pub use laws::{
     documents_alone_are_not_refused, gaps_have_no_stray, questions_are_read_in_one_way,
 };
 pub use message::{Message, unread_reply};
+pub use pieces::{put, put_number, put_set};
 pub use reading::{Question, read_document, read_question};
 pub use rest::first_stray;
 pub use status::Status;

@@ -6,7 +6,7 @@ use Rattle.axiom_sets.specs.Sets.{Limited}
 use Rattle.shq_terms.specs.Listed.{Listed}
 use Rattle.shq_terms.specs.declared.axioms.Numbered.{Numbered}
 use Rattle.ofn_writer.specs.Canonical.{items_text, line, axiom_text}
-use Rattle.answer_pieces.specs.SetText.{set_text}
+use Rattle.job_inputs.specs.SetText.{set_text}
 
 -- ---- the sets
 

@@ -6,8 +6,8 @@ ghost use Rattle.shq_terms.specs.Uses.{axiom_uses_listed};
 ghost use Rattle.pinpointing_jobs.specs.SetLists.{is_listed, axiom_line, axiom_lines};
 
 use crate::NoMemory;
-use answer_pieces::{put, put_number};
 use axiom_sets::AxiomSet;
+use job_inputs::{put, put_number};
 use ofn_writer::axiom_text;
 use shq_terms::{Numbered, Ontology};
 use std::alloc::Global;

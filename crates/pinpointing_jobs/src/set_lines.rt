@@ -1,12 +1,12 @@
 // The lines of sets.
 ghost use Rattle.std.specs.Prelude.{◌≡◌, ◌++◌, OnOk};
-ghost use Rattle.answer_pieces.specs.SetText.{set_text};
+ghost use Rattle.job_inputs.specs.SetText.{set_text};
 ghost use Rattle.ofn_writer.specs.Canonical.{line};
 ghost use Rattle.pinpointing_jobs.specs.SetLists.{set_lines};
 
 use crate::NoMemory;
-use answer_pieces::{put, put_set};
 use axiom_sets::AxiomSet;
+use job_inputs::{put, put_set};
 use std::alloc::Global;
 
 /// Puts a line for each set last.

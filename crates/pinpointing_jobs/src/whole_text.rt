@@ -11,8 +11,8 @@ ghost use Rattle.pinpointing_jobs.specs.SetLists.{set_lines, axiom_lines, headin
 use crate::NoMemory;
 use crate::axiom_lines::{put_axioms, put_members};
 use crate::set_lines::put_sets;
-use answer_pieces::put;
 use axiom_sets::AxiomSet;
+use job_inputs::put;
 use shq_terms::Ontology;
 use std::alloc::Global;
 

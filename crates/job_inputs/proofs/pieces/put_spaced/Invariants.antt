@@ -1,7 +1,7 @@
 use Rattle.std.proofs.Common.{◌≡◌, ◌++◌, map}
 use Rattle.std.specs.Prelude.{decimal}
 use Rattle.ofn_writer.specs.Canonical.{spaced}
-use Rattle.answer_pieces.proofs.put_spaced.Given as goal
+use Rattle.job_inputs.proofs.pieces.put_spaced.Given as goal
 
 abbrev pub invariant-loop-number : goal.invariant-loop-number
 invariant-loop-number l =
