@@ -1,17 +1,34 @@
-//! Tests of streams, of ontologies, of equality, and of sets of numbers.
+//! Tests of the lower rooms: of streams, of ontologies, of equality and of sets of numbers; of documents in
+//! functional-style syntax and their canonical texts; and of certificates.
 #![tactic(auto)]
 
+#[cfg(test)]
+mod addition_tests;
 #[cfg(test)]
 mod axiom_tests;
 #[cfg(test)]
 mod dependency_tests;
 #[cfg(test)]
+mod document_tests;
+#[cfg(test)]
 mod equality_tests;
 #[cfg(test)]
 mod lane_tests;
 #[cfg(test)]
+mod line_tests;
+#[cfg(test)]
+mod model_tests;
+#[cfg(test)]
 mod ontology_tests;
+#[cfg(test)]
+mod refutation_tests;
+#[cfg(test)]
+mod small_ontologies;
 #[cfg(test)]
 mod stream_tests;
 #[cfg(test)]
+mod token_tests;
+#[cfg(test)]
 mod word_tests;
+#[cfg(test)]
+mod writer_tests;

@@ -1,9 +1,15 @@
-//! Tests of the parts of the search: completion trees and their blocks, models, tables of rows and their closing,
-//! and the traces of a search with the refutations that are made of them.
+//! Tests of the calculus and of the parts of the search: roles, normal forms and the facts of assertions; what the
+//! checker of refutations stands on, that is facts of a branch, cached rows and rule lines; completion trees and their
+//! blocks, models, tables of rows and their closing, and the traces of a search with the refutations that are made of
+//! them.
 #![tactic(auto)]
 
 #[cfg(test)]
+mod assertion_tests;
+#[cfg(test)]
 mod block_tests;
+#[cfg(test)]
+mod branch_tests;
 #[cfg(test)]
 mod closed_tests;
 #[cfg(test)]
@@ -13,11 +19,23 @@ mod finder_tests;
 #[cfg(test)]
 mod following;
 #[cfg(test)]
+mod individual_tests;
+#[cfg(test)]
 mod model_tests;
+#[cfg(test)]
+mod normal_form_tests;
 #[cfg(test)]
 mod plain;
 #[cfg(test)]
 mod random_tests;
+#[cfg(test)]
+mod role_tests;
+#[cfg(test)]
+mod row_tests;
+#[cfg(test)]
+mod rule_tests;
+#[cfg(test)]
+mod small_axioms;
 #[cfg(test)]
 mod small_tables;
 #[cfg(test)]

@@ -1,0 +1,183 @@
+// What a search did, and how long it took.
+ghost use Rattle.std.specs.Prelude.{◌≡◌, IfOk, length};
+ghost use Rattle.ontology_limits.specs.Limits.{IsInLimit};
+ghost use Rattle.search_rules.specs.RuleLists.{AreNumbersOf};
+ghost use Rattle.bench_parts.specs.Small.{asked};
+
+use crate::family::Family;
+use crate::making::ontology_of;
+use axiom_sets::AxiomSet;
+use bumpalo::Bump;
+use search_rules::SearchRules;
+use shq_terms::{Concept, NoMemory, Node, On, Ontology, Query};
+use std::alloc::{Allocator, Global};
+use std::io;
+use std::num::nearest_u64_to_f64;
+use std::rt::Clock;
+use std::time::Instant;
+use tableau::{Effort, End, Search};
+
+/// The rules of all axioms of an ontology, with the numbers of what the query asks.
+#[derive(Drop)]
+struct Asked<'a> {
+    rules: SearchRules<'a>,
+    sub: u32,
+    not_sup: u32,
+}
+
+/// What a search did, how it ended, and how many lines its refutation has.
+#[derive(Clone, Copy)]
+struct Outcome {
+    end: &'static str,
+    lines: usize,
+    steps: u64,
+    effort: Effort,
+}
+
+/// Prints what the search over a family of a size does.
+pub(crate) fn report(
+    rt: &(impl Print + Clock),
+    alloc: Global,
+    name: &str,
+    family: Family,
+    size: u32,
+) -> io::Result<()> {
+    print!(rt; "{name}, {size}: ")?;
+    match ontology_of(alloc, family, size) {
+        Ok(ontology) => report_rules(rt, alloc, &ontology, family.fuel(size)),
+        Err(fault) => println!(rt; "{fault}"),
+    }
+}
+
+fn report_rules(
+    rt: &(impl Print + Clock),
+    alloc: Global,
+    ontology: &Ontology,
+    fuel: u64,
+) -> io::Result<()>
+    requires in_limit { IsInLimit ontology.now asked }
+{
+    let query = query();
+    match ask(alloc, ontology, &query) {
+        Ok(rules) => report_search(rt, alloc, &rules, &query, fuel),
+        Err(_) => println!(rt; "out of memory"),
+    }
+}
+
+fn report_search(
+    rt: &(impl Print + Clock),
+    alloc: Global,
+    asked: &Asked<'_>,
+    query: &Query,
+    fuel: u64,
+) -> io::Result<()>
+    requires numbers { AreNumbersOf asked.now.rules query.now asked.now.sub asked.now.not_sup }
+    requires set { asked.now.rules.set.limit ≡ length asked.now.rules.ontology.axioms }
+    requires in_limit { IsInLimit asked.now.rules.ontology query.now }
+{
+    let start = Instant::now(rt)?;
+    let found = search(alloc, asked, query, fuel);
+    let seconds = start.elapsed(rt)?.as_secs_f64();
+    match found {
+        Ok(outcome) => print(rt, &outcome, seconds),
+        Err(_) => println!(rt; "out of memory"),
+    }
+}
+
+fn print(rt: &impl Print, outcome: &Outcome, seconds: f64) -> io::Result<()> {
+    let Outcome {
+        end,
+        lines,
+        steps,
+        effort,
+    } = *outcome;
+    let Effort {
+        looks,
+        scans,
+        backs,
+        lost,
+        stripped,
+        blocks,
+        sieves,
+    } = effort;
+    let pace = nearest_u64_to_f64(steps) / seconds;
+    println!(rt;
+        "{end}, {steps} steps, {looks} looks, {scans} scans, {blocks} blocks, {sieves} sieves, {backs} ways back, \
+            {lost} choices lost, {stripped} lines taken out, {lines} lines, {seconds:.6} s, {pace:.0} steps a second"
+    )
+}
+
+/// Whether the first class has a member.
+fn query() -> Query
+    ensures { result ≡ asked }
+{
+    Query {
+        sub: Concept {
+            node: Node::Name(0),
+        },
+        sup: Concept { node: Node::Bottom },
+        on: On::Any,
+    }
+}
+
+/// The rules of all axioms, with which the query is asked.
+fn ask<'a>(alloc: Global, ontology: &'a Ontology, query: &Query) -> Result<Asked<'a>, NoMemory>
+    requires { IsInLimit ontology.now query.now }
+    ensures numbers { IfOk result (λ a. AreNumbersOf a.rules query.now a.sub a.not_sup) }
+    ensures set { IfOk result (λ a. a.rules.set.limit ≡ length a.rules.ontology.axioms) }
+    ensures ontology { IfOk result (λ a. a.rules.ontology ≡ ontology.entry.now) }
+{
+    let set = AxiomSet::full(alloc, ontology.axiom_count())?;
+    let _limit = set.limit();
+    let mut rules = SearchRules::build(alloc, ontology, &set)?;
+    let (sub, not_sup) = rules.numbers_of(alloc, query)?;
+    Ok(Asked {
+        rules,
+        sub,
+        not_sup,
+    })
+}
+
+/// Searches, in an arena of its own.
+fn search(alloc: Global, asked: &Asked<'_>, query: &Query, fuel: u64) -> Result<Outcome, NoMemory>
+    requires numbers { AreNumbersOf asked.now.rules query.now asked.now.sub asked.now.not_sup }
+    requires set { asked.now.rules.set.limit ≡ length asked.now.rules.ontology.axioms }
+    requires in_limit { IsInLimit asked.now.rules.ontology query.now }
+{
+    let arena = Bump::new(alloc);
+    search_in(&arena, alloc, asked, query, fuel)
+}
+
+fn search_in<A: Allocator + Copy>(
+    arena: A,
+    alloc: Global,
+    asked: &Asked<'_>,
+    query: &Query,
+    fuel: u64,
+) -> Result<Outcome, NoMemory>
+    requires numbers { AreNumbersOf asked.now.rules query.now asked.now.sub asked.now.not_sup }
+    requires set { asked.now.rules.set.limit ≡ length asked.now.rules.ontology.axioms }
+    requires in_limit { IsInLimit asked.now.rules.ontology query.now }
+{
+    let mut search = Search::new_in(arena, alloc, &asked.rules, query, asked.sub, asked.not_sup)?;
+    let end = search.run(fuel)?;
+    Ok(outcome_of(&search, &end))
+}
+
+fn outcome_of<A: Allocator + Copy>(search: &Search<'_, A>, end: &End) -> Outcome {
+    let (end, lines) = end_of(end);
+    Outcome {
+        end,
+        lines,
+        steps: search.steps(),
+        effort: search.effort(),
+    }
+}
+
+fn end_of(end: &End) -> (&'static str, usize) {
+    match end {
+        End::Saturated => ("saturated", 0),
+        End::Closed(refutation) => ("closed", refutation.lines().len()),
+        End::Spent => ("spent", 0),
+    }
+}

@@ -1,5 +1,0 @@
-use Rattle.refutation_rules.specs.Outcomes.{IsBranch}
-use Rattle.calculus_tests.proofs.individual_tests.Seen.branch.Given as goal
-
-abbrev pub invariant-loop-node : goal.invariant-loop-node
-invariant-loop-node l = IsBranch l.len l.branch
