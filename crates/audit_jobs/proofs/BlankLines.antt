@@ -7,7 +7,7 @@ use Rattle.std.specs.Str.Lines.{strip_carriage_return}
 use Rattle.std.proofs.lemmas.Bool.{and_parts}
 use Rattle.certificate_lines.specs.Lines.{lines, is_space, is_blank}
 use Rattle.audit_file.proofs.Joined.{lines_joined}
-use Rattle.certificate_check.specs.Certificates.{certificate_lines}
+use Rattle.decision_jobs.specs.Certificates.{certificate_lines}
 
 -- ---- whitespace has blank lines alone
 

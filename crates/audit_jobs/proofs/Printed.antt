@@ -10,8 +10,8 @@ use Rattle.certificate_lines.specs.Lines.{lines, is_blank}
 use Rattle.certificate_lines.specs.Written.{fed}
 use Rattle.ofn_reader.proofs.Unique.{documents}
 use Rattle.job_inputs.proofs.LongerDocuments.{documents_end, longer_documents}
-use Rattle.certificate_check.specs.Certificates.{certificate_lines}
-use Rattle.certificate_check.proofs.Blanks.{few_lines}
+use Rattle.decision_jobs.specs.Certificates.{certificate_lines}
+use Rattle.decision_jobs.proofs.Blanks.{few_lines}
 use Rattle.job_inputs.specs.Answer.{Answer, IsAnswer, line, complaint_answer}
 use Rattle.job_inputs.specs.Asked.{Reply}
 use Rattle.job_inputs.specs.Complaints.{Complaint, sort_status, complaint}

@@ -15,7 +15,7 @@ use Rattle.job_inputs.specs.declared.status.Status.{Status}
 use Rattle.job_inputs.specs.declared.status.Status.TheVariants.{Done, Rejected, NoMemory}
 use Rattle.job_inputs.specs.declared.unread.Unread.{Unread}
 use Rattle.job_inputs.specs.declared.unread.Unread.TheVariants as U
-use Rattle.certificate_check.specs.Certificates.{certificate_lines}
+use Rattle.decision_jobs.specs.Certificates.{certificate_lines}
 use Rattle.audit_file.specs.AuditLists.{AuditLists, IsOrdered}
 use Rattle.audit_file.specs.AuditText.{audit_in, told}
 use Rattle.audit_file.specs.Fitting.{Fits}

@@ -17,18 +17,18 @@ use Rattle.refutation_tree.specs.RefutationText.{refutation_of}
 use Rattle.refutation_tree.specs.Written.{refutation_text}
 use Rattle.refutation_tree.proofs.TextBack.{refutation_read_back}
 use Rattle.refutation_truth.specs.Theory.{all_axioms}
-use Rattle.certificate_check.specs.LimitLaws.{AreWritable}
+use Rattle.job_inputs.specs.LimitLaws.{AreWritable}
 use Rattle.run_log.specs.HonestLog.{IsWhole}
 use Rattle.run_log.proofs.Named.{whole}
 use Rattle.shq_oracle.specs.declared.answer.Answer.{Answer as Decision}
 use Rattle.shq_oracle.specs.declared.answer.Answer.TheVariants as Answered
 use Rattle.shq_oracle.specs.Decided.{IsRefuting}
-use Rattle.certificate_check.specs.Certificates.{model_after, refutation_after, certificate}
-use Rattle.certificate_check.specs.Checking.{IsOfModel, first_unmet}
-use Rattle.certificate_check.specs.declared.certificate.Certificate.TheVariants as C
-use Rattle.certificate_check.specs.Verdict.TheVariants.{NotEntailed}
-use Rattle.certificate_check.specs.Answer.{line}
-use Rattle.certificate_check.specs.Questions.{Text, has_element, follows}
+use Rattle.decision_jobs.specs.Certificates.{model_after, refutation_after, certificate}
+use Rattle.decision_jobs.specs.Checking.{IsOfModel, first_unmet}
+use Rattle.decision_jobs.specs.declared.certificate.Certificate.TheVariants as C
+use Rattle.job_inputs.specs.declared.verdict.Verdict.TheVariants.{NotEntailed}
+use Rattle.job_inputs.specs.Answer.{line}
+use Rattle.job_inputs.specs.Questions.{Text, has_element, follows}
 use Rattle.decision_jobs.proofs.Least.{least_below}
 use Rattle.decision_jobs.specs.Decisions.{entailed_line, not_entailed_line, decision_text, IsAccepted}
 use Rattle.decision_jobs.specs.Deciding.{IsDecision, IsKeptModel}

@@ -6,22 +6,22 @@ use Rattle.shq_terms.specs.declared.axioms.Query.{Query as Asked}
 use Rattle.ofn_reader.specs.DocumentContext.{DocumentContext}
 use Rattle.run_log.specs.declared.entry.Entry.{Entry}
 use Rattle.run_log.specs.HonestLog.{IsDecisionLog}
-use Rattle.certificate_check.specs.Asked.{refused_document, refused_query}
-use Rattle.certificate_check.specs.Replies.{unread_answer}
-use Rattle.certificate_check.specs.Unread.{Unread}
-use Rattle.certificate_check.specs.Unread.TheVariants as U
-use Rattle.certificate_check.specs.Answer.{Answer, no_memory, Gives}
-use Rattle.certificate_check.specs.Status.{Status}
-use Rattle.certificate_check.specs.Status.TheVariants.{Done, Rejected, BadWords, BadText, Outside, Limit, ReadFault}
-use Rattle.certificate_check.specs.Status.TheVariants.{WriteFault, Undecided, NoMemory}
-use Rattle.certificate_check.specs.Questions.{Text, document, query, IsDocumentAlone, IsQuestion, IsReadQuestion}
-use Rattle.certificate_check.specs.Questions.{IsUnreadDocument, IsUnreadQuestion}
+use Rattle.job_inputs.specs.Asked.{refused_document, refused_query}
+use Rattle.job_inputs.specs.Replies.{unread_answer}
+use Rattle.job_inputs.specs.declared.unread.Unread.{Unread}
+use Rattle.job_inputs.specs.declared.unread.Unread.TheVariants as U
+use Rattle.job_inputs.specs.Answer.{Answer, no_memory, Gives}
+use Rattle.job_inputs.specs.declared.status.Status.{Status}
+use Rattle.job_inputs.specs.declared.status.Status.TheVariants.{Done, Rejected, BadWords, BadText, Outside, Limit, ReadFault}
+use Rattle.job_inputs.specs.declared.status.Status.TheVariants.{WriteFault, Undecided, NoMemory}
+use Rattle.job_inputs.specs.Questions.{Text, document, query, IsDocumentAlone, IsQuestion, IsReadQuestion}
+use Rattle.job_inputs.specs.Questions.{IsUnreadDocument, IsUnreadQuestion}
 use Rattle.shq_oracle.specs.declared.answer.Answer.{Answer as Decision}
 use Rattle.shq_oracle.specs.declared.answer.Answer.TheVariants as Answered
-use Rattle.certificate_check.specs.Refusals.{IsRefused, nothing, asked}
+use Rattle.job_inputs.specs.Refusals.{IsRefused, nothing, asked}
 use Rattle.decision_jobs.specs.Decisions.{decision_status, BeginsQuestion, AnswersQuestion, IsDecided}
-use Rattle.certificate_check.specs.Refusals.{IsUnanswered}
-use Rattle.certificate_check.proofs.ReadInLimit.{question_writable}
+use Rattle.job_inputs.specs.Refusals.{IsUnanswered}
+use Rattle.job_inputs.proofs.ReadInLimit.{question_writable}
 use Rattle.decision_jobs.specs.Answering.{IsDecidedBy, IsAnswered, IsBegun, IsBegunOn, IsUnansweredOn}
 use Rattle.decision_jobs.proofs.Accepted.{accepted}
 

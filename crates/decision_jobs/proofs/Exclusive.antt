@@ -2,9 +2,9 @@
 use Rattle.std.proofs.Common.{map, subst}
 use Rattle.shq_terms.specs.Listed.{Listed}
 use Rattle.shq_meaning.specs.Truth.{Entails}
-use Rattle.certificate_check.specs.declared.certificate.Certificate.TheVariants as C
-use Rattle.certificate_check.proofs.Truth.{followed, not_followed}
-use Rattle.certificate_check.proofs.OneReading.{questions}
+use Rattle.decision_jobs.specs.declared.certificate.Certificate.TheVariants as C
+use Rattle.decision_jobs.proofs.Truth.{followed, not_followed}
+use Rattle.job_inputs.proofs.OneReading.{questions}
 use Rattle.decision_jobs.specs.Decisions.{IsAccepted}
 use Rattle.decision_jobs.specs.Laws.{YesFollows, NoDoesNotFollow, VerdictsExclude}
 

@@ -1,7 +1,13 @@
+pub mod Unmet
+pub mod Blanks
+pub mod FirstMalformed
+pub mod Stops
+pub mod Reasons
+pub mod InLimit
+pub mod Truth
+pub mod Replied
 pub mod Logged
 pub mod Least
 pub mod Accepted
 pub mod Answered
 pub mod Exclusive
-pub use Rattle.certificate_check.proofs.Truth
-pub use Rattle.certificate_check.proofs.FirstMalformed

@@ -6,10 +6,10 @@ use Rattle.ofn_reader.specs.DocumentContext.{DocumentContext}
 use Rattle.run_log.specs.declared.entry.Entry.{Entry}
 use Rattle.run_log.specs.HonestLog.{IsDecisionLog}
 use Rattle.shq_oracle.specs.declared.answer.Answer.{Answer as Decision}
-use Rattle.certificate_check.specs.Unread.{Unread}
-use Rattle.certificate_check.specs.Unread.TheVariants as U
-use Rattle.certificate_check.specs.Status.{Status}
-use Rattle.certificate_check.specs.Questions.{Text, IsNotAskedBy, IsReadQuestion}
+use Rattle.job_inputs.specs.declared.unread.Unread.{Unread}
+use Rattle.job_inputs.specs.declared.unread.Unread.TheVariants as U
+use Rattle.job_inputs.specs.declared.status.Status.{Status}
+use Rattle.job_inputs.specs.Questions.{Text, IsNotAskedBy, IsReadQuestion}
 use Rattle.decision_jobs.specs.Deciding.{IsDecision, IsKeptModel}
 use Rattle.decision_jobs.specs.Decisions.{decision_text, decision_status, IsLogged, IsDecided}
 

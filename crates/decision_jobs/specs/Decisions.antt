@@ -12,15 +12,15 @@ use Rattle.run_log.specs.HonestLog.{IsDecisionLog}
 use Rattle.shq_oracle.specs.declared.answer.Answer.{Answer as Decision}
 use Rattle.shq_oracle.specs.declared.answer.Answer.TheVariants as Answered
 use Rattle.shq_oracle.specs.Decided.{Matches}
-use Rattle.certificate_check.specs.Certificates.{certificate}
-use Rattle.certificate_check.specs.Checking.{IsVerdictOn}
-use Rattle.certificate_check.specs.Refusals.{IsRefused, HasBegun, IsOutOfMemory}
-use Rattle.certificate_check.specs.declared.certificate.Certificate.TheVariants as C
-use Rattle.certificate_check.specs.Verdict.TheVariants.{Entailed, NotEntailed}
-use Rattle.certificate_check.specs.Answer.{line}
-use Rattle.certificate_check.specs.Status.{Status}
-use Rattle.certificate_check.specs.Status.TheVariants.{Done, Undecided, NoMemory}
-use Rattle.certificate_check.specs.Questions.{Text, has_element, follows, IsQuestion}
+use Rattle.decision_jobs.specs.Certificates.{certificate}
+use Rattle.decision_jobs.specs.Checking.{IsVerdictOn}
+use Rattle.job_inputs.specs.Refusals.{IsRefused, HasBegun, IsOutOfMemory}
+use Rattle.decision_jobs.specs.declared.certificate.Certificate.TheVariants as C
+use Rattle.job_inputs.specs.declared.verdict.Verdict.TheVariants.{Entailed, NotEntailed}
+use Rattle.job_inputs.specs.Answer.{line}
+use Rattle.job_inputs.specs.declared.status.Status.{Status}
+use Rattle.job_inputs.specs.declared.status.Status.TheVariants.{Done, Undecided, NoMemory}
+use Rattle.job_inputs.specs.Questions.{Text, has_element, follows, IsQuestion}
 
 -- ---- texts
 

@@ -8,8 +8,8 @@ use Rattle.finite_model.specs.ModelLists.{ModelLists}
 use Rattle.refutation_tree.specs.RefutationLists.{RefutationLists}
 use Rattle.run_log.specs.declared.entry.Entry.{Entry}
 use Rattle.shq_oracle.specs.declared.answer.Answer.TheVariants as Answered
-use Rattle.certificate_check.specs.Status.TheVariants.{Done}
-use Rattle.certificate_check.specs.Questions.{Text, IsQuestion}
+use Rattle.job_inputs.specs.declared.status.Status.TheVariants.{Done}
+use Rattle.job_inputs.specs.Questions.{Text, IsQuestion}
 use Rattle.decision_jobs.specs.Decisions.{IsDecided}
 
 -- the answer says that the query of the question follows

@@ -1,17 +1,15 @@
 // From the question and the bytes of a document to the answer.
 ghost use Rattle.std.specs.Prelude.{◌≡◌, ℕ, ◌≤◌, false, List, [], IfOk, IfErr, OnErr, length};
 ghost use Rattle.ontology_limits.specs.Limits.{IsInLimit};
-ghost use Rattle.certificate_check.specs.Answer.{text_bytes, is_fault};
-ghost use Rattle.certificate_check.specs.Questions.{question_text, IsDocumentAlone};
+ghost use Rattle.job_inputs.specs.Answer.{text_bytes, is_fault};
+ghost use Rattle.job_inputs.specs.Questions.{question_text, IsDocumentAlone};
 ghost use Rattle.run_log.specs.HonestLog.{IsDecisionLog};
 ghost use Rattle.decision_jobs.specs.Decisions.{AnswersQuestion};
-ghost use Rattle.certificate_check.specs.Refusals.{IsUnanswered};
+ghost use Rattle.job_inputs.specs.Refusals.{IsUnanswered};
 ghost use Rattle.decision_jobs.specs.Answering.{IsAnswered, IsDecidedBy, IsBegun, IsUnansweredOn};
 
 use crate::deciding::{decide, status_of, text_of};
-use certificate_check::{
-    Question, Status, Text, Unread, read_document, read_question, unread_reply,
-};
+use job_inputs::{Question, Status, Text, Unread, read_document, read_question, unread_reply};
 use ofn_reader::Context;
 use shq_oracle::RunLog;
 use shq_terms::{Ontology, Query};

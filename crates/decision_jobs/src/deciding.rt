@@ -3,14 +3,14 @@ ghost use Rattle.std.specs.Prelude.{◌≡◌, ◌≤◌, [], ◌++◌, IfOk, On
 ghost use Rattle.ontology_limits.specs.Limits.{IsInLimit};
 ghost use Rattle.finite_model.specs.Written.{model_text, uses_listed_names};
 ghost use Rattle.refutation_tree.specs.Written.{refutation_text, names_are_listed};
-ghost use Rattle.certificate_check.specs.Answer.{line, text_bytes};
-ghost use Rattle.certificate_check.specs.Questions.{question_text};
+ghost use Rattle.job_inputs.specs.Answer.{line, text_bytes};
+ghost use Rattle.job_inputs.specs.Questions.{question_text};
 ghost use Rattle.decision_jobs.specs.Decisions.{entailed_line, not_entailed_line, decision_text, decision_status};
 ghost use Rattle.decision_jobs.specs.Decisions.{IsLogged};
 ghost use Rattle.decision_jobs.specs.Deciding.{IsDecision, CanBeWritten, IsKeptModel};
 
 use axiom_sets::AxiomSet;
-use certificate_check::{Question, Status, Text};
+use job_inputs::{Question, Status, Text};
 use shq_oracle::{Answer, Oracle, RunLog};
 use shq_terms::{NoMemory, Ontology, Query};
 use std::alloc::Global;

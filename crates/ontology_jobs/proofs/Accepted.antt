@@ -22,8 +22,8 @@ use Rattle.classification_jobs.specs.Answer.{line, Answer, complaint_answer}
 use Rattle.classification_jobs.specs.Replies.{reply_answer}
 use Rattle.ontology_jobs.specs.Answers.{AnswersJob}
 use Rattle.ontology_jobs.specs.Laws.{HaveRead, HaveAudited, AcceptedAuditsListAll}
-use Rattle.decision_jobs.specs.Certificate.{Certificate}
-use Rattle.decision_jobs.specs.Certificate.TheVariants as C
+use Rattle.decision_jobs.specs.declared.certificate.Certificate.{Certificate}
+use Rattle.decision_jobs.specs.declared.certificate.Certificate.TheVariants as C
 use Rattle.classification_jobs.specs.Place.{Place}
 use Rattle.classification_jobs.specs.Place.TheVariants as P
 use Rattle.classification_jobs.specs.Sort.{Sort}

@@ -38,8 +38,8 @@ use Rattle.classification_jobs.specs.Answer.{line, Answer}
 use Rattle.classification_jobs.specs.Replies.{verdict_answer, reply_answer}
 use Rattle.ontology_jobs.specs.Answers.{IsTooLong, IsBadWords, AnswersJob, AnswersRequest}
 use Rattle.ontology_jobs.specs.Laws.{IsFinal, AsksForNoSearch, AnswersAreUnique}
-use Rattle.decision_jobs.specs.Certificate.{Certificate}
-use Rattle.decision_jobs.specs.Certificate.TheVariants as C
+use Rattle.decision_jobs.specs.declared.certificate.Certificate.{Certificate}
+use Rattle.decision_jobs.specs.declared.certificate.Certificate.TheVariants as C
 use Rattle.classification_jobs.specs.Verdict.{Verdict}
 use Rattle.classification_jobs.specs.Verdict.TheVariants.{NotEntailed, Entailed, Axiom, Query, Line}
 use Rattle.classification_jobs.specs.Status.{Status}

@@ -1,7 +1,7 @@
 use Rattle.std.proofs.Common.{◌≡◌, length, ap, sym, ◌∙◌, arith}
 use Rattle.std.proofs.lemmas.List.{length-map}
 use Rattle.certificate_lines.specs.Lines.{lines}
-use Rattle.certificate_check.proofs.Blanks.{few_lines}
+use Rattle.decision_jobs.proofs.Blanks.{few_lines}
 use Rattle.audit_jobs.proofs.reading.read_audit.Goals as goal
 
 pub read_lines-requires : goal.read_lines-requires

@@ -1,5 +1,5 @@
 use Rattle.std.proofs.lemmas.Result.{err_from_is_err_and}
-use Rattle.certificate_check.proofs.Reasons.{mapped_err}
+use Rattle.decision_jobs.proofs.Reasons.{mapped_err}
 use Rattle.audit_jobs.proofs.Reasons.{unasked, unaudited}
 use Rattle.audit_jobs.proofs.reading.read_claim.Goals as goal
 

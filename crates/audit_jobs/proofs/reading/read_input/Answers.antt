@@ -1,6 +1,6 @@
 use Rattle.std.proofs.Common.{subst}
 use Rattle.std.proofs.lemmas.Result.{err_from_is_err_and}
-use Rattle.certificate_check.proofs.Reasons.{mapped_err}
+use Rattle.decision_jobs.proofs.Reasons.{mapped_err}
 use Rattle.audit_jobs.specs.Audited.{IsAuditClaim, IsUnclaimed, IsAuditInput, input_with}
 use Rattle.audit_jobs.proofs.Reasons.{mapped_ok, undocumented, unclaimed, claimed}
 use Rattle.audit_jobs.proofs.InLimit.{input_in_limit}

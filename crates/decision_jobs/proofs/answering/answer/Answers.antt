@@ -1,6 +1,6 @@
 use Rattle.std.proofs.Common.{}
-use Rattle.certificate_check.specs.Answer.{text_bytes}
-use Rattle.certificate_check.specs.Questions.{question_text}
+use Rattle.job_inputs.specs.Answer.{text_bytes}
+use Rattle.job_inputs.specs.Questions.{question_text}
 use Rattle.decision_jobs.proofs.Answered.{unread_answers}
 use Rattle.decision_jobs.proofs.answering.answer.Goals as goal
 

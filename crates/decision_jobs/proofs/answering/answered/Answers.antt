@@ -1,5 +1,5 @@
 use Rattle.std.proofs.lemmas.Result.{err_from_is_err_and}
-use Rattle.certificate_check.specs.Questions.{question_text}
+use Rattle.job_inputs.specs.Questions.{question_text}
 use Rattle.decision_jobs.proofs.Answered.{undocumented, all_unanswered}
 use Rattle.decision_jobs.proofs.answering.answered.Goals as goal
 

@@ -1,7 +1,7 @@
 use Rattle.std.proofs.lemmas.Result.{err_from_is_err_and}
-use Rattle.certificate_check.specs.Questions.{question_text}
-use Rattle.certificate_check.specs.Answer.{text_bytes}
-use Rattle.certificate_check.proofs.ReadInLimit.{question_in_limit}
+use Rattle.job_inputs.specs.Questions.{question_text}
+use Rattle.job_inputs.specs.Answer.{text_bytes}
+use Rattle.job_inputs.proofs.ReadInLimit.{question_in_limit}
 use Rattle.decision_jobs.proofs.Answered.{all_answer, all_begun, unasked}
 use Rattle.decision_jobs.proofs.answering.answered_on.Goals as goal
 

@@ -1,0 +1,18 @@
+use Rattle.std.proofs.lemmas.Result.{err_from_is_err_and}
+use Rattle.decision_jobs.proofs.Reasons.{mapped_err, unasked, uncertified}
+use Rattle.decision_jobs.proofs.checking.read_claim.Goals as goal
+
+pub returns-in_err-asked-clause-unclaimed : goal.returns-in_err-asked-clause-unclaimed
+returns-in_err-asked-clause-unclaimed c =
+    let p = err_from_is_err_and c.from_residual.result c.from_residual.ensures.1 in
+    rw (p.1, p.2)
+    (unasked c.args.ontology.now c.args.context.now c.args.query.now c.args.rest.now c.in_err-asked.field-0.0
+    c.in_err-asked.ensures.refused)
+
+pub returns-clause-unclaimed : goal.returns-clause-unclaimed
+returns-clause-unclaimed c =
+    let q = c.in_ok-asked.ensures.query in
+    mapped_err _ c.read_certificate-certificate.result c.claim_of.result c.claim_of.ensures
+    (uncertified c.args.ontology.now c.args.context.now c.args.query.now c.args.rest.now q.0 c.in_ok-asked.asked
+    c.query_on.new.ontology q.1 q.2 c.requires)
+    c.read_certificate-certificate.ensures.unread
