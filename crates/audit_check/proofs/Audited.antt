@@ -11,11 +11,11 @@ use Rattle.pinpointing_specs.proofs.Explored.{laws_of_lists, laws_of_leaves}
 use Rattle.audit_check.specs.Audits.{IsAudited, AuditedAreMinimalYes, AuditedAreMinimalRemovals}
 use Rattle.audit_check.proofs.Hits.{has_smallest, smallest_hits_alone}
 
-module _ (holds : NumberSet → Type 0) (limit : ℕ) (justs repairs : List Limited) (grows : Grows holds)
-    (audited : IsAudited holds limit justs repairs) where
+module _ (holds : NumberSet → Type 0) (limit : ℕ) (justifications repairs : List Limited) (grows : Grows holds)
+    (audited : IsAudited holds limit justifications repairs) where
   -- what a listed set lacks when it is without k meets each listed set
-  met_outside : (j : Limited) (k : ℕ) → Contains justs j → set.contains j.members k ≡ true
-      → MeetsEach justs (rest (without j k))
+  met_outside : (j : Limited) (k : ℕ) → Contains justifications j → set.contains j.members k ≡ true
+      → MeetsEach justifications (rest (without j k))
   met_outside j k listed member s s_listed =
       elim (part_or_more s.members (set.remove j.members k)) [
         | inl part ↦
@@ -33,10 +33,11 @@ module _ (holds : NumberSet → Type 0) (limit : ℕ) (justs repairs : List Limi
             )
       ]
 
-  covered : (t : NumberSet) → MeetsEach justs t → (l : Limited) × Contains repairs l × IsPart l.members t
-  covered = has_smallest limit justs audited.limits audited.within repairs audited.transversals
+  covered : (t : NumberSet) → MeetsEach justifications t → (l : Limited) × Contains repairs l × IsPart l.members t
+  covered = has_smallest limit justifications audited.limits audited.within repairs audited.transversals
 
-  needed : (j : Limited) → Contains justs j → (k : ℕ) → set.contains j.members k ≡ true → ¬ holds (without j k).members
+  needed : (j : Limited) → Contains justifications j → (k : ℕ) → set.contains j.members k ≡ true
+      → ¬ holds (without j k).members
   needed j listed k member yes' =
       let repair = covered (rest (without j k)) (met_outside j k listed member) in
       let r = repair.0 in
@@ -51,7 +52,7 @@ module _ (holds : NumberSet → Type 0) (limit : ℕ) (justs repairs : List Limi
       ]))
       yes')
 
-  pub explored : IsExplored holds limit justs repairs
+  pub explored : IsExplored holds limit justifications repairs
   explored =
       record {
         limits = audited.limits;
@@ -67,12 +68,14 @@ module _ (holds : NumberSet → Type 0) (limit : ℕ) (justs repairs : List Limi
       }
 
 pub audited_yes : (holds : NumberSet → Type 0) → AuditedAreMinimalYes holds
-audited_yes holds limit justs repairs grows audited =
-    laws_of_lists holds limit justs repairs grows (explored holds limit justs repairs grows audited)
+audited_yes holds limit justifications repairs grows audited =
+    laws_of_lists holds limit justifications repairs grows (explored holds limit justifications repairs grows audited)
 
 pub audited_removals : (holds : NumberSet → Type 0) → AuditedAreMinimalRemovals holds
-audited_removals holds limit justs repairs grows audited r e =
-    let law = laws_of_leaves holds limit justs repairs grows (explored holds limit justs repairs grows audited) r e in (
-      λ listed. law.0 (listed, smallest_hits_alone justs r ((audited.transversals r).0 listed).1),
+audited_removals holds limit justifications repairs grows audited r e =
+    let law =
+    laws_of_leaves holds limit justifications repairs grows (explored holds limit justifications repairs grows audited)
+    r e in (
+      λ listed. law.0 (listed, smallest_hits_alone justifications r ((audited.transversals r).0 listed).1),
       λ smallest. (law.1 smallest).0,
     )

@@ -11,22 +11,22 @@ abbrev pub IsAntichain : List Limited → Type 0
 IsAntichain sets = (s t : Limited) → Contains sets s → Contains sets t → IsPart s.members t.members → s ≡ t
 
 -- yes-sets of which none contains another, and their smallest transversals, each of whose rests is no yes-set
-pub record IsAudited (holds : NumberSet → Type 0) (limit : ℕ) (justs repairs : List Limited) : Type 0 where
-  pub limits : (j : Limited) → Contains justs j → j.limit ≡ limit
-  pub within : (j : Limited) → Contains justs j → IsWithin j.limit j.members
-  pub antichain : IsAntichain justs
-  pub yes_sets : (j : Limited) → Contains justs j → holds j.members
-  pub transversals : AreTransversals limit justs repairs
+pub record IsAudited (holds : NumberSet → Type 0) (limit : ℕ) (justifications repairs : List Limited) : Type 0 where
+  pub limits : (j : Limited) → Contains justifications j → j.limit ≡ limit
+  pub within : (j : Limited) → Contains justifications j → IsWithin j.limit j.members
+  pub antichain : IsAntichain justifications
+  pub yes_sets : (j : Limited) → Contains justifications j → holds j.members
+  pub transversals : AreTransversals limit justifications repairs
   pub ends : (r : Limited) → Contains repairs r → ¬ holds (rest r)
 
 -- the one list has exactly the smallest yes-sets
 abbrev pub AuditedAreMinimalYes : (NumberSet → Type 0) → Type 0
-AuditedAreMinimalYes holds = (limit : ℕ) (justs repairs : List Limited) → Grows holds
-    → IsAudited holds limit justs repairs
-    → (s : Limited) → s.limit ≡ limit → (Contains justs s ↔ IsMinimalYes holds s)
+AuditedAreMinimalYes holds = (limit : ℕ) (justifications repairs : List Limited) → Grows holds
+    → IsAudited holds limit justifications repairs
+    → (s : Limited) → s.limit ≡ limit → (Contains justifications s ↔ IsMinimalYes holds s)
 
 -- the other one has exactly the smallest sets whose removal leaves no yes-set
 abbrev pub AuditedAreMinimalRemovals : (NumberSet → Type 0) → Type 0
-AuditedAreMinimalRemovals holds = (limit : ℕ) (justs repairs : List Limited) → Grows holds
-    → IsAudited holds limit justs repairs
+AuditedAreMinimalRemovals holds = (limit : ℕ) (justifications repairs : List Limited) → Grows holds
+    → IsAudited holds limit justifications repairs
     → (r : Limited) → r.limit ≡ limit → (Contains repairs r ↔ IsMinimalRemoval holds r)

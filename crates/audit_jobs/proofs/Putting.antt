@@ -273,15 +273,16 @@ puts_repair (Err e) s copy others old new ms left x same rest_is put takes = tt
 
 -- ---- the audit
 
-pub is_audit_of : (f : Found) (e : Evidence) (sets justs listed : List Limited) (r : Result AuditLists NoMemory)
-    → justs ≡ f.justifications.items → listed ≡ sets → AreFoundRepairs f sets
-    → IfOk r (λ a. ListsJustifications justs e.refutations.items a.justifications)
+pub is_audit_of : (f : Found) (e : Evidence) (sets justifications listed : List Limited)
+    (r : Result AuditLists NoMemory)
+    → justifications ≡ f.justifications.items → listed ≡ sets → AreFoundRepairs f sets
+    → IfOk r (λ a. ListsJustifications justifications e.refutations.items a.justifications)
     → IfOk r (λ a. ListsRepairs listed e.models.items a.repairs) → IfOk r (IsAuditOf f e)
-is_audit_of f e sets justs listed (Ok a) just_is listed_is found js rs = record {
+is_audit_of f e sets justifications listed (Ok a) just_is listed_is found js rs = record {
   justifications =
       subst (λ (xs : List Limited). ListsJustifications xs e.refutations.items a.justifications) just_is js;
   sets = sets;
   are_found = found;
   repairs = subst (λ (xs : List Limited). ListsRepairs xs e.models.items a.repairs) listed_is rs;
 }
-is_audit_of f e sets justs listed (Err x) just_is listed_is found js rs = tt
+is_audit_of f e sets justifications listed (Err x) just_is listed_is found js rs = tt

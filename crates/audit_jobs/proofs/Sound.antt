@@ -114,15 +114,15 @@ counter_model o q r is =
 
 module _ (o : Listed) (q : Asked) (f : Found) (e : Evidence) (w : IsWitnessed o q f e.refutations.items e.models.items)
     (finished : f.finished ≡ true) where
-  abbrev justs : List Limited
-  justs = f.justifications.items
+  abbrev justifications : List Limited
+  justifications = f.justifications.items
 
   leaf_is : (l : Limited) → Contains f.leaves.items l → IsLeaf o q l
   leaf_is l at =
       let x = w.explored finished in
       record { limit_is = x.leaf_limits l at; within = (x.ends l at).0; ends = (x.ends l at).1 }
 
-  leaf_meets : (l : Limited) → IsLeaf o q l → MeetsEach justs l.members
+  leaf_meets : (l : Limited) → IsLeaf o q l → MeetsEach justifications l.members
   leaf_meets l leaf j listed = elim (meet_or_apart j.members l.members) [
     | inl meet ↦ meet
     | inr apart ↦
@@ -166,7 +166,7 @@ module _ (o : Listed) (q : Asked) (f : Found) (e : Evidence) (w : IsWitnessed o 
         (
           has.0,
           has.1,
-          just_outside r (alone_is_repair o q justs w.justifications r leaf both.1) has.0
+          just_outside r (alone_is_repair o q justifications w.justifications r leaf both.1) has.0
               (w.are_shown.modelled has.0 has.1) has.2,
         ),
         leaf.within,
@@ -177,8 +177,8 @@ module _ (o : Listed) (q : Asked) (f : Found) (e : Evidence) (w : IsWitnessed o 
 
   -- ---- what is listed
 
-  justs_apart : IsAntichain justs
-  justs_apart s t in_s in_t part =
+  justifications_apart : IsAntichain justifications
+  justifications_apart s t in_s in_t part =
       let small = w.justifications s in_s in
       let great = w.justifications t in_t in
       elim (part_or_more t.members s.members) [
@@ -192,12 +192,12 @@ module _ (o : Listed) (q : Asked) (f : Found) (e : Evidence) (w : IsWitnessed o 
       ]
 
   are_transversals : (repairs : List Limited) → AreFoundRepairs f repairs
-      → AreTransversals (length o.axioms) justs repairs
+      → AreTransversals (length o.axioms) justifications repairs
   are_transversals repairs found r = (
     λ at.
         let both = (found.repairs r).0 at in
         let leaf = leaf_is r both.0 in
-        (leaf.limit_is, (told_by_hits justs r).1 (leaf.within, leaf_meets r leaf, both.1)),
+        (leaf.limit_is, (told_by_hits justifications r).1 (leaf.within, leaf_meets r leaf, both.1)),
     λ is.
         let x = w.explored finished in
         let part = x.covered r.members is.1.meets in
@@ -206,7 +206,7 @@ module _ (o : Listed) (q : Asked) (f : Found) (e : Evidence) (w : IsWitnessed o 
         let same : part.0 ≡ r =
         same_limited part.0 r (leaf.limit_is ∙ sym is.0) (set_of_parts part.0.members r.members part.2 back) in
         (found.repairs r).1
-        (subst (λ (l : Limited). Contains f.leaves.items l) same part.1, smallest_hits_alone justs r is.1),
+        (subst (λ (l : Limited). Contains f.leaves.items l) same part.1, smallest_hits_alone justifications r is.1),
   )
 
   module _ (a : AuditLists) (is : IsAuditOf f e a) where
@@ -234,13 +234,13 @@ module _ (o : Listed) (q : Asked) (f : Found) (e : Evidence) (w : IsWitnessed o 
 
     pub is_sound : IsSound o q a
     is_sound = record {
-      antichain = subst IsAntichain (sym is.justifications.sets_are) justs_apart;
+      antichain = subst IsAntichain (sym is.justifications.sets_are) justifications_apart;
       shown = just_shown;
       modelled = λ r at. counter_model o q r (model_of r at);
       transversals =
           subst (λ (xs : List Limited). AreTransversals (length o.axioms) xs (repaired_sets a.repairs))
           (sym is.justifications.sets_are)
-          (subst (λ (xs : List Limited). AreTransversals (length o.axioms) justs xs) (sym is.repairs.sets_are)
+          (subst (λ (xs : List Limited). AreTransversals (length o.axioms) justifications xs) (sym is.repairs.sets_are)
           (are_transversals is.sets is.are_found));
     }
 

@@ -1,10 +1,11 @@
 //! The jobs `sat`, `entails` and `check`: whether a class expression can have an element, whether a statement follows,
 //! and whether a certificate shows what it is to show.
 //!
-//! The first two ask the oracle one question, about all axioms of a document, and write its evidence behind the verdict:
-//! what is written is a certificate, a finite counter-model or a refutation, and `check` verifies it. So nobody has to
-//! trust the search that found it (McConnell, Mehlhorn, Näher and Schweitzer, "Certifying algorithms", Computer Science
-//! Review 5, 2011). For `check` the document and the query are read, then the certificate, and then it is judged.
+//! The first two ask the oracle one question, about all axioms of a document, and write its evidence behind the
+//! verdict: what is written is a certificate, a finite counter-model or a refutation, and `check` verifies it. So
+//! nobody has to trust the search that found it (McConnell, Mehlhorn, Näher and Schweitzer, "Certifying algorithms",
+//! Computer Science Review 5, 2011). For `check` the document and the query are read, then the certificate, and then it
+//! is judged.
 #![tactic(auto)]
 
 mod answering;

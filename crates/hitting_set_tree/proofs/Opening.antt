@@ -479,8 +479,8 @@ module _ (n : ℕ) (taken : List Limited) (ls : Lists) (node : Node) (label : �
     abbrev justifications' : List Limited
     justifications' = ls.justifications ++ j ∷ []
 
-    more_justs : (x : Limited) → Contains ls.justifications x → Contains justifications' x
-    more_justs x at = Contains-append_left ls.justifications (j ∷ []) x at
+    more_justifications : (x : Limited) → Contains ls.justifications x → Contains justifications' x
+    more_justifications x at = Contains-append_left ls.justifications (j ∷ []) x at
 
     abbrev label'' : ℕ → Limited
     label'' = relabel label (length taken - 1) j
@@ -501,7 +501,7 @@ module _ (n : ℕ) (taken : List Limited) (ls : Lists) (node : Node) (label : �
               let same = sym (before up.0 (omega (arith, up.1))) in (
                 up.0,
                 up.1,
-                subst (λ (l : Limited). Contains justifications' l) same (more_justs (label up.0) up.2),
+                subst (λ (l : Limited). Contains justifications' l) same (more_justifications (label up.0) up.2),
                 child_along _ _ _ _ _ _ refl same refl up.3,
               );
         }
@@ -526,7 +526,7 @@ module _ (n : ℕ) (taken : List Limited) (ls : Lists) (node : Node) (label : �
           leaf_taken = pending.leaf_taken;
           settled = λ k d _ lt. all_nodes (IsSettled justifications' ls.leaves)
               (λ i e low i_lt. settled_still ls.justifications justifications' ls.leaves ls.leaves (get_or taken i e)
-              more_justs (λ x at. at) (pending.settled i e low i_lt))
+              more_justifications (λ x at. at) (pending.settled i e low i_lt))
               (inr (j, Contains-push ls.justifications j, label_apart)) k d lt;
           rooted_within = omega arith;
           built =
@@ -534,7 +534,7 @@ module _ (n : ℕ) (taken : List Limited) (ls : Lists) (node : Node) (label : �
               (stands_within ls.frames node.hit f.hit (InNode node) (InScope f) stands.same_hit stands.inside
               pending.stands);
           labels = λ g at. elim (Contains-push_cases ls.frames f g at) [
-            | inl old' ↦ more_justs g.label (pending.labels g old')
+            | inl old' ↦ more_justifications g.label (pending.labels g old')
             | inr e ↦
                 subst (λ (x : Limited). Contains justifications' x)
                 (sym stands.same_label ∙ ap (λ (x : Frame). x.label) e) (Contains-push ls.justifications j)
