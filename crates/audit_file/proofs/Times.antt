@@ -107,3 +107,6 @@ module _ {K : Type 0} (stands_for : List (List ℕ) → Option K) (malformed : L
   block_fault (Malformed n) NoMemory low none line is = absurd is
   block_fault (Malformed n) (Malformed m) low none line is =
       ap told (read_as None none) ∙ ap Some (shifted (malformed (block at.lines)) n m low line is)
+
+-- what reading a counted list of lines cites
+pub ruleset counted_lines = (times_step, times_end, counted_fault, fault_before, fault_after)

@@ -75,7 +75,7 @@ fn read_end(reader: &mut Reader<'_>) -> Result<(), AuditFault>
     reader.blank_rest()
 }
 
-#[tactic(auto, using(crate::proofs::Times::times_step, crate::proofs::Times::times_end, crate::proofs::Times::counted_fault, crate::proofs::Times::fault_before, crate::proofs::Times::fault_after))]
+#[tactic(auto, using(crate::proofs::Times::counted_lines))]
 fn read_justifications(
     alloc: Global,
     reader: &mut Reader<'_>,
@@ -129,7 +129,7 @@ fn read_refutation(
     }
 }
 
-#[tactic(auto, using(crate::proofs::Times::times_step, crate::proofs::Times::times_end, crate::proofs::Times::counted_fault, crate::proofs::Times::fault_before, crate::proofs::Times::fault_after))]
+#[tactic(auto, using(crate::proofs::Times::counted_lines))]
 fn read_repairs(
     alloc: Global,
     reader: &mut Reader<'_>,

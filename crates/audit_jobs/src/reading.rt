@@ -89,7 +89,7 @@ fn claim_of(asked: Query, audit: Result<Audit, Unread>) -> Result<AuditClaim, Un
 }
 
 // The audit that the text is, but for blank lines in front.
-#[tactic(auto, using(decision_jobs::proofs::Blanks::blank_front, decision_jobs::proofs::Blanks::lines_drop, decision_jobs::proofs::Blanks::few_lines))]
+#[tactic(auto, using(decision_jobs::proofs::Blanks::behind_blanks))]
 fn read_audit(alloc: Global, text: &[u8], ontology: &Ontology) -> Result<Audit, Unread>
     requires { length text.now ≤ 4294967293 }
     ensures found { IfOk result (λ a. audit_after ontology.now text.now ≡ Ok a) }

@@ -189,3 +189,6 @@ on_err (Err e) P p = p
 pub from_ok : {T E : Type 0} (r : Result T E) (P : Type 0) → is_err r ≡ false → OnOk r P → P
 from_ok (Ok x) P h p = p
 from_ok (Err e) P h p = cc
+
+-- what a copy of places cites
+pub ruleset copying = (copying_on, place_within, copying_begins)

@@ -159,7 +159,7 @@ impl Index {
         Ok(())
     }
 
-    #[tactic(auto, using(crate::proofs::Grown::copying_on, crate::proofs::Grown::place_within, crate::proofs::Grown::copying_begins))]
+    #[tactic(auto, using(crate::proofs::Grown::copying))]
     fn copy(&mut self, high: u32, low: u32) -> Result<(), NoMemory>
         ensures put { OnOk result (self.new ≡ index_copied self.old high low) }
         ensures begins { OnErr result (Begins self.old self.new) }

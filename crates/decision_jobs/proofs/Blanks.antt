@@ -25,3 +25,6 @@ few_lines text =
       length-slice_split cut text,
       count_by-le-length cut text,
     )
+
+-- what reading behind blank lines cites
+pub ruleset behind_blanks = (blank_front, lines_drop, few_lines)

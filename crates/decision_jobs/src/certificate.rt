@@ -26,7 +26,7 @@ pub enum Certificate {
 /// # Errors
 ///
 /// `Line` with the first malformed line exactly where the text is no certificate, and `NoMemory`.
-#[tactic(auto, using(crate::proofs::Blanks::blank_front, crate::proofs::Blanks::lines_drop, crate::proofs::Blanks::few_lines))]
+#[tactic(auto, using(crate::proofs::Blanks::behind_blanks))]
 pub(crate) fn read_certificate(
     alloc: Global,
     text: &[u8],

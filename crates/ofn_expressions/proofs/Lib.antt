@@ -7,3 +7,4 @@ pub mod Declared
 pub mod Digits
 pub mod Operands
 pub mod IndividualLists
+pub mod Cited

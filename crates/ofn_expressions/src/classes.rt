@@ -27,7 +27,7 @@ use std::alloc::Global;
 /// What is wrong first, in the order of the tests, and `NoMemory`. What was counted and listed before stays in `state`:
 /// the names that were met first, and the nodes. No axiom is added.
 #[cycle(classes)]
-#[tactic(auto, using(crate::proofs::Growing::grows_grows, crate::proofs::Growing::grows_same))]
+#[tactic(auto, using(crate::proofs::Cited::growing))]
 pub fn read_class(
     alloc: Global,
     tree: &Tree<'_>,
@@ -56,7 +56,7 @@ pub fn read_class(
 ///
 /// What is wrong first, in the order of the tests, and `NoMemory`. What was counted and listed before stays in `state`:
 /// the names that were met first, and the nodes. No axiom is added.
-#[tactic(auto, using(crate::proofs::Walks::walked_append, crate::proofs::Growing::grows_grows, crate::proofs::Growing::grows_same))]
+#[tactic(auto, using(crate::proofs::Cited::walking))]
 pub fn read_class_name(
     alloc: Global,
     tree: &Tree<'_>,
@@ -73,7 +73,7 @@ pub fn read_class_name(
     list_class(&iri, line, state)
 }
 
-#[tactic(auto, using(crate::proofs::Kept::place_within, crate::proofs::Growing::grows_grows, crate::proofs::Growing::grows_same), unfolding(crate::specs::Classes::is_thing, crate::specs::Classes::is_nothing))]
+#[tactic(auto, using(crate::proofs::Cited::placing), unfolding(crate::specs::Classes::is_thing, crate::specs::Classes::is_nothing))]
 fn list_class(iri: &str, line: u32, state: &mut Reading) -> Result<Concept, Refusal>
     ensures tests { Tested result state.old (listed_class line iri.now) state.new }
     ensures grown { Grows state.old state.new }
@@ -97,7 +97,7 @@ fn list_class(iri: &str, line: u32, state: &mut Reading) -> Result<Concept, Refu
 ///
 /// What is wrong first, in the order of the tests, and `NoMemory`. What was counted and listed before stays in `state`:
 /// the names that were met first, and the nodes. No axiom is added.
-#[tactic(auto, using(crate::proofs::Walks::walked_append, crate::proofs::Growing::grows_grows, crate::proofs::Growing::grows_same))]
+#[tactic(auto, using(crate::proofs::Cited::walking))]
 pub fn declare_class(
     alloc: Global,
     tree: &Tree<'_>,
@@ -134,7 +134,7 @@ fn node_count(keyword: ClassKeyword, count: usize) -> u32
 }
 
 // The tests of a group that come before its items.
-#[tactic(auto, using(crate::proofs::Growing::grows_grows, crate::proofs::Growing::grows_same))]
+#[tactic(auto, using(crate::proofs::Cited::growing))]
 fn read_head(
     text: &str,
     count: usize,
@@ -159,7 +159,7 @@ fn read_head(
 }
 
 #[cycle(classes)]
-#[tactic(auto, using(crate::proofs::Growing::grows_grows, crate::proofs::Growing::grows_same))]
+#[tactic(auto, using(crate::proofs::Cited::growing))]
 fn read_group(
     alloc: Global,
     text: &str,
@@ -177,7 +177,7 @@ fn read_group(
 }
 
 #[cycle(classes)]
-#[tactic(auto, using(crate::proofs::Growing::grows_grows, crate::proofs::Growing::grows_same))]
+#[tactic(auto, using(crate::proofs::Cited::growing))]
 fn read_operands(
     alloc: Global,
     keyword: ClassKeyword,
@@ -218,7 +218,7 @@ fn read_operands(
 }
 
 #[cycle(classes)]
-#[tactic(auto, using(crate::proofs::Walks::walked_append, crate::proofs::Growing::grows_grows, crate::proofs::Growing::grows_same))]
+#[tactic(auto, using(crate::proofs::Cited::walking))]
 fn read_restriction(
     alloc: Global,
     quantifier: Quantifier,
@@ -247,7 +247,7 @@ fn restriction(quantifier: Quantifier, role: u32, filler: Box<Concept>) -> Conce
 }
 
 #[cycle(classes)]
-#[tactic(auto, using(crate::proofs::Walks::walked_append, crate::proofs::Growing::grows_grows, crate::proofs::Growing::grows_same))]
+#[tactic(auto, using(crate::proofs::Cited::walking))]
 fn read_cardinality(
     alloc: Global,
     bound: Bound,
@@ -281,7 +281,7 @@ fn cardinality(bound: Bound, number: u32, role: u32, filler: Box<Concept>) -> Co
 
 // The class expression after a number and a role, or else `owl:Thing`.
 #[cycle(classes)]
-#[tactic(auto, using(crate::proofs::Growing::grows_grows, crate::proofs::Growing::grows_same))]
+#[tactic(auto, using(crate::proofs::Cited::growing))]
 fn read_filler(
     alloc: Global,
     items: &[Tree<'_>],
@@ -300,7 +300,7 @@ fn read_filler(
 }
 
 #[cycle(classes)]
-#[tactic(auto, using(crate::proofs::Growing::grows_grows, crate::proofs::Growing::grows_same))]
+#[tactic(auto, using(crate::proofs::Cited::growing))]
 fn read_boxed(
     alloc: Global,
     tree: &Tree<'_>,
@@ -315,7 +315,7 @@ fn read_boxed(
 }
 
 #[cycle(classes)]
-#[tactic(auto, using(crate::proofs::Growing::grows_grows, crate::proofs::Growing::grows_same))]
+#[tactic(auto, using(crate::proofs::Cited::growing))]
 fn read_operand_list(
     alloc: Global,
     items: &[Tree<'_>],
@@ -347,7 +347,7 @@ fn push_concept(concepts: &mut Vec<Concept>, concept: Concept) -> Result<(), NoM
 ///
 /// What is wrong first, in the order of the tests, and `NoMemory`. What was counted and listed before stays in `state`:
 /// the names that were met first, and the nodes. No axiom is added.
-#[tactic(auto, using(crate::proofs::Growing::grows_grows, crate::proofs::Growing::grows_same))]
+#[tactic(auto, using(crate::proofs::Cited::growing))]
 pub fn read_classes(
     alloc: Global,
     items: &[Tree<'_>],

@@ -46,7 +46,7 @@ fn read_individual_iri(
 ///
 /// What is wrong first, in the order of the tests, and `NoMemory`. The individuals that were met before stay listed in
 /// `state`. No axiom is added.
-#[tactic(auto, using(crate::proofs::Walks::walked_append, crate::proofs::Growing::grows_grows, crate::proofs::Growing::grows_same))]
+#[tactic(auto, using(crate::proofs::Cited::walking))]
 pub fn read_individual(
     alloc: Global,
     tree: &Tree<'_>,
@@ -67,7 +67,7 @@ pub fn read_individual(
 ///
 /// What is wrong first, in the order of the tests, and `NoMemory`. The individuals that were met before stay listed in
 /// `state`. No axiom is added.
-#[tactic(auto, using(crate::proofs::Growing::grows_grows, crate::proofs::Growing::grows_same))]
+#[tactic(auto, using(crate::proofs::Cited::growing))]
 pub fn read_individuals(
     alloc: Global,
     items: &[Tree<'_>],

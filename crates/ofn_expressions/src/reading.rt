@@ -129,7 +129,7 @@ impl Reading {
     }
 
     /// The number of a class, which is listed here. At the limit of names nothing is listed.
-    #[tactic(auto, using(crate::proofs::Kept::place_listed, crate::proofs::Growing::grows_name, crate::proofs::Growing::grows_same))]
+    #[tactic(auto, using(crate::proofs::Cited::naming))]
     pub(crate) fn add_class(&mut self, line: u32, name: &str) -> Result<u32, Refusal>
         ensures tests { Tested result self.old (class line name.now ∷ []) self.new }
         ensures grown { Grows self.old self.new }
@@ -143,7 +143,7 @@ impl Reading {
     }
 
     /// The number of a role, which is listed here. At the limit of names nothing is listed.
-    #[tactic(auto, using(crate::proofs::Kept::place_listed, crate::proofs::Growing::grows_name, crate::proofs::Growing::grows_same))]
+    #[tactic(auto, using(crate::proofs::Cited::naming))]
     pub(crate) fn add_role(&mut self, line: u32, name: &str) -> Result<u32, Refusal>
         ensures tests { Tested result self.old (role line name.now ∷ []) self.new }
         ensures grown { Grows self.old self.new }
@@ -157,7 +157,7 @@ impl Reading {
     }
 
     /// The number of an individual, which is listed here. At the limit of names nothing is listed.
-    #[tactic(auto, using(crate::proofs::Kept::place_listed, crate::proofs::Growing::grows_name, crate::proofs::Growing::grows_same))]
+    #[tactic(auto, using(crate::proofs::Cited::naming))]
     pub(crate) fn add_individual(&mut self, line: u32, name: &str) -> Result<u32, Refusal>
         ensures tests { Tested result self.old (individual line name.now ∷ []) self.new }
         ensures grown { Grows self.old self.new }

@@ -21,7 +21,7 @@ use std::alloc::Global;
 ///
 /// What is wrong first, in the order of the tests, and `NoMemory`. The roles that were met before stay listed in
 /// `state`. No axiom is added.
-#[tactic(auto, using(crate::proofs::Groups::role_group_refused, crate::proofs::Growing::grows_grows, crate::proofs::Growing::grows_same))]
+#[tactic(auto, using(crate::proofs::Groups::role_group_refused, crate::proofs::Cited::growing))]
 pub fn read_role(
     alloc: Global,
     tree: &Tree<'_>,
@@ -51,7 +51,7 @@ fn group_refusal(excluded: Option<Construct>, line: u32) -> Refusal
     }
 }
 
-#[tactic(auto, using(crate::proofs::Walks::walked_append, crate::proofs::Growing::grows_grows, crate::proofs::Growing::grows_same))]
+#[tactic(auto, using(crate::proofs::Cited::walking))]
 fn read_role_name(
     alloc: Global,
     tree: &Tree<'_>,
@@ -66,7 +66,7 @@ fn read_role_name(
     list_role(&iri, item_line(tree), state)
 }
 
-#[tactic(auto, using(crate::proofs::Kept::place_within, crate::proofs::Growing::grows_grows, crate::proofs::Growing::grows_same))]
+#[tactic(auto, using(crate::proofs::Cited::placing))]
 fn list_role(iri: &str, line: u32, state: &mut Reading) -> Result<u32, Refusal>
     ensures tests { Tested result state.old (listed_role (excluded_role_name iri.now) line iri.now) state.new }
     ensures grown { Grows state.old state.new }
@@ -84,7 +84,7 @@ fn list_role(iri: &str, line: u32, state: &mut Reading) -> Result<u32, Refusal>
 ///
 /// What is wrong first, in the order of the tests, and `NoMemory`. The roles that were met before stay listed in
 /// `state`. No axiom is added.
-#[tactic(auto, using(crate::proofs::Walks::walked_append, crate::proofs::Growing::grows_grows, crate::proofs::Growing::grows_same))]
+#[tactic(auto, using(crate::proofs::Cited::walking))]
 pub fn declare_role(
     alloc: Global,
     tree: &Tree<'_>,
@@ -98,7 +98,7 @@ pub fn declare_role(
     list_declared(&iri, item_line(tree), state)
 }
 
-#[tactic(auto, using(crate::proofs::Growing::grows_grows, crate::proofs::Growing::grows_same))]
+#[tactic(auto, using(crate::proofs::Cited::growing))]
 fn list_declared(iri: &str, line: u32, state: &mut Reading) -> Result<(), Refusal>
     ensures tests { Tested result state.old (unless_excluded (excluded_role_name iri.now) line iri.now) state.new }
     ensures grown { Grows state.old state.new }
@@ -118,7 +118,7 @@ fn list_declared(iri: &str, line: u32, state: &mut Reading) -> Result<(), Refusa
 ///
 /// What is wrong first, in the order of the tests, and `NoMemory`. The roles that were met before stay listed in
 /// `state`. No axiom is added.
-#[tactic(auto, using(crate::proofs::Growing::grows_grows, crate::proofs::Growing::grows_same))]
+#[tactic(auto, using(crate::proofs::Cited::growing))]
 pub fn read_roles(
     alloc: Global,
     items: &[Tree<'_>],

@@ -26,7 +26,7 @@ use std::alloc::Global;
 /// # Errors
 ///
 /// What is wrong first, in the order of the tests, and `NoMemory`.
-#[tactic(auto, using(ofn_expressions::proofs::Walks::walked_append, ofn_expressions::proofs::Growing::grows_grows, ofn_expressions::proofs::Growing::grows_same))]
+#[tactic(auto, using(ofn_expressions::proofs::Cited::walking))]
 pub(crate) fn read_pair(
     alloc: Global,
     sub: &Tree<'_>,
@@ -65,7 +65,7 @@ fn sub_class(pair: Query) -> Axiom
     Axiom::SubClassOf(pair.sub, pair.sup)
 }
 
-#[tactic(auto, using(ofn_expressions::proofs::Growing::grows_grows, ofn_expressions::proofs::Growing::grows_same))]
+#[tactic(auto, using(ofn_expressions::proofs::Cited::growing))]
 fn read_sub_class(
     alloc: Global,
     sub: &Tree<'_>,
@@ -81,7 +81,7 @@ fn read_sub_class(
     Ok(sub_class(pair))
 }
 
-#[tactic(auto, using(ofn_expressions::proofs::Growing::grows_grows, ofn_expressions::proofs::Growing::grows_same))]
+#[tactic(auto, using(ofn_expressions::proofs::Cited::growing))]
 fn read_equivalent_classes(
     alloc: Global,
     items: &[Tree<'_>],
@@ -96,7 +96,7 @@ fn read_equivalent_classes(
     Ok(Axiom::EquivalentClasses(classes))
 }
 
-#[tactic(auto, using(ofn_expressions::proofs::Growing::grows_grows, ofn_expressions::proofs::Growing::grows_same))]
+#[tactic(auto, using(ofn_expressions::proofs::Cited::growing))]
 fn read_disjoint_classes(
     alloc: Global,
     items: &[Tree<'_>],
@@ -111,7 +111,7 @@ fn read_disjoint_classes(
     Ok(Axiom::DisjointClasses(classes))
 }
 
-#[tactic(auto, using(ofn_expressions::proofs::Walks::walked_append, ofn_expressions::proofs::Growing::grows_grows, ofn_expressions::proofs::Growing::grows_same))]
+#[tactic(auto, using(ofn_expressions::proofs::Cited::walking))]
 fn read_disjoint_union(
     alloc: Global,
     name: &Tree<'_>,
@@ -128,7 +128,7 @@ fn read_disjoint_union(
     Ok(Axiom::DisjointUnion(name, classes))
 }
 
-#[tactic(auto, using(ofn_expressions::proofs::Walks::walked_append, ofn_expressions::proofs::Growing::grows_grows, ofn_expressions::proofs::Growing::grows_same))]
+#[tactic(auto, using(ofn_expressions::proofs::Cited::walking))]
 fn read_sub_role(
     alloc: Global,
     sub: &Tree<'_>,
@@ -145,7 +145,7 @@ fn read_sub_role(
     Ok(Axiom::SubRole(sub, sup))
 }
 
-#[tactic(auto, using(ofn_expressions::proofs::Growing::grows_grows, ofn_expressions::proofs::Growing::grows_same))]
+#[tactic(auto, using(ofn_expressions::proofs::Cited::growing))]
 fn read_equivalent_roles(
     alloc: Global,
     items: &[Tree<'_>],
@@ -160,7 +160,7 @@ fn read_equivalent_roles(
     Ok(Axiom::EquivalentRoles(roles))
 }
 
-#[tactic(auto, using(ofn_expressions::proofs::Walks::walked_append, ofn_expressions::proofs::Growing::grows_grows, ofn_expressions::proofs::Growing::grows_same))]
+#[tactic(auto, using(ofn_expressions::proofs::Cited::walking))]
 fn read_domain(
     alloc: Global,
     role: &Tree<'_>,
@@ -177,7 +177,7 @@ fn read_domain(
     Ok(Axiom::Domain(role, class))
 }
 
-#[tactic(auto, using(ofn_expressions::proofs::Walks::walked_append, ofn_expressions::proofs::Growing::grows_grows, ofn_expressions::proofs::Growing::grows_same))]
+#[tactic(auto, using(ofn_expressions::proofs::Cited::walking))]
 fn read_range(
     alloc: Global,
     role: &Tree<'_>,
@@ -194,7 +194,7 @@ fn read_range(
     Ok(Axiom::Range(role, class))
 }
 
-#[tactic(auto, using(ofn_expressions::proofs::Walks::walked_append, ofn_expressions::proofs::Growing::grows_grows, ofn_expressions::proofs::Growing::grows_same))]
+#[tactic(auto, using(ofn_expressions::proofs::Cited::walking))]
 fn read_functional(
     alloc: Global,
     role: &Tree<'_>,
@@ -209,7 +209,7 @@ fn read_functional(
     Ok(Axiom::Functional(role))
 }
 
-#[tactic(auto, using(ofn_expressions::proofs::Walks::walked_append, ofn_expressions::proofs::Growing::grows_grows, ofn_expressions::proofs::Growing::grows_same))]
+#[tactic(auto, using(ofn_expressions::proofs::Cited::walking))]
 fn read_transitive(
     alloc: Global,
     role: &Tree<'_>,
@@ -236,7 +236,7 @@ pub(crate) struct Membership {
 /// # Errors
 ///
 /// What is wrong first, in the order of the tests, and `NoMemory`.
-#[tactic(auto, using(ofn_expressions::proofs::Walks::walked_append, ofn_expressions::proofs::Growing::grows_grows, ofn_expressions::proofs::Growing::grows_same))]
+#[tactic(auto, using(ofn_expressions::proofs::Cited::walking))]
 pub(crate) fn read_member(
     alloc: Global,
     class: &Tree<'_>,
@@ -272,7 +272,7 @@ fn member_axiom(member: Membership) -> Axiom
     Axiom::Member(member.class, member.individual)
 }
 
-#[tactic(auto, using(ofn_expressions::proofs::Growing::grows_grows, ofn_expressions::proofs::Growing::grows_same))]
+#[tactic(auto, using(ofn_expressions::proofs::Cited::growing))]
 fn read_member_axiom(
     alloc: Global,
     class: &Tree<'_>,
@@ -288,7 +288,7 @@ fn read_member_axiom(
     Ok(member_axiom(member))
 }
 
-#[tactic(auto, using(ofn_expressions::proofs::Walks::walked_append, ofn_expressions::proofs::Growing::grows_grows, ofn_expressions::proofs::Growing::grows_same))]
+#[tactic(auto, using(ofn_expressions::proofs::Cited::walking))]
 fn read_pair_axiom(
     alloc: Global,
     role: &Tree<'_>,
@@ -307,7 +307,7 @@ fn read_pair_axiom(
     Ok(Axiom::Pair(role, from, to))
 }
 
-#[tactic(auto, using(ofn_expressions::proofs::Growing::grows_grows, ofn_expressions::proofs::Growing::grows_same))]
+#[tactic(auto, using(ofn_expressions::proofs::Cited::growing))]
 fn read_same(
     alloc: Global,
     items: &[Tree<'_>],
@@ -322,7 +322,7 @@ fn read_same(
     Ok(Axiom::SameAll(individuals))
 }
 
-#[tactic(auto, using(ofn_expressions::proofs::Growing::grows_grows, ofn_expressions::proofs::Growing::grows_same))]
+#[tactic(auto, using(ofn_expressions::proofs::Cited::growing))]
 fn read_different(
     alloc: Global,
     items: &[Tree<'_>],
@@ -342,7 +342,7 @@ fn read_different(
 /// # Errors
 ///
 /// What is wrong first, in the order of the tests, and `NoMemory`.
-#[tactic(auto, using(ofn_expressions::proofs::Growing::grows_grows, ofn_expressions::proofs::Growing::grows_same))]
+#[tactic(auto, using(ofn_expressions::proofs::Cited::growing))]
 pub(crate) fn read_operands(
     alloc: Global,
     kind: AxiomKind,
