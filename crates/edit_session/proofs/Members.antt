@@ -1,11 +1,11 @@
 -- Members of sets up to a number.
-use Rattle.std.proofs.Common.{◌≡◌, ℕ, ◌+◌, ◌<◌, ◌≤◌, ◌&&◌, ◌||◌, Bool, true, false, eqb, refl, ap, sym, ◌∙◌, subst}
+use Rattle.std.proofs.Common.{◌≡◌, ℕ, ◌+◌, ◌<◌, ◌≤◌, ◌&&◌, ◌||◌, Bool, true, false, refl, ap, sym, ◌∙◌}
 use Rattle.std.proofs.Common.{arith, inl, inr, eq-eqb}
-use Rattle.std.specs.Prelude.{nat_le, not}
+use Rattle.std.specs.Prelude.{nat_le}
 use Rattle.std.specs.FinSet as set
 use Rattle.std.specs.Cmp.{nat_cmp_total}
 use Rattle.std.specs.Ordering.{nat_cmp}
-use Rattle.std.proofs.lemmas.Bool.{cases_lt, cases_eq, cases_Bool, le-leb, lt-leb, ne_eqb}
+use Rattle.std.proofs.lemmas.Bool.{cases_lt, cases_eq, le-leb, lt-leb, ne_eqb}
 use Rattle.lane_sieve.specs.Sets.{NumberSet}
 use Rattle.lane_sieve.proofs.Bits.{contains_insert}
 use Rattle.axiom_sets.specs.Sets.{IsWithin}

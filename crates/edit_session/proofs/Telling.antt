@@ -43,7 +43,7 @@ use Rattle.edit_session.specs.Editing.{IsTextOf, HasText, IsRemovedIf, IsRemoved
 use Rattle.edit_session.specs.Lines.{MayGoOn, HoldsMore, IsAnsweredLine, IsLineTold, IsAskTold, AskLogsAtMostOne}
 use Rattle.edit_session.proofs.Standing.{hold_more, held_more}
 use Rattle.edit_session.proofs.Filed.{filed_added, filed_removed}
-use Rattle.edit_session.proofs.Limits.{query_axioms, addition_longer, addition_count}
+use Rattle.edit_session.proofs.Limits.{query_axioms, addition_longer}
 use Rattle.edit_session.proofs.Honest.{spent_after}
 
 -- ---- what a test leaves

@@ -10,7 +10,7 @@ use Rattle.axiom_sets.specs.Sets.{Limited}
 use Rattle.run_log.specs.declared.entry.TestEnd.TheVariants.{Yes, No}
 use Rattle.edit_session.specs.Sessions.{State}
 use Rattle.edit_session.specs.ScriptLines.{Request, adds, removes, asks, other, request, split_request, script_lines}
-use Rattle.edit_session.specs.Said.{bad_line, numbered_line, yes_line, no_line, IsRemoved, IsRemovedOrNot}
+use Rattle.edit_session.specs.Said.{bad_line, numbered_line, no_line, IsRemoved, IsRemovedOrNot}
 use Rattle.edit_session.specs.Places.{IsOver}
 
 -- ---- what lines ask for

@@ -1,7 +1,7 @@
 -- Worked logs of sessions, and a whole script.
-use Rattle.std.specs.Prelude.{◌≡◌, ℕ, zero, suc, ◌<◌, true, false, List, [], ◌∷◌, ◌++◌, codes, Some, slice_get, take}
+use Rattle.std.specs.Prelude.{◌≡◌, ℕ, zero, suc, ◌<◌, true, List, [], ◌∷◌, ◌++◌, codes, Some}
 use Rattle.std.specs.Prelude.{refl}
-use Rattle.std.proofs.Common.{ap, sym, subst, ◌∙◌, arith, inl, inr}
+use Rattle.std.proofs.Common.{sym, subst, ◌∙◌, arith, inl, inr}
 use Rattle.std.proofs.lemmas.List.Elements.{All-head, Contains-push, Contains-push_cases}
 use Rattle.std.specs.FinSet as set
 use Rattle.lane_sieve.specs.Sets.{IsPart}

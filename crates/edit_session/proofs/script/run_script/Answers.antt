@@ -1,4 +1,4 @@
-use Rattle.std.proofs.Common.{List, ℕ, get_or, take, drop, length, ◌+◌, sym, subst, ◌∙◌}
+use Rattle.std.proofs.Common.{List, ℕ, get_or, take, drop, ◌+◌, sym, subst, ◌∙◌}
 use Rattle.certificate_lines.specs.Lines.{bytes_of}
 use Rattle.edit_session.specs.Scripts.{IsToldSoFar}
 use Rattle.edit_session.proofs.Scripted.{told_none, told_next, cut_off, after_err, told_at_first, nothing_put}
