@@ -7,7 +7,8 @@ use Rattle.job_inputs.specs.declared.unread.Unread.TheVariants as U
 use Rattle.job_inputs.specs.declared.status.Status.{Status}
 use Rattle.job_inputs.specs.declared.status.Status.TheVariants.{Done, Undecided}
 use Rattle.job_inputs.specs.Questions.{IsNotAlone}
-use Rattle.classification_jobs.specs.Classifications.{IsFinished, IsUnfinished, OnDocument, BeginsClassification}
+use Rattle.classification_jobs.specs.Classifications.{IsFinished, IsUnfinished, BeginsClassification}
+use Rattle.job_inputs.specs.Refusals.{OnDocument}
 
 -- the answer on an ontology
 abbrev pub IsAnsweredOn : ℕ → Listed → List Entry → Status → List ℕ → Type 0

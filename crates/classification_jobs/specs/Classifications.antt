@@ -1,8 +1,6 @@
 -- What is answered to the job of classification.
 use Rattle.std.specs.Prelude.{◌≡◌, ◌⊎◌, ℕ, [], List, codes}
 use Rattle.shq_terms.specs.Listed.{Listed}
-use Rattle.ofn_expressions.specs.declared.refusal.Refusal.{Refusal}
-use Rattle.ofn_reader.specs.DocumentContext.{DocumentContext}
 use Rattle.classifier.specs.Entry.{Entry}
 use Rattle.classifier.specs.HonestLog.{IsClassificationLog}
 use Rattle.classifier.specs.Shown.{ShowsClasses}
@@ -12,13 +10,10 @@ use Rattle.classifier.specs.Excluded.{AsksNoExcluded}
 use Rattle.subsumption.specs.Groups.{Parthood}
 use Rattle.classification_jobs.specs.TaxonomyText.{taxonomy_text}
 use Rattle.classification_jobs.specs.TaxonomyLaws.{taxonomy_by}
-use Rattle.job_inputs.specs.Answer.{line, complaint_answer, IsAnswer}
-use Rattle.job_inputs.specs.Complaints.{complaint}
-use Rattle.job_inputs.specs.declared.complaint.Place.TheVariants.{Document}
+use Rattle.job_inputs.specs.Answer.{line}
 use Rattle.job_inputs.specs.declared.status.Status.{Status}
 use Rattle.job_inputs.specs.declared.status.Status.TheVariants.{Done, Undecided, NoMemory}
-use Rattle.job_inputs.specs.Questions.{IsDocumentAlone, IsNotAlone}
-use Rattle.job_inputs.specs.Refusals.{IsOutOfMemory}
+use Rattle.job_inputs.specs.Refusals.{OnDocument, IsRefusedDocument, IsOutOfMemory}
 
 -- ---- answers on an ontology
 
@@ -47,20 +42,6 @@ pub record IsClassifying (budget : ℕ) (log : List Entry) (o : Listed) : Type 0
 
 -- ---- the answer on a document
 
--- the bytes are a document alone, and this is so of its ontology
-pub record OnDocument (is_so : Listed → Type 0) (bytes : List ℕ) : Type 0 where
-  pub ontology : Listed
-  pub kept : DocumentContext
-  pub is_document : IsDocumentAlone bytes ontology kept
-  pub so : is_so ontology
-
--- the document is refused, and nothing was asked
-pub record IsRefused (bytes out : List ℕ) (s : Status) (log : List Entry) : Type 0 where
-  pub refusal : Refusal
-  pub refused : IsNotAlone bytes refusal
-  pub answer : IsAnswer (complaint_answer Document (complaint refusal)) out s
-  pub unlogged : log ≡ []
-
 -- where memory was refused: nothing was asked, or the document is read
 abbrev pub BeginsClassification : ℕ → List ℕ → List Entry → Type 0
 BeginsClassification budget bytes log = (log ≡ []) ⊎ OnDocument (IsClassifying budget log) bytes
@@ -70,4 +51,4 @@ abbrev pub AnswersClassification : ℕ → List ℕ → List ℕ → Status → 
 AnswersClassification budget bytes out NoMemory log = IsOutOfMemory out (BeginsClassification budget bytes log)
 AnswersClassification budget bytes out Done log = OnDocument (IsFinished budget out log) bytes
 AnswersClassification budget bytes out Undecided log = OnDocument (IsUnfinished budget out log) bytes
-AnswersClassification budget bytes out s log = IsRefused bytes out s log
+AnswersClassification budget bytes out s log = IsRefusedDocument bytes out s log

@@ -15,7 +15,7 @@ use Rattle.job_inputs.specs.declared.status.Status.TheVariants.{Done, Rejected, 
 use Rattle.job_inputs.specs.declared.status.Status.TheVariants.{ReadFault, WriteFault, Undecided, NoMemory}
 use Rattle.job_inputs.specs.declared.unread.Unread.{Unread}
 use Rattle.job_inputs.specs.declared.unread.Unread.TheVariants as U
-use Rattle.classification_jobs.specs.Classifications.{OnDocument, IsRefused as IsRefusedDocument}
+use Rattle.job_inputs.specs.Refusals.{OnDocument, IsRefusedDocument}
 use Rattle.pinpointing_jobs.specs.Memory.{UnlessNoMemory}
 use Rattle.pinpointing_jobs.proofs.Asked.{unless_refused, out_of_memory}
 use Rattle.individual_jobs.specs.Realizations.{IsRealized, IsUnrealized, BeginsRealization, AnswersRealization}

@@ -11,11 +11,10 @@ use Rattle.realizer.specs.Instances.{AreInstances, instances_text}
 use Rattle.realizer.specs.Realization.{AreTypes, realization_text}
 use Rattle.realizer.specs.RealizationLogs.{IsInstancesLog, IsRealizationLog}
 use Rattle.job_inputs.specs.Answer.{line}
-use Rattle.job_inputs.specs.Refusals.{IsOutOfMemory}
+use Rattle.job_inputs.specs.Refusals.{OnDocument, IsRefusedDocument, IsOutOfMemory}
 use Rattle.job_inputs.specs.declared.status.Status.{Status}
 use Rattle.job_inputs.specs.declared.status.Status.TheVariants.{Done, Rejected, BadWords, BadText, Outside, Limit}
 use Rattle.job_inputs.specs.declared.status.Status.TheVariants.{ReadFault, WriteFault, Undecided, NoMemory}
-use Rattle.classification_jobs.specs.Classifications.{OnDocument, IsRefused as IsRefusedDocument}
 use Rattle.individual_jobs.specs.Answers.{AnswersOnClass}
 
 -- ---- the types of all individuals

@@ -8,7 +8,7 @@ ghost use Rattle.realizer.specs.Listing.{is_listed};
 ghost use Rattle.realizer.specs.Realization.{AreTypes, realization_text};
 ghost use Rattle.realizer.specs.RealizationLogs.{IsRealizationLog};
 ghost use Rattle.job_inputs.specs.Answer.{text_bytes, is_fault};
-ghost use Rattle.classification_jobs.specs.Classifications.{OnDocument};
+ghost use Rattle.job_inputs.specs.Refusals.{OnDocument};
 ghost use Rattle.individual_jobs.specs.Realizations.{AnswersRealization};
 ghost use Rattle.individual_jobs.specs.Realizing.{IsRealizedOn, IsUnrealizedBy};
 

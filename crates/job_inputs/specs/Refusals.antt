@@ -1,15 +1,33 @@
--- What is refused before anything is asked: then the log of the questions is empty, whatever its entries are. And what
--- the log holds where memory was refused.
+-- What is so of a document alone; what is refused before anything is asked: then the log of the questions is empty,
+-- whatever its entries are; and what the log holds where memory was refused.
 use Rattle.std.specs.Prelude.{◌≡◌, ℕ, [], List}
 use Rattle.shq_terms.specs.Listed.{Listed}
 use Rattle.shq_terms.specs.declared.axioms.Query.{Query as Asked}
-use Rattle.job_inputs.specs.Answer.{no_memory, IsAnswer}
+use Rattle.ofn_expressions.specs.declared.refusal.Refusal.{Refusal}
+use Rattle.ofn_reader.specs.DocumentContext.{DocumentContext}
+use Rattle.job_inputs.specs.Answer.{no_memory, complaint_answer, IsAnswer}
 use Rattle.job_inputs.specs.Asked.{Reply, refused_document, refused_query}
-use Rattle.job_inputs.specs.Questions.{Text, IsQuestion, IsRefusedQuestion}
+use Rattle.job_inputs.specs.Complaints.{complaint}
+use Rattle.job_inputs.specs.Questions.{Text, IsQuestion, IsRefusedQuestion, IsDocumentAlone, IsNotAlone}
 use Rattle.job_inputs.specs.Replies.{reply_answer}
+use Rattle.job_inputs.specs.declared.complaint.Place.TheVariants.{Document}
 use Rattle.job_inputs.specs.declared.status.Status.{Status}
 use Rattle.job_inputs.specs.declared.unread.Unread.{Unread}
 use Rattle.job_inputs.specs.declared.unread.Unread.TheVariants as U
+
+-- the bytes are a document alone, and this is so of its ontology
+pub record OnDocument (is_so : Listed → Type 0) (bytes : List ℕ) : Type 0 where
+  pub ontology : Listed
+  pub kept : DocumentContext
+  pub is_document : IsDocumentAlone bytes ontology kept
+  pub so : is_so ontology
+
+-- the document is refused, and nothing was asked
+pub record IsRefusedDocument {E : Type 0} (bytes out : List ℕ) (s : Status) (log : List E) : Type 0 where
+  pub refusal : Refusal
+  pub refused : IsNotAlone bytes refusal
+  pub answer : IsAnswer (complaint_answer Document (complaint refusal)) out s
+  pub unlogged : log ≡ []
 
 -- the document or the question is refused, and nothing was asked
 pub record IsRefused {E : Type 0} (question : Text) (bytes out : List ℕ) (s : Status) (log : List E) : Type 0 where

@@ -14,11 +14,11 @@ use Rattle.decision_jobs.specs.Answer.TheVariants as Answered
 use Rattle.decision_jobs.specs.Decisions.{decision_status, IsDecided, AnswersQuestion}
 use Rattle.classification_jobs.specs.Answer.{Answer, complaint_answer}
 use Rattle.classification_jobs.specs.Asked.{Reply, refused_document}
-use Rattle.classification_jobs.specs.Classifications.{IsRefused as IsRefusedDocument, OnDocument, IsFinished}
+use Rattle.classification_jobs.specs.Classifications.{IsFinished}
 use Rattle.classification_jobs.specs.Classifications.{IsUnfinished, AnswersClassification}
 use Rattle.classification_jobs.specs.Questions.{Text, has_element, follows, IsDocumentAlone, IsNotAlone, IsQuestion}
 use Rattle.classification_jobs.specs.Questions.{IsRefusedQuestion}
-use Rattle.classification_jobs.specs.Refusals.{IsRefused, HasBegun}
+use Rattle.classification_jobs.specs.Refusals.{OnDocument, IsRefusedDocument, IsRefused, HasBegun}
 use Rattle.classification_jobs.specs.Replies.{reply_answer}
 use Rattle.classification_jobs.specs.Status.{Status}
 use Rattle.classification_jobs.specs.Status.TheVariants.{Done, Rejected, BadWords, BadText, Outside, Limit, ReadFault}
