@@ -7,10 +7,9 @@ ghost use Rattle.subsumption.specs.Excluded.{AsksNoExcluded};
 ghost use Rattle.subsumption.specs.Stops.{IsStop};
 ghost use Rattle.classifier.specs.ClassificationClassified.{IsClassified};
 
-use shq_oracle::Oracle;
 use shq_terms::Ontology;
 use std::alloc::Global;
-use subsumption::{Relation, Stop, settle};
+use subsumption::{Oracle, Relation, Stop, settle};
 
 /// Which class of the ontology is part of which, by all of its axioms (OWL 2 Direct Semantics, section 2.5), where the
 /// oracle is one for this ontology that was asked nothing yet. The log shows each pair. The first question is whether

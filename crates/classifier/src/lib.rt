@@ -13,8 +13,8 @@ mod classifying;
 
 pub use classification_laws::{exclusions_are_true, questions_are_in_limit, settled_is_classified};
 pub use classifying::classify;
-pub use shq_oracle::{Oracle, RunLog};
 pub use shq_terms::NoMemory;
 pub use subsumption::{
-    BitMatrix, Relation, Stop, first_is_order, relating_keeps_order, subsumption_is_one,
+    BitMatrix, Oracle, Relation, RunLog, Stop, first_is_order, relating_keeps_order,
+    subsumption_is_one,
 };

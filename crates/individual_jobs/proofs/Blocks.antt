@@ -18,8 +18,8 @@ use Rattle.run_log.specs.declared.entry.Entry.{Entry}
 use Rattle.run_log.specs.declared.entry.Entry.TheVariants.{Test, Node}
 use Rattle.run_log.specs.Entries.{cost_of, spent_of, is_spent}
 use Rattle.run_log.specs.HonestLog.{IsHonestEntry, IsHonestWithin, IsTestOf, IsPinpointingLog}
-use Rattle.query_asker.specs.Told.{IsTestOfOther, AreTestsOfOthers}
-use Rattle.query_asker.proofs.Logged.{at_end}
+use Rattle.pinpointing_jobs.specs.Told.{IsTestOfOther, AreTestsOfOthers}
+use Rattle.pinpointing_jobs.proofs.Logged.{at_end}
 use Rattle.pinpointing_jobs.specs.Wanted.{ShowsAll}
 use Rattle.realizer.specs.Instances.{instance_query}
 use Rattle.individual_jobs.specs.ReasonLogs.{IsBlock, joined_blocks, AreBlocks, IsReasonLog, AreShown}

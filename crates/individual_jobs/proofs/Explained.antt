@@ -21,8 +21,8 @@ use Rattle.ontology_limits.specs.Limits.{IsInLimit}
 use Rattle.run_log.specs.declared.entry.Entry.{Entry}
 use Rattle.run_log.specs.Entries.{cost_of, spent_of, is_spent}
 use Rattle.run_log.specs.HonestLog.{IsHonestEntry, IsPinpointingLog}
-use Rattle.query_asker.specs.Told.{AreTestsOfOthers}
-use Rattle.query_asker.proofs.Logged.{goes_on}
+use Rattle.pinpointing_jobs.specs.Told.{AreTestsOfOthers}
+use Rattle.pinpointing_jobs.proofs.Logged.{goes_on}
 use Rattle.pinpointing_jobs.specs.TreeFound.{Found}
 use Rattle.pinpointing_jobs.specs.Gained.{GainsSearch, GainsBegun}
 use Rattle.pinpointing_jobs.specs.declared.wanted.Wanted.TheVariants.{Justifications}

@@ -3,8 +3,8 @@ use Rattle.std.proofs.Common.{◌≡◌, ℕ, true, false, List, length, refl, a
 use Rattle.shq_terms.specs.Concept.{Concept}
 use Rattle.shq_terms.specs.Listed.{Listed}
 use Rattle.run_log.specs.declared.entry.Entry.{Entry}
-use Rattle.subsumption.specs.ClassNames.{are_listed}
-use Rattle.subsumption.proofs.Passing.{below-passing}
+use Rattle.realizer.specs.ClassNames.{are_listed}
+use Rattle.realizer.proofs.Passing.{below-passing}
 use Rattle.realizer.specs.Instances.{AreInstances}
 use Rattle.job_inputs.specs.Answer.{Answer, Gives, is_fault}
 use Rattle.job_inputs.specs.Complaints.{complaint}

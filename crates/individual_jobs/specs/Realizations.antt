@@ -5,7 +5,7 @@ use Rattle.shq_terms.specs.Concept.{Concept}
 use Rattle.shq_terms.specs.Listed.{Listed}
 use Rattle.run_log.specs.declared.entry.Entry.{Entry}
 use Rattle.run_log.specs.Entries.{is_spent}
-use Rattle.subsumption.specs.LogEnds.{EndsSpent}
+use Rattle.realizer.specs.LogEnds.{EndsSpent}
 use Rattle.realizer.specs.declared.types.Types.{Types}
 use Rattle.realizer.specs.Instances.{AreInstances, instances_text}
 use Rattle.realizer.specs.Realization.{AreTypes, realization_text}

@@ -3,7 +3,7 @@ ghost use Rattle.std.specs.Prelude.{◌≡◌, ◌≤◌, false, [], IsTrue, IfO
 ghost use Rattle.std.specs.List.{list_any};
 ghost use Rattle.ontology_limits.specs.Limits.{IsOntologyInLimit};
 ghost use Rattle.run_log.specs.Entries.{is_spent};
-ghost use Rattle.subsumption.specs.Stops.{IsStop};
+ghost use Rattle.realizer.specs.Stops.{IsStop};
 ghost use Rattle.realizer.specs.Listing.{is_listed};
 ghost use Rattle.realizer.specs.Realization.{AreTypes, realization_text};
 ghost use Rattle.realizer.specs.RealizationLogs.{IsRealizationLog};

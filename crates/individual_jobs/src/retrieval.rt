@@ -3,8 +3,8 @@ ghost use Rattle.std.specs.Prelude.{◌≡◌, ◌≤◌, false, [], IsTrue, IfO
 ghost use Rattle.std.specs.List.{list_any};
 ghost use Rattle.ontology_limits.specs.Limits.{IsInLimit};
 ghost use Rattle.run_log.specs.Entries.{is_spent};
-ghost use Rattle.subsumption.specs.Stops.{IsStop};
-ghost use Rattle.subsumption.specs.ClassNames.{are_listed};
+ghost use Rattle.realizer.specs.Stops.{IsStop};
+ghost use Rattle.realizer.specs.ClassNames.{are_listed};
 ghost use Rattle.realizer.specs.Instances.{AreInstances, instances_text};
 ghost use Rattle.realizer.specs.RealizationLogs.{IsInstancesLog};
 ghost use Rattle.job_inputs.specs.Answer.{text_bytes, is_fault};

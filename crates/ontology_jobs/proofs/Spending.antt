@@ -22,7 +22,7 @@ use Rattle.classification_jobs.specs.Questions.{Text, follows}
 use Rattle.classification_jobs.specs.Refusals.{IsRefused}
 use Rattle.decision_jobs.specs.Decisions.{decision_status, IsDecided}
 use Rattle.audit_jobs.specs.Wanted.{Wanted}
-use Rattle.subsumption.specs.LogEnds.{EndsSpent}
+use Rattle.classification_jobs.specs.LogEnds.{EndsSpent}
 use Rattle.edit_session.specs.Sessions.{State, live_set}
 use Rattle.edit_session.specs.Logged.{RunsOut}
 use Rattle.audit_jobs.specs.Listings.{end_status, IsListing, IsListAnswer}

@@ -10,3 +10,4 @@ pub mod Listed
 mod Union
 pub use Rattle.query_asker.proofs.Tested
 pub use Rattle.query_asker.proofs.Answering
+pub use Rattle.query_asker.proofs.Logged

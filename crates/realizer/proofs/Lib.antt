@@ -9,3 +9,4 @@ pub mod Realized
 pub mod Counting
 pub mod Pruned
 pub mod Unique
+pub use Rattle.subsumption.proofs.Passing

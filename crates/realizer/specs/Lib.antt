@@ -10,3 +10,6 @@ pub mod TypeRows
 pub mod Candidates
 pub mod Asked
 pub mod RealizationLaws
+pub use Rattle.subsumption.specs.Stops
+pub use Rattle.subsumption.specs.ClassNames
+pub use Rattle.subsumption.specs.LogEnds

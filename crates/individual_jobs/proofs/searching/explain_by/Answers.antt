@@ -1,5 +1,5 @@
 use Rattle.std.proofs.Common.{sym, subst}
-use Rattle.query_asker.specs.OracleLists.{OracleLists}
+use Rattle.pinpointing_jobs.specs.OracleLists.{OracleLists}
 use Rattle.pinpointing_specs.specs.LocalModule.{IsLocalModule}
 use Rattle.realizer.specs.Instances.{instance_query}
 use Rattle.individual_jobs.proofs.searching.explain_by.Goals as goal

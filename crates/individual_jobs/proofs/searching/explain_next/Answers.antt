@@ -1,6 +1,6 @@
 use Rattle.std.proofs.Common.{◌≡◌, ◌-◌, sym, subst, arith}
 use Rattle.run_log.specs.Entries.{spent_of}
-use Rattle.query_asker.specs.Told.{AreTestsOfOthers}
+use Rattle.pinpointing_jobs.specs.Told.{AreTestsOfOthers}
 use Rattle.shq_terms.specs.declared.axioms.Query.{Query}
 use Rattle.pinpointing_jobs.specs.Gained.{GainsSearch, GainsBegun}
 use Rattle.individual_jobs.proofs.Explained.{others, stays_begun, stops_before, begins_next, begins_after}
