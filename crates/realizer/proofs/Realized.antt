@@ -20,7 +20,7 @@ use Rattle.subsumption.specs.Groups.{Parthood}
 use Rattle.subsumption.specs.ClassNames.{are_listed}
 use Rattle.subsumption.proofs.Passing.{below-passing}
 use Rattle.realizer.specs.TypeLists.{TypeLists}
-use Rattle.realizer.specs.Realization.{Typing, IsTyping, is_direct_type, direct_types, type_lists, AreTypeLines}
+use Rattle.realizer.specs.Realization.{Typing, SaysInstances, is_direct_type, direct_types, type_lists, AreTypeLines}
 use Rattle.realizer.specs.Realization.{AreTypes}
 use Rattle.realizer.specs.Listing.{line_is_listed, lines_are_listed}
 use Rattle.realizer.specs.TypeRows.{typed_by}
@@ -32,7 +32,7 @@ use Rattle.realizer.proofs.Truths.{in_each}
 
 -- where each individual was asked about, its row has its classes
 pub rows_are_typed : (l : OracleLists) (known : Rows) (axioms : Limited) (rows : List Limited)
-    → IsBefore l known axioms (length l.ontology.individuals) rows → IsTyping l.ontology (typed_by rows)
+    → IsBefore l known axioms (length l.ontology.individuals) rows → SaysInstances l.ontology (typed_by rows)
 rows_are_typed l known axioms rows b a x la lx =
     (λ h. b.typing.candidates.sure a x la la lx h, λ is. b.typing.candidates.possible a x la lx is)
 
@@ -42,7 +42,7 @@ pub type_lines_are : (o : Listed) (l : OracleLists) (known : Rows) (axioms : Lim
     → ts ≡ type_lists known.count (holds known) (length o.individuals) (typed_by rows) → AreTypeLines o (holds known) ts
 type_lines_are o l known axioms rows ts same b is = record {
   typed = typed_by rows;
-  is_typed = subst (λ (p : Listed). IsTyping p (typed_by rows)) same (rows_are_typed l known axioms rows b);
+  is_typed = subst (λ (p : Listed). SaysInstances p (typed_by rows)) same (rows_are_typed l known axioms rows b);
   lines_are =
       is ∙ ap (λ (n : ℕ). type_lists n (holds known) (length o.individuals) (typed_by rows))
       (b.typing.count_is ∙ ap (λ (p : Listed). length p.classes) same);

@@ -20,8 +20,8 @@ abbrev pub Typing : Type 0
 Typing = ℕ → ℕ → Bool
 
 -- it says of each listed individual and each listed class whether the one is an instance of the other
-abbrev pub IsTyping : Listed → Typing → Type 0
-IsTyping o typed = (a x : ℕ) → a < length o.individuals → x < length o.classes
+abbrev pub SaysInstances : Listed → Typing → Type 0
+SaysInstances o typed = (a x : ℕ) → a < length o.individuals → x < length o.classes
     → (typed a x ≡ true ↔ IsInstance o (name x) a)
 
 -- ---- the types of one individual, by a test that says which classes it is in
@@ -57,7 +57,7 @@ types_by o r typed = types_of (length o.classes) r (length o.individuals) typed
 -- these lines say the direct types of each listed individual, by a relation of the classes
 pub record AreTypeLines (o : Listed) (r : Parthood) (ts : List TypeLists) : Type 0 where
   pub typed : Typing
-  pub is_typed : IsTyping o typed
+  pub is_typed : SaysInstances o typed
   pub lines_are : ts ≡ type_lists (length o.classes) r (length o.individuals) typed
 
 -- these are the direct types of each listed individual, by all axioms
@@ -65,7 +65,7 @@ pub record AreTypes (o : Listed) (types : Types) : Type 0 where
   pub part_of : Parthood
   pub is_so : IsSubsumption o part_of
   pub typed : Typing
-  pub is_typed : IsTyping o typed
+  pub is_typed : SaysInstances o typed
   pub types_are : types ≡ types_by o part_of typed
 
 -- ---- the text
