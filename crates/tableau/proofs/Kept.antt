@@ -37,7 +37,7 @@ use Rattle.tableau.specs.declared.search.End.TheVariants.{Saturated as RunSatura
 use Rattle.tableau.specs.Inside.{IsProgressOf, IsKept, IsAtQuestion, IsClosing, HasClosed, IsAdvanced, HasNotedNew}
 use Rattle.tableau.specs.Inside.{IsNotedAfter, IsSettled, IsHalted, IsWalked, goes_on, is_spent}
 use Rattle.tableau.proofs.Reached.{standing_is_reached}
-use Rattle.tableau.proofs.Seen.{over_after, seen_after}
+use Rattle.tableau.proofs.Noted.{over_after, seen_after}
 
 -- what is asked over the axioms of the rules' set
 abbrev asked : RuleLists → Query → Question

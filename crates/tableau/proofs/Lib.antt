@@ -3,7 +3,7 @@ pub mod Left
 pub mod Noting
 pub mod Names
 pub mod Reached
-pub mod Seen
+pub mod Noted
 pub mod Kept
 pub mod Apart
 pub use Rattle.closed_search.proofs.Entailed
