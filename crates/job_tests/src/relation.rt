@@ -1,4 +1,5 @@
-// The taxonomy of a document by its definition, from the answers about all pairs of its classes, each asked by itself.
+// The taxonomy of a document by its definition, from the answers about all pairs of its classes, each asked by itself,
+// and the types of its individuals and the individuals of a class from those about each of them and each class.
 
 use job_runs::{NoMemory, run_on};
 use std::alloc::Global;
@@ -81,6 +82,49 @@ fn contains(alloc: Global, document: &str, class: &str, other: &str) -> Result<b
     Ok(answer.verdict() == b"entailed".as_slice())
 }
 
+// Whether the individual is in the class.
+fn is_instance(alloc: Global, document: &str, class: &str, name: &str) -> Result<bool, NoMemory> {
+    let query = format!(in alloc; "ClassAssertion({class} <http://e.org/{name}>)")?;
+    let answer = run_on(alloc, &["entails", query.as_str()], document.as_bytes())?;
+    Ok(answer.verdict() == b"entailed".as_slice())
+}
+
+/// The text of the individuals of the document that are in a class expression. It lists these in this order.
+pub(crate) fn instances_of(
+    alloc: Global,
+    document: &str,
+    class: &str,
+    individuals: &[&str],
+) -> Result<String, NoMemory> {
+    let lines = instance_lines(alloc, document, class, individuals)?;
+    let count = lines.lines().count();
+    Ok(format!(in alloc; "instances {count}\n{lines}")?)
+}
+
+// The name of each individual that is in the class expression, on a line.
+fn instance_lines(
+    alloc: Global,
+    document: &str,
+    class: &str,
+    individuals: &[&str],
+) -> Result<String, NoMemory> {
+    let mut lines = String::new(alloc);
+    for name in individuals {
+        if is_instance(alloc, document, class, name)? {
+            push_individual(&mut lines, name)?;
+            lines.push_str("\n")?;
+        }
+    }
+    Ok(lines)
+}
+
+fn push_individual(text: &mut String, name: &str) -> Result<(), NoMemory> {
+    text.push_str("<http://e.org/")?;
+    text.push_str(name)?;
+    text.push_str(">")?;
+    Ok(())
+}
+
 fn with(places: usize, place: usize) -> usize {
     places | (1_usize << (place % 16))
 }
@@ -106,6 +150,65 @@ impl Relation {
             }
         }
         Ok(text)
+    }
+
+    /// The text of the realization of the document, which lists these individuals in this order.
+    pub(crate) fn types_text(
+        &self,
+        alloc: Global,
+        document: &str,
+        individuals: &[&str],
+    ) -> Result<String, NoMemory> {
+        if self.is_below(THING, NOTHING) {
+            return Ok(String::from_str(alloc, "inconsistent\n")?);
+        }
+        let mut text = String::from_str(alloc, "consistent\n")?;
+        for name in individuals {
+            let types = self.types_of(alloc, document, name)?;
+            self.put_types(&mut text, name, types)?;
+        }
+        Ok(text)
+    }
+
+    // The places of the names of which the individual is an instance.
+    fn types_of(&self, alloc: Global, document: &str, name: &str) -> Result<usize, NoMemory> {
+        let mut types = 0;
+        for (place, class) in self.classes.iter().enumerate() {
+            if place >= FIRST && is_instance(alloc, document, class.as_str(), name)? {
+                types = with(types, place);
+            }
+        }
+        Ok(types)
+    }
+
+    // The line of an individual that is in the classes of these places.
+    fn put_types(&self, text: &mut String, name: &str, types: usize) -> Result<(), NoMemory> {
+        text.push_str("individual ")?;
+        push_individual(text, name)?;
+        text.push_str(" types")?;
+        let direct = self.direct_of(types);
+        self.put(text, if direct == 0 { with(0, THING) } else { direct })?;
+        text.push_str("\n")?;
+        Ok(())
+    }
+
+    // Those of the places at which the first name of a group stands, and of whose groups none of the others is part.
+    fn direct_of(&self, types: usize) -> usize {
+        let mut direct = 0;
+        for place in FIRST..self.classes.len() {
+            if self.is_direct(types, place) {
+                direct = with(direct, place);
+            }
+        }
+        direct
+    }
+
+    fn is_direct(&self, types: usize, place: usize) -> bool {
+        has(types, place)
+            && self.is_first(place)
+            && (FIRST..self.classes.len()).all(|other| !(has(types, other)
+                && self.is_first(other)
+                && self.is_strictly_below(other, place)))
     }
 
     // The places of the names that are wanted.

@@ -1,0 +1,433 @@
+// The jobs on individuals: their whole texts, and what each budget from one step on leaves of them; and that the
+// reasons of an instance are what `explain` lists for the statement that it is one.
+
+ghost use Rattle.std.specs.Prelude.{◌≡◌, ◌<◌, [], length};
+
+use individual_jobs::{Status, Text, instances, realize, why};
+use job_runs::{Answer, NoMemory, document, run_on};
+use run_log::RunLog;
+use std::alloc::Global;
+use std::process::Abort;
+use std::test::Fail;
+
+// ---- whole texts
+
+// What is asked of a document.
+#[derive(Clone, Copy)]
+enum Asked {
+    /// The types of its individuals.
+    Types,
+    /// The instances of a class expression.
+    Instances(&'static str),
+    /// Why these are instances.
+    Reasons(&'static str),
+}
+
+// The first individual is in B by two axioms, the second by one, and the third is not.
+const THREE: &str = "SubClassOf(:A :B)
+ClassAssertion(:A :x)
+ClassAssertion(:B :y)
+Declaration(NamedIndividual(:z))";
+
+// One individual is in D in two ways, and its being in C is no reason.
+const TWO_WAYS: &str = "ClassAssertion(:A :x)
+ClassAssertion(ObjectIntersectionOf(:B :C) :x)
+SubClassOf(:A :D)
+SubClassOf(:B :D)";
+
+// An individual has another one of a class beside it.
+const BESIDE: &str = "ObjectPropertyAssertion(:R :x :y)
+ClassAssertion(:A :y)
+SubClassOf(:A :B)";
+
+// Axioms, what is asked of them, how the run ends with an ample budget, and what is answered.
+const CASES: &[(&str, Asked, Status, &str)] = &[
+    (
+        THREE,
+        Asked::Types,
+        Status::Done,
+        "consistent
+individual <http://e.org/x> types <http://e.org/A>
+individual <http://e.org/y> types <http://e.org/B>
+individual <http://e.org/z> types owl:Thing
+",
+    ),
+    (
+        THREE,
+        Asked::Instances(":B"),
+        Status::Done,
+        "instances 2\n<http://e.org/x>\n<http://e.org/y>\n",
+    ),
+    (
+        THREE,
+        Asked::Reasons(":B"),
+        Status::Done,
+        "instance <http://e.org/x> justifications 1
+1 2
+instance <http://e.org/y> justifications 1
+3
+axiom 1 line 3 SubClassOf(<http://e.org/A> <http://e.org/B>)
+axiom 2 line 4 ClassAssertion(<http://e.org/A> <http://e.org/x>)
+axiom 3 line 5 ClassAssertion(<http://e.org/B> <http://e.org/y>)
+",
+    ),
+    (
+        THREE,
+        Asked::Instances("owl:Nothing"),
+        Status::Done,
+        "instances 0\n",
+    ),
+    (THREE, Asked::Reasons("owl:Nothing"), Status::Done, ""),
+    (
+        TWO_WAYS,
+        Asked::Reasons(":D"),
+        Status::Done,
+        "instance <http://e.org/x> justifications 2
+1 3
+2 4
+axiom 1 line 3 ClassAssertion(<http://e.org/A> <http://e.org/x>)
+axiom 2 line 4 ClassAssertion(ObjectIntersectionOf(<http://e.org/B> <http://e.org/C>) <http://e.org/x>)
+axiom 3 line 5 SubClassOf(<http://e.org/A> <http://e.org/D>)
+axiom 4 line 6 SubClassOf(<http://e.org/B> <http://e.org/D>)
+",
+    ),
+    (
+        TWO_WAYS,
+        Asked::Types,
+        Status::Done,
+        "consistent
+individual <http://e.org/x> types <http://e.org/A> <http://e.org/B> <http://e.org/C>
+",
+    ),
+    (
+        BESIDE,
+        Asked::Instances("ObjectSomeValuesFrom(:R :B)"),
+        Status::Done,
+        "instances 1\n<http://e.org/x>\n",
+    ),
+    (
+        BESIDE,
+        Asked::Reasons("owl:Thing"),
+        Status::Done,
+        "instance <http://e.org/x> justifications 1
+empty
+instance <http://e.org/y> justifications 1
+empty
+",
+    ),
+    // Two direct types, of which none lies in the other; a class that is equal to an earlier one is not named.
+    (
+        "EquivalentClasses(:B :A)\nSubClassOf(:C :D)\nClassAssertion(ObjectIntersectionOf(:A :C :D) :x)",
+        Asked::Types,
+        Status::Done,
+        "consistent\nindividual <http://e.org/x> types <http://e.org/B> <http://e.org/C>\n",
+    ),
+    ("", Asked::Types, Status::Done, "consistent\n"),
+    ("", Asked::Instances(":A"), Status::Done, "instances 0\n"),
+    ("", Asked::Reasons(":A"), Status::Done, ""),
+    // Not even owl:Thing has an element.
+    (
+        "SubClassOf(owl:Thing owl:Nothing)\nDeclaration(NamedIndividual(:x))",
+        Asked::Types,
+        Status::Done,
+        "inconsistent\n",
+    ),
+    (
+        "ClassAssertion(owl:Nothing :x)\nClassAssertion(:A :y)",
+        Asked::Instances("owl:Nothing"),
+        Status::Done,
+        "instances 2\n<http://e.org/x>\n<http://e.org/y>\n",
+    ),
+    (
+        THREE,
+        Asked::Instances("x:B"),
+        Status::BadText,
+        "bad text prefix query\n",
+    ),
+    (
+        THREE,
+        Asked::Reasons("ObjectHasSelf(:R)"),
+        Status::Outside,
+        "outside ObjectHasSelf query\n",
+    ),
+    (
+        "SubClassOf(:A)",
+        Asked::Types,
+        Status::BadText,
+        "bad text shape line 3\n",
+    ),
+    (
+        "SubClassOf(:A)",
+        Asked::Reasons("x:B"),
+        Status::BadText,
+        "bad text shape line 3\n",
+    ),
+];
+
+// A budget that suffices for each of them.
+const AMPLE: u32 = 2_000;
+
+// What is answered, and what it took of the budget.
+#[derive(Drop)]
+struct Told {
+    status: Status,
+    text: Text,
+    spent: u64,
+}
+
+impl Told {
+    fn is(&self, status: Status, text: &[u8]) -> bool {
+        self.status == status && self.text.bytes() == text
+    }
+
+    // Whether it is what a budget gives, where the whole answer takes so much: all with more, nothing with less. With
+    // just that much it may be either: of a budget of which nothing is left no test is begun, not even of no steps.
+    fn is_within(&self, budget: u32, all: &Told) -> bool {
+        let budget = u64::from(budget);
+        let is_all = self.is(all.status, all.text.bytes()) && self.spent == all.spent;
+        let is_nothing = self.is(Status::Undecided, b"undecided\n") && self.spent == budget;
+        (is_all && all.spent <= budget) || (is_nothing && budget <= all.spent)
+    }
+}
+
+fn answer_to(
+    alloc: Global,
+    asked: Asked,
+    budget: u32,
+    bytes: &[u8],
+    log: &mut RunLog,
+) -> (Status, Text)
+    requires small { length bytes.now < 1000 }
+    requires unlogged { log.old ≡ [] }
+{
+    match asked {
+        Asked::Types => realize(alloc, budget, bytes, log),
+        Asked::Instances(class) => instances(alloc, class, budget, bytes, log),
+        Asked::Reasons(class) => why(alloc, class, budget, bytes, log),
+    }
+}
+
+fn answer_within(alloc: Global, asked: Asked, budget: u32, bytes: &[u8]) -> Told
+    requires { length bytes.now < 1000 }
+{
+    let mut log = RunLog::new(alloc);
+    let (status, text) = answer_to(alloc, asked, budget, bytes, &mut log);
+    let spent = log.spent();
+    drop(log);
+    Told {
+        status,
+        text,
+        spent,
+    }
+}
+
+fn check_budget(rt: &impl Abort, alloc: Global, asked: Asked, budget: u32, bytes: &[u8], all: &Told)
+    requires { length bytes.now < 1000 }
+{
+    let some = answer_within(alloc, asked, budget, bytes);
+    assert!(rt; some.is_within(budget, all), "{budget} of {}", all.spent);
+}
+
+// Whether all is told with an ample budget, and what each budget gives up to the first that is more than enough.
+fn check_answers(
+    rt: &impl Abort,
+    alloc: Global,
+    asked: Asked,
+    bytes: &[u8],
+    status: Status,
+    text: &str,
+)
+    requires { length bytes.now < 1000 }
+{
+    let all = answer_within(alloc, asked, AMPLE, bytes);
+    assert!(rt; all.is(status, text.as_bytes()), "{text}");
+    assert!(rt; all.spent < u64::from(AMPLE));
+    for budget in 1..all.spent as u32 + 2 {
+        check_budget(rt, alloc, asked, budget, bytes, &all);
+    }
+}
+
+fn check_case(
+    rt: &impl Abort,
+    alloc: Global,
+    axioms: &str,
+    asked: Asked,
+    status: Status,
+    text: &str,
+) -> Result<(), NoMemory> {
+    let document = document(alloc, axioms)?;
+    let bytes = document.as_bytes();
+    assert!(rt; bytes.len() < 1000);
+    check_answers(rt, alloc, asked, bytes, status, text);
+    Ok(())
+}
+
+#[test]
+fn tells_all_or_spends_all(rt: HostRuntime) -> Result<(), Fail> {
+    for (axioms, asked, status, text) in CASES {
+        check_case(&rt, rt.alloc(), axioms, *asked, *status, text)?;
+    }
+    Ok(())
+}
+
+// ---- compared with `explain`
+
+// A class expression, the individuals in the order of their list, and the axioms.
+const DOCUMENTS: &[(&str, &[&str], &str)] = &[
+    (":B", &["x", "y", "z"], THREE),
+    (":D", &["x"], TWO_WAYS),
+    ("ObjectSomeValuesFrom(:R :B)", &["x", "y"], BESIDE),
+    (
+        ":A",
+        &["x", "y", "z"],
+        "SameIndividual(:x :y)
+ClassAssertion(:A :x)
+ClassAssertion(:A :y)
+DifferentIndividuals(:y :z)",
+    ),
+    (
+        ":C",
+        &["x", "y", "z"],
+        "EquivalentClasses(:C ObjectMinCardinality(2 :R))
+ObjectPropertyAssertion(:R :x :y)
+ObjectPropertyAssertion(:R :x :z)
+DifferentIndividuals(:y :z)
+ClassAssertion(ObjectSomeValuesFrom(:R :C) :y)",
+    ),
+    (
+        "ObjectComplementOf(:B)",
+        &["x", "y", "z"],
+        "TransitiveObjectProperty(:R)
+ObjectPropertyAssertion(:R :x :y)
+ObjectPropertyAssertion(:R :y :z)
+ClassAssertion(ObjectAllValuesFrom(:R :A) :x)
+DisjointClasses(:A :B)",
+    ),
+    (
+        ":C",
+        &["x", "y"],
+        "DisjointClasses(:A :B)
+ClassAssertion(ObjectIntersectionOf(:A :B) :x)
+ClassAssertion(owl:Nothing :y)",
+    ),
+];
+
+// What `explain` answers to the statement that an individual is in a class expression.
+fn explained(alloc: Global, document: &str, class: &str, name: &str) -> Result<Answer, NoMemory> {
+    let statement = format!(in alloc; "ClassAssertion({class} :{name})")?;
+    run_on(alloc, &["explain", statement.as_str()], document.as_bytes())
+}
+
+// Lines that an answer is to have: those of instances and their sets, and those of axioms.
+#[derive(Drop)]
+struct Lines {
+    sets: String,
+    axioms: String,
+}
+
+// Puts the lines of an instance last: the first of what explains it says how many justifications there are, and those
+// of axioms come last.
+fn put_instance(lines: &mut Lines, name: &str, explained: &str) -> Result<(), NoMemory> {
+    lines.sets.push_str("instance <http://e.org/")?;
+    lines.sets.push_str(name)?;
+    lines.sets.push_str("> ")?;
+    match explained.split_once("axiom ") {
+        Some((sets, axioms)) => {
+            lines.sets.push_str(sets)?;
+            lines.axioms.push_str("axiom ")?;
+            lines.axioms.push_str(axioms)?;
+        }
+        None => lines.sets.push_str(explained)?,
+    }
+    Ok(())
+}
+
+// Puts the lines of an individual last, unless it is no instance.
+fn put_individual(
+    alloc: Global,
+    lines: &mut Lines,
+    document: &str,
+    class: &str,
+    name: &str,
+) -> Result<(), NoMemory> {
+    let answer = explained(alloc, document, class, name)?;
+    let text = str::from_utf8(answer.text()).unwrap_or("");
+    if text != "justifications 0\n" {
+        put_instance(lines, name, text)?;
+    }
+    Ok(())
+}
+
+// The lines of all individuals.
+fn lines_of(alloc: Global, document: &str, class: &str, names: &[&str]) -> Result<Lines, NoMemory> {
+    let mut lines = Lines {
+        sets: String::new(alloc),
+        axioms: String::new(alloc),
+    };
+    for name in names {
+        put_individual(alloc, &mut lines, document, class, name)?;
+    }
+    Ok(lines)
+}
+
+fn are_among(lines: &str, others: &str) -> bool {
+    lines
+        .lines()
+        .all(|line| others.lines().any(|other| other == line))
+}
+
+// Whether a text has just these lines of instances and sets, and behind them each of these axioms once, in their order:
+// none of the documents has more than nine.
+fn is_made_of(text: &str, lines: &Lines) -> bool {
+    match text.strip_prefix(lines.sets.as_str()) {
+        Some(rest) => {
+            are_among(rest, lines.axioms.as_str())
+                && are_among(lines.axioms.as_str(), rest)
+                && rest.lines().is_sorted_by(|line, next| line < next)
+        }
+        None => false,
+    }
+}
+
+fn has_reasons(
+    alloc: Global,
+    document: &str,
+    class: &str,
+    lines: &Lines,
+) -> Result<bool, NoMemory> {
+    let answer = run_on(alloc, &["why", class], document.as_bytes())?;
+    let text = str::from_utf8(answer.text()).unwrap_or("");
+    Ok(answer.status == Status::Done && is_made_of(text, lines))
+}
+
+fn check_lines(
+    rt: &impl Abort,
+    alloc: Global,
+    document: &str,
+    class: &str,
+    names: &[&str],
+) -> Result<(), NoMemory> {
+    let lines = lines_of(alloc, document, class, names)?;
+    assert!(rt; !lines.sets.is_empty(), "{document}");
+    assert!(rt; has_reasons(alloc, document, class, &lines)?, "{document}");
+    Ok(())
+}
+
+fn check_reasons(
+    rt: &impl Abort,
+    alloc: Global,
+    class: &str,
+    names: &[&str],
+    axioms: &str,
+) -> Result<(), NoMemory> {
+    let document = document(alloc, axioms)?;
+    check_lines(rt, alloc, document.as_str(), class, names)
+}
+
+#[test]
+fn reasons_are_what_explain_lists(rt: HostRuntime) -> Result<(), Fail> {
+    for (class, names, axioms) in DOCUMENTS {
+        check_reasons(&rt, rt.alloc(), class, names, axioms)?;
+    }
+    Ok(())
+}
