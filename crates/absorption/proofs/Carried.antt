@@ -7,11 +7,11 @@ use Rattle.calculus_specs.specs.Normal.{negated_form}
 use Rattle.calculus_specs.specs.Shape.{Shape, shape_of, has_parts_below, IsTable}
 use Rattle.calculus_specs.specs.Shape.Shape.{top, all_of, at_most}
 use Rattle.calculus_specs.specs.Tree.{tree_of, IsComplement}
-use Rattle.shq_nnf.specs.Numbers.{Extends, IsNumber}
-use Rattle.shq_nnf.proofs.Numbers.{length_extends, tree_stays}
-use Rattle.role_box.specs.declared.role_axiom.RoleAxiom.{RoleAxiom}
-use Rattle.role_box.specs.Steps.{is_transitive}
-use Rattle.role_box.specs.Paths.{is_below}
+use Rattle.row_cache.specs.Numbers.{Extends, IsNumber}
+use Rattle.row_cache.proofs.Numbers.{length_extends, tree_stays}
+use Rattle.row_cache.specs.RoleAxiom.{RoleAxiom}
+use Rattle.row_cache.specs.Steps.{is_transitive}
+use Rattle.row_cache.specs.Paths.{is_below}
 use Rattle.tableau_specs.proofs.Listed.{listed}
 use Rattle.absorption.specs.declared.closing.Need.TheVariants.{Nothing, Complement, Carries}
 use Rattle.absorption.specs.Closed.{IsClosed}

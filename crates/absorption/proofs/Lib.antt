@@ -7,3 +7,5 @@ pub mod Meets
 pub mod Carried
 pub mod Lacking
 pub use Rattle.row_cache.proofs.Numbered
+pub use Rattle.tableau_specs.proofs.Listed as ListedTrails
+pub use Rattle.tableau_specs.proofs.Moved

@@ -13,11 +13,11 @@ use Rattle.calculus_specs.specs.Shape.Shape.{at_most as most_shape}
 use Rattle.calculus_specs.specs.Tree.{tree_over, trees_of, tree_of}
 use Rattle.calculus_specs.specs.Rows.{Part, inclusion, range, NumberedPart, is_name, conjunct_at, row_concept}
 use Rattle.shq_terms.specs.declared.axioms.Numbered.{Numbered}
-use Rattle.shq_nnf.specs.declared.parts.Part.{Part as PartByNumber}
-use Rattle.shq_nnf.specs.declared.parts.Part.TheVariants.{Inclusion, Range}
-use Rattle.shq_nnf.specs.Numbers.{Extends, IsNumber, AreNumbers}
-use Rattle.shq_nnf.specs.Parts.{StandsForPart, part_in}
-use Rattle.shq_nnf.proofs.Numbers.{shape_tree, tree_stays, number_stays, numbers_stay}
+use Rattle.row_cache.specs.Part.{Part as PartByNumber}
+use Rattle.row_cache.specs.Part.TheVariants.{Inclusion, Range}
+use Rattle.row_cache.specs.Numbers.{Extends, IsNumber, AreNumbers}
+use Rattle.row_cache.specs.Parts.{StandsForPart, part_in}
+use Rattle.row_cache.proofs.Numbers.{shape_tree, tree_stays, number_stays, numbers_stay}
 use Rattle.row_cache.specs.Theory.{parts_at, numbered_parts, named_parts}
 use Rattle.row_cache.specs.declared.cached_row.CachedRow.{CachedRow}
 use Rattle.row_cache.specs.Rows.{PlainRow, IsRow, row_for}

@@ -13,9 +13,9 @@ use Rattle.std.proofs.lemmas.List.Elements.{All-weaker}
 use Rattle.std.proofs.lemmas.List.Folds.{list_all-map}
 use Rattle.std.proofs.lemmas.List.Sorted.{All-permutation, sum_by-IsPermutation}
 use Rattle.std.proofs.lemmas.List.Sums.{sum_by-append, sum_by-cons}
-use Rattle.lane_sieve.specs.Sets.{passing}
-use Rattle.axiom_sets.specs.Sets.{Limited, IsWithin, member_list}
-use Rattle.axiom_sets.proofs.Listed.{member_list-at}
+use Rattle.row_cache.specs.NumberSets.{passing}
+use Rattle.row_cache.specs.Sets.{Limited, IsWithin, member_list}
+use Rattle.row_cache.proofs.Listed.{member_list-at}
 use Rattle.shq_terms.specs.Concept.{Concept}
 use Rattle.calculus_specs.specs.Shape.{Shape, shape_of, IsTable}
 use Rattle.calculus_specs.specs.Tree.{tree_of}
@@ -24,8 +24,8 @@ use Rattle.calculus_specs.specs.Rows.{is_name, conjunct_at, is_ascending, row_of
 use Rattle.calculus_specs.specs.Rows.{Row as PlainRow, is_row_of}
 use Rattle.calculus_specs.specs.Rows.Trigger.{names}
 use Rattle.shq_terms.specs.declared.axioms.Numbered.{Numbered}
-use Rattle.shq_nnf.specs.Numbers.{AreNumbers}
-use Rattle.shq_nnf.specs.Parts.{part_in}
+use Rattle.row_cache.specs.Numbers.{AreNumbers}
+use Rattle.row_cache.specs.Parts.{part_in}
 use Rattle.row_cache.specs.Theory.{parts_at, numbered_parts, named_parts, theory_of}
 use Rattle.row_cache.proofs.Numbered.{numbered}
 use Rattle.row_cache.specs.Rows.{is_name_shape}

@@ -13,13 +13,13 @@ use Rattle.calculus_specs.specs.Rows.{Part, inclusion, range, conjunct_at, is_am
 use Rattle.calculus_specs.specs.Rows.{are_name_positions, is_some_of, row_of, Trigger}
 use Rattle.calculus_specs.specs.Rows.Trigger.{always, names, edge, end_of}
 use Rattle.shq_terms.specs.declared.axioms.Axiom.{Axiom}
-use Rattle.shq_meaning.specs.Below.{all_below, count_below}
-use Rattle.shq_meaning.specs.Truth.{Interpretation, implies, holds, hold_any, out_degree, meets}
-use Rattle.shq_meaning.proofs.Implied.{implied, implies_from}
-use Rattle.shq_nnf.specs.Parts.{axiom_parts}
-use Rattle.shq_nnf.specs.Meeting.{meets_part, meets_parts, is_role_axiom, is_assertion}
-use Rattle.shq_nnf.proofs.Truth.{or_holds, negated_truth, some_is_some, some_cond}
-use Rattle.shq_nnf.proofs.Meeting.{axiom_is_parts}
+use Rattle.row_cache.specs.Below.{all_below, count_below}
+use Rattle.row_cache.specs.Truth.{Interpretation, implies, holds, hold_any, out_degree, meets}
+use Rattle.row_cache.proofs.Implied.{implied, implies_from}
+use Rattle.row_cache.specs.Parts.{axiom_parts}
+use Rattle.row_cache.specs.Meeting.{meets_part, meets_parts, is_role_axiom, is_assertion}
+use Rattle.row_cache.proofs.Truth.{or_holds, negated_truth, some_is_some, some_cond}
+use Rattle.row_cache.proofs.Meeting.{axiom_is_parts}
 use Rattle.row_cache.proofs.Below.{all_at, all_from}
 use Rattle.row_cache.proofs.Models.{found}
 use Rattle.row_cache.proofs.Rows.{row_holds}

@@ -10,3 +10,7 @@ pub mod Closed
 pub mod Needed
 pub mod ClosureLaws
 pub use Rattle.row_cache.specs.Theory
+pub use Rattle.row_cache.specs.Sets
+pub use Rattle.tableau_specs.specs.Steps
+pub use Rattle.tableau_specs.specs.Reached
+pub use Rattle.tableau_specs.specs.LineLaws

@@ -4,9 +4,9 @@ use Rattle.std.specs.List.{list_any}
 use Rattle.calculus_specs.specs.Shape.{Shape, shape_of}
 use Rattle.calculus_specs.specs.Shape.Shape.{all_of, at_most}
 use Rattle.calculus_specs.specs.Tree.{IsComplement}
-use Rattle.role_box.specs.declared.role_axiom.RoleAxiom.{RoleAxiom}
-use Rattle.role_box.specs.Steps.{is_transitive}
-use Rattle.role_box.specs.Paths.{is_below}
+use Rattle.row_cache.specs.RoleAxiom.{RoleAxiom}
+use Rattle.row_cache.specs.Steps.{is_transitive}
+use Rattle.row_cache.specs.Paths.{is_below}
 use Rattle.absorption.specs.declared.closing.Need.{Need}
 use Rattle.absorption.specs.declared.closing.Need.TheVariants.{Nothing, Complement, Carries}
 

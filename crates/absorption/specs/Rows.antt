@@ -6,10 +6,10 @@ use Rattle.calculus_specs.specs.Shape.Shape.{some_of}
 use Rattle.calculus_specs.specs.Tree.{tree_of}
 use Rattle.calculus_specs.specs.Rows.{Part, inclusion, range, NumberedPart, Trigger as PlainTrigger, Row as PlainRow}
 use Rattle.calculus_specs.specs.Rows.Trigger.{always, names, edge, end_of}
-use Rattle.shq_nnf.specs.declared.parts.Part.{Part as PartByNumber}
-use Rattle.shq_nnf.specs.declared.parts.Part.TheVariants.{Inclusion, Range}
-use Rattle.shq_nnf.specs.Numbers.{AreNumbers, trees_at}
-use Rattle.shq_nnf.specs.Parts.{StandsForPart}
+use Rattle.row_cache.specs.Part.{Part as PartByNumber}
+use Rattle.row_cache.specs.Part.TheVariants.{Inclusion, Range}
+use Rattle.row_cache.specs.Numbers.{AreNumbers, trees_at}
+use Rattle.row_cache.specs.Parts.{StandsForPart}
 use Rattle.row_cache.specs.Theory.{numbered_parts}
 use Rattle.absorption.specs.Triggers.{trigger_for, premises_for, fixed_concept}
 use Rattle.absorption.specs.declared.row.Row.{Row}

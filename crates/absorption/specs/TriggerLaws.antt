@@ -4,9 +4,9 @@ use Rattle.std.specs.List.{list_all}
 use Rattle.shq_terms.specs.Concept.{Concept}
 use Rattle.calculus_specs.specs.Rows.{Part, Trigger, row_of}
 use Rattle.shq_terms.specs.declared.axioms.Axiom.{Axiom}
-use Rattle.shq_meaning.specs.Truth.{Interpretation, meets}
-use Rattle.shq_nnf.specs.Parts.{axiom_parts}
-use Rattle.shq_nnf.specs.Meeting.{meets_part, is_role_axiom, is_assertion}
+use Rattle.row_cache.specs.Truth.{Interpretation, meets}
+use Rattle.row_cache.specs.Parts.{axiom_parts}
+use Rattle.row_cache.specs.Meeting.{meets_part, is_role_axiom, is_assertion}
 use Rattle.absorption.specs.Triggers.{trigger_for, fixed_concept}
 use Rattle.absorption.specs.Truth.{meets_row, meets_row_if}
 

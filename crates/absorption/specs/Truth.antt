@@ -4,8 +4,8 @@ use Rattle.std.specs.List.{list_all}
 use Rattle.shq_terms.specs.Concept.{Concept}
 use Rattle.calculus_specs.specs.Rows.{Part, inclusion, range, conjunct_at, Trigger}
 use Rattle.calculus_specs.specs.Rows.Trigger.{always, names, edge, end_of}
-use Rattle.shq_meaning.specs.Below.{all_below, count_below}
-use Rattle.shq_meaning.specs.Truth.{Interpretation, implies, holds, out_degree}
+use Rattle.row_cache.specs.Below.{all_below, count_below}
+use Rattle.row_cache.specs.Truth.{Interpretation, implies, holds, out_degree}
 
 -- how many pairs of the role end at the element
 abbrev pub in_degree : Interpretation → ℕ → ℕ → ℕ

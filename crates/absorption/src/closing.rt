@@ -8,16 +8,15 @@
 // The numbers that a search needs besides those of its table.
 ghost use Rattle.std.specs.Prelude.{◌≡◌, ◌<◌, true, IfOk, OnOk, length};
 ghost use Rattle.calculus_specs.specs.Shape.{IsTable};
-ghost use Rattle.role_box.specs.Steps.{is_transitive};
-ghost use Rattle.role_box.specs.Paths.{is_below};
-ghost use Rattle.shq_nnf.specs.Shapes.{form_of};
-ghost use Rattle.shq_nnf.specs.Numbers.{Extends};
+ghost use Rattle.row_cache.specs.Steps.{is_transitive};
+ghost use Rattle.row_cache.specs.Paths.{is_below};
+ghost use Rattle.row_cache.specs.Shapes.{form_of};
+ghost use Rattle.row_cache.specs.Numbers.{Extends};
 ghost use Rattle.absorption.specs.Closed.{IsClosed};
 ghost use Rattle.absorption.specs.Needed.{need_of_shape, HasAll, HasNeeded, HasTransitiveRoles, AreCarried};
 
 use crate::NoMemory;
-use role_box::RoleBox;
-use shq_nnf::{Concepts, Shape};
+use row_cache::{Concepts, RoleBox, Shape};
 use std::alloc::Global;
 
 /// Puts what a search needs by these roles besides the concepts of the table: the complement of the filler of each 'at

@@ -29,6 +29,7 @@ pub use closing::close;
 pub use closure_laws::{closed_tables_lack_nothing, no_step_over_a_closed_table_is_an_end};
 pub use laws::{each_row_is_found, found_rows_wait};
 pub use row::{Row, Trigger};
+pub use row_cache::AxiomSet;
 pub use row_table::RowTable;
 pub use shq_terms::NoMemory;
 pub use trigger_laws::{axioms_are_their_rows, each_part_has_its_row, rows_are_their_parts};

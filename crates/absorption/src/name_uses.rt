@@ -6,7 +6,7 @@ use crate::NoMemory;
 use crate::place::class_of;
 use crate::row::{Row, Trigger};
 use indexmap::IndexMap;
-use shq_nnf::Concepts;
+use row_cache::Concepts;
 use std::alloc::Global;
 
 // How often each class is waited for.

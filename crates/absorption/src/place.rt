@@ -2,13 +2,13 @@
 ghost use Rattle.std.specs.Prelude.{◌≡◌, ◌<◌, ◌&&◌, ◌⊎◌, nat_lt, IsTrue, length};
 ghost use Rattle.calculus_specs.specs.Shape.{shape_of};
 ghost use Rattle.calculus_specs.specs.Shape.Shape.{name};
-ghost use Rattle.shq_nnf.specs.Shapes.{form_of};
+ghost use Rattle.row_cache.specs.Shapes.{form_of};
 ghost use Rattle.row_cache.specs.Rows.{is_name_shape};
 ghost use Rattle.absorption.specs.Places.{names_class, are_names, IsPlaceOf, HasPlace};
 
 use crate::name_uses::NameUses;
 use crate::row::{Row, Trigger};
-use shq_nnf::{Concepts, Shape};
+use row_cache::{Concepts, Shape};
 
 // The place of a row in a table.
 #[derive(Clone, Copy, Debug, PartialEq, Eq)]

@@ -4,14 +4,13 @@ ghost use Rattle.std.specs.List.{list_all};
 ghost use Rattle.calculus_specs.specs.Shape.{IsTable};
 ghost use Rattle.calculus_specs.specs.Tree.{tree_of};
 ghost use Rattle.calculus_specs.specs.Rows.{inclusion};
-ghost use Rattle.shq_nnf.specs.Numbers.{Extends, trees_at};
-ghost use Rattle.shq_nnf.specs.Shapes.{form_of};
+ghost use Rattle.row_cache.specs.Numbers.{Extends, trees_at};
+ghost use Rattle.row_cache.specs.Shapes.{form_of};
 ghost use Rattle.absorption.specs.Triggers.{name_positions, first_role, role_of_some, inclusion_trigger};
 ghost use Rattle.absorption.specs.Rows.{plain_trigger, plain_part, IsListedPart, IsRowOfPart, role_of_shape};
 
 use crate::NoMemory;
-use row_cache::{is_name, part_row};
-use shq_nnf::{Concepts, Part, Shape};
+use row_cache::{Concepts, Part, Shape, is_name, part_row};
 use shq_terms::NumberList;
 use std::alloc::Global;
 

@@ -1,14 +1,14 @@
 // The rows of the axioms of a set, in order.
 ghost use Rattle.std.specs.Prelude.{◌+◌, ◌<◌, ◌≤◌, IsTrue, IfOk, OnOk, All, length};
-ghost use Rattle.shq_nnf.specs.Numbers.{Extends};
-ghost use Rattle.shq_nnf.specs.Parts.{axiom_parts, axiom_has_counts_within, part_in};
+ghost use Rattle.row_cache.specs.Numbers.{Extends};
+ghost use Rattle.row_cache.specs.Parts.{axiom_parts, axiom_has_counts_within, part_in};
 ghost use Rattle.row_cache.specs.Theory.{named_parts};
 ghost use Rattle.row_cache.specs.Rows.{AreInLimit};
 ghost use Rattle.absorption.specs.Rows.{IsRowOfPart, AreRowsOf, AddsRows};
 
 use crate::NoMemory;
 use crate::row::{Row, row_of_part};
-use shq_nnf::{Concepts, part_count};
+use row_cache::{Concepts, part_count};
 use shq_terms::{Axiom, Ontology};
 use std::alloc::Global;
 

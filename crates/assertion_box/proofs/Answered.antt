@@ -7,19 +7,21 @@ use Rattle.std.proofs.lemmas.Bool.{cases_eq, eq-eqb, ne_eqb, eqb-true, and_from,
 use Rattle.std.proofs.lemmas.List.{map-append}
 use Rattle.std.proofs.lemmas.List.Elements.{All-nil, All-cons, All-append}
 use Rattle.std.proofs.lemmas.List.Folds.{list_any-append}
-use Rattle.shq_nnf.specs.Concept.{Concept}
-use Rattle.shq_nnf.specs.Axiom.{Axiom}
-use Rattle.shq_nnf.specs.Axiom.TheVariants.{SubClassOf, EquivalentClasses, DisjointClasses, DisjointUnion, SubRole}
-use Rattle.shq_nnf.specs.Axiom.TheVariants.{EquivalentRoles, Domain, Range, Functional, Transitive, Member, Pair}
-use Rattle.shq_nnf.specs.Axiom.TheVariants.{SameAll, Different}
-use Rattle.shq_nnf.specs.Numbered.{Numbered}
-use Rattle.role_box.specs.Uses.{all_use_listed}
+use Rattle.refutation_truth.specs.Concept.{Concept}
+use Rattle.refutation_truth.specs.Axiom.{Axiom}
+use Rattle.refutation_truth.specs.Axiom.TheVariants.{SubClassOf, EquivalentClasses, DisjointClasses, DisjointUnion}
+use Rattle.refutation_truth.specs.Axiom.TheVariants.{SubRole}
+use Rattle.refutation_truth.specs.Axiom.TheVariants.{EquivalentRoles, Domain, Range, Functional, Transitive, Member}
+use Rattle.refutation_truth.specs.Axiom.TheVariants.{Pair}
+use Rattle.refutation_truth.specs.Axiom.TheVariants.{SameAll, Different}
+use Rattle.refutation_truth.specs.Numbered.{Numbered}
+use Rattle.refutation_truth.specs.Uses.{all_use_listed}
 use Rattle.calculus_specs.specs.declared.facts.Fact.{Fact}
 use Rattle.calculus_specs.specs.declared.facts.Fact.TheVariants.{Apart, Same}
 use Rattle.calculus_specs.specs.Normal.{normal_form}
 use Rattle.calculus_specs.specs.Reading.{read_fact}
 use Rattle.calculus_specs.specs.Rows.{is_among}
-use Rattle.shq_nnf.specs.Facts.{same_facts, apart_facts, facts_of, nth_fact}
+use Rattle.refutation_truth.specs.Facts.{same_facts, apart_facts, facts_of, nth_fact}
 use Rattle.refutation_truth.specs.Theory.{fact_in, fact_of_axiom, listed_fact}
 use Rattle.refutation_truth.proofs.Asserted.{all_given}
 use Rattle.assertion_box.specs.Stated.{Stated, own_facts, own_facts_in, numbered_facts, stated_facts}

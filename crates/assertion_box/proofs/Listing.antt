@@ -4,11 +4,11 @@ use Rattle.std.proofs.Common.{get_or, drop, refl, ap, sym, subst, ◌∙◌, ari
 use Rattle.std.proofs.Common.{add-one}
 use Rattle.std.specs.Prelude.{slice_get}
 use Rattle.std.proofs.lemmas.List.{length-map}
-use Rattle.shq_nnf.specs.Concept.{Concept}
-use Rattle.shq_nnf.specs.Numbered.{Numbered}
+use Rattle.refutation_truth.specs.Concept.{Concept}
+use Rattle.refutation_truth.specs.Numbered.{Numbered}
 use Rattle.calculus_specs.specs.declared.facts.Fact.{Fact}
 use Rattle.calculus_specs.specs.declared.facts.Fact.TheVariants.{Apart}
-use Rattle.shq_nnf.specs.Facts.{same_facts, apart_facts}
+use Rattle.refutation_truth.specs.Facts.{same_facts, apart_facts}
 use Rattle.assertion_box.specs.Stated.{Stated, own_facts, own_facts_in, numbered_facts, stated_facts}
 
 -- the later facts count on

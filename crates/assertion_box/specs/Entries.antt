@@ -1,6 +1,6 @@
 -- How facts are kept, and how they are shown.
 use Rattle.std.specs.Prelude.{ℕ}
-use Rattle.shq_nnf.specs.Concept.{Concept}
+use Rattle.refutation_truth.specs.Concept.{Concept}
 use Rattle.calculus_specs.specs.declared.facts.Fact.{Fact}
 use Rattle.calculus_specs.specs.declared.facts.Fact.TheVariants.{Has, Edge, Apart, Same}
 use Rattle.assertion_box.specs.declared.stated_list.Entry.{Entry}

@@ -1,9 +1,9 @@
 -- What is stated is what axioms give.
 use Rattle.std.specs.Prelude.{◌≡◌, ℕ, ◌==◌, ◌&&◌, true, IsTrue, List, Some, All}
 use Rattle.std.specs.List.{list_any}
-use Rattle.shq_nnf.specs.Concept.{Concept}
-use Rattle.shq_nnf.specs.Numbered.{Numbered}
-use Rattle.role_box.specs.Uses.{all_use_listed}
+use Rattle.refutation_truth.specs.Concept.{Concept}
+use Rattle.refutation_truth.specs.Numbered.{Numbered}
+use Rattle.refutation_truth.specs.Uses.{all_use_listed}
 use Rattle.calculus_specs.specs.declared.facts.Fact.{Fact}
 use Rattle.calculus_specs.specs.Normal.{normal_form}
 use Rattle.calculus_specs.specs.Reading.{read_fact}

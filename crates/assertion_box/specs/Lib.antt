@@ -2,4 +2,4 @@ pub mod Stated
 pub mod Entries
 pub mod Places
 pub mod Laws
-pub use Rattle.shq_nnf.specs.Facts
+pub use Rattle.refutation_truth.specs.Facts

@@ -1,15 +1,17 @@
 -- What the axioms of some numbers state of individuals.
 use Rattle.std.specs.Prelude.{ℕ, ◌+◌, ◌-◌, ◌==◌, ◌||◌, Bool, List, [], ◌∷◌, ◌++◌, Option, None, Some, slice_get}
 use Rattle.std.specs.Prelude.{slice_index_or}
-use Rattle.shq_nnf.specs.Concept.{Concept}
-use Rattle.shq_nnf.specs.Axiom.{Axiom}
-use Rattle.shq_nnf.specs.Axiom.TheVariants.{SubClassOf, EquivalentClasses, DisjointClasses, DisjointUnion, SubRole}
-use Rattle.shq_nnf.specs.Axiom.TheVariants.{EquivalentRoles, Domain, Range, Functional, Transitive, Member, Pair}
-use Rattle.shq_nnf.specs.Axiom.TheVariants.{SameAll, Different}
-use Rattle.shq_nnf.specs.Numbered.{Numbered}
+use Rattle.refutation_truth.specs.Concept.{Concept}
+use Rattle.refutation_truth.specs.Axiom.{Axiom}
+use Rattle.refutation_truth.specs.Axiom.TheVariants.{SubClassOf, EquivalentClasses, DisjointClasses, DisjointUnion}
+use Rattle.refutation_truth.specs.Axiom.TheVariants.{SubRole}
+use Rattle.refutation_truth.specs.Axiom.TheVariants.{EquivalentRoles, Domain, Range, Functional, Transitive, Member}
+use Rattle.refutation_truth.specs.Axiom.TheVariants.{Pair}
+use Rattle.refutation_truth.specs.Axiom.TheVariants.{SameAll, Different}
+use Rattle.refutation_truth.specs.Numbered.{Numbered}
 use Rattle.calculus_specs.specs.declared.facts.Fact.{Fact}
 use Rattle.calculus_specs.specs.declared.facts.Fact.TheVariants.{Has, Edge, Apart, Same}
-use Rattle.shq_nnf.specs.Facts.{same_facts, apart_facts}
+use Rattle.refutation_truth.specs.Facts.{same_facts, apart_facts}
 
 -- one fact: the number of its axiom, its place among that axiom's own facts, from 1, and what it says. The concept of a
 -- member is the class expression that the axiom names.

@@ -9,7 +9,7 @@ use crate::NoMemory;
 use crate::given::Given;
 use crate::place_lists::{Places, place_lists};
 use crate::stated_list::StatedList;
-use shq_terms::{NumberList, Ontology};
+use refutation_truth::{NumberList, Ontology};
 use std::alloc::Global;
 use std::marker::Model;
 
@@ -23,7 +23,7 @@ pub struct Facts {
 impl Model for Facts {
     ghost use Rattle.std.specs.Prelude.{List, ℕ, ◌≡◌};
     ghost use Rattle.std.specs.Coded.{codes};
-    ghost use Rattle.shq_terms.specs.Code.{concept_code};
+    ghost use Rattle.refutation_truth.specs.Code.{concept_code};
     ghost use Rattle.assertion_box.specs.Stated.{Stated};
     ghost use Rattle.assertion_box.specs.Places.{places_of, list_at};
 

@@ -1,6 +1,6 @@
 // What a fact is shown as.
 
-use shq_terms::Concept;
+use refutation_truth::Concept;
 
 /// A fact of an axiom, whose number comes first. Roles and individuals are numbers.
 #[derive(Clone, Copy)]

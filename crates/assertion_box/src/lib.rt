@@ -20,7 +20,7 @@ ghost use Rattle.assertion_box.specs.Laws.{StatedFactsAreGiven};
 pub use facts::Facts;
 pub use given::Given;
 pub use place_lists::Places;
-pub use shq_terms::NoMemory;
+pub use refutation_truth::NoMemory;
 
 /// What axioms state is what they give to a refutation, with class expressions in negation normal form.
 pub fn stated_facts_are_given()

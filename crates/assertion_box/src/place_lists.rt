@@ -6,7 +6,7 @@ ghost use Rattle.assertion_box.specs.Places.{places_of, list_at};
 
 use crate::NoMemory;
 use crate::stated_list::StatedList;
-use shq_terms::NumberList;
+use refutation_truth::NumberList;
 use std::alloc::Global;
 use std::marker::Model;
 

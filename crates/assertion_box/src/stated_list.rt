@@ -1,13 +1,13 @@
 // Facts of axioms, in order.
 ghost use Rattle.std.specs.Prelude.{◌≡◌, ◌+◌, ◌<◌, ◌≤◌, ◌^◌, [], ◌∷◌, ◌++◌, map, length, OnOk};
 ghost use Rattle.calculus_specs.specs.declared.facts.Fact.TheVariants.{Has, Edge, Apart, Same};
-ghost use Rattle.shq_nnf.specs.Facts.{same_facts, apart_facts};
+ghost use Rattle.refutation_truth.specs.Facts.{same_facts, apart_facts};
 ghost use Rattle.assertion_box.specs.Stated.{own_facts, numbered_facts, stated_at, ends_of};
 ghost use Rattle.assertion_box.specs.Entries.{kept_fact, axiom_of, fact_of};
 
 use crate::NoMemory;
 use crate::given::Given;
-use shq_terms::{Axiom, Concept};
+use refutation_truth::{Axiom, Concept};
 use std::alloc::Global;
 use std::marker::Model;
 
@@ -38,7 +38,7 @@ pub(crate) struct StatedList {
 impl Model for StatedList {
     ghost use Rattle.std.specs.Prelude.{List, map, length, ◌<◌, ◌^◌};
     ghost use Rattle.std.specs.Coded.{codes};
-    ghost use Rattle.shq_terms.specs.Code.{concept_code};
+    ghost use Rattle.refutation_truth.specs.Code.{concept_code};
     ghost use Rattle.assertion_box.specs.Stated.{Stated};
     ghost use Rattle.assertion_box.specs.Entries.{kept_stated};
 

@@ -9,3 +9,5 @@ pub mod Follows
 pub mod Complete
 pub mod Accepted
 pub mod Places
+pub use Rattle.audit_file.proofs.Joined
+pub use Rattle.audit_file.proofs.Counted

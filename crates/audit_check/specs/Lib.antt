@@ -5,3 +5,9 @@ pub mod Territory
 pub mod Sound
 pub mod Verdicts
 pub mod Laws
+pub use Rattle.audit_file.specs.AuditText
+pub use Rattle.audit_file.specs.Fitting
+pub use Rattle.audit_file.specs.AuditLists
+pub use Rattle.audit_file.specs.Written
+pub use Rattle.audit_file.specs.declared.entries.Justification
+pub use Rattle.audit_file.specs.declared.entries.Repair

@@ -20,6 +20,7 @@ mod search;
 mod shown;
 mod verdict;
 
+pub use audit_file::{Audit, read_text};
 pub use duality::{
     audited_are_minimal_removals, audited_are_minimal_yes, none_contains_another,
     transversals_hit_alone,

@@ -8,11 +8,11 @@ use Rattle.certificate_lines.specs.Lines.{lines}
 use Rattle.shq_terms.specs.Listed.{Listed}
 use Rattle.shq_terms.specs.declared.axioms.Query.{Query as Asked}
 use Rattle.job_inputs.specs.LimitLaws.{AreWritable}
-use Rattle.audit_file.specs.AuditLists.{justified_sets}
-use Rattle.audit_file.specs.AuditText.{audit_in}
-use Rattle.audit_file.specs.Written.{audit_text}
-use Rattle.audit_file.specs.declared.entries.Justification.{Justification}
-use Rattle.audit_file.proofs.Counted.{written_is_read}
+use Rattle.audit_check.specs.AuditLists.{justified_sets}
+use Rattle.audit_check.specs.AuditText.{audit_in}
+use Rattle.audit_check.specs.Written.{audit_text}
+use Rattle.audit_check.specs.Justification.{Justification}
+use Rattle.audit_check.proofs.Counted.{written_is_read}
 use Rattle.audit_check.specs.Sound.{ListsAll}
 use Rattle.audit_check.specs.declared.verdict.AuditVerdict.TheVariants as verdict
 use Rattle.audit_check.proofs.Accepted.{one_verdict}

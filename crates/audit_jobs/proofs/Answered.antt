@@ -5,8 +5,8 @@ use Rattle.shq_terms.specs.Listed.{Listed}
 use Rattle.shq_terms.specs.NoMemory.{NoMemory}
 use Rattle.shq_terms.specs.declared.axioms.Query.{Query as Asked}
 use Rattle.run_log.specs.declared.entry.Entry.{Entry}
-use Rattle.audit_file.specs.AuditLists.{AuditLists}
-use Rattle.audit_file.specs.Written.{audit_text, IsKeptAudit}
+use Rattle.audit_check.specs.AuditLists.{AuditLists}
+use Rattle.audit_check.specs.Written.{audit_text, IsKeptAudit}
 use Rattle.pinpointing_jobs.specs.TreeFound.{Found}
 use Rattle.job_inputs.specs.declared.status.Status.{Status}
 use Rattle.job_inputs.specs.declared.status.Status.TheVariants.{Done, Rejected, BadWords, BadText, Outside, Limit}

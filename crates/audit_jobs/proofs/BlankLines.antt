@@ -6,7 +6,7 @@ use Rattle.std.specs.List.{list_all, prefix_len, slice_split, onto_first}
 use Rattle.std.specs.Str.Lines.{strip_carriage_return}
 use Rattle.std.proofs.lemmas.Bool.{and_parts}
 use Rattle.certificate_lines.specs.Lines.{lines, is_space, is_blank}
-use Rattle.audit_file.proofs.Joined.{lines_joined}
+use Rattle.audit_check.proofs.Joined.{lines_joined}
 use Rattle.decision_jobs.specs.Certificates.{certificate_lines}
 
 -- ---- whitespace has blank lines alone

@@ -8,7 +8,7 @@ use Rattle.ofn_reader.specs.DocumentContext.{DocumentContext}
 use Rattle.ofn_reader.specs.Documents.{IsDocument}
 use Rattle.job_inputs.proofs.InLimit.{queries_in_limit}
 use Rattle.job_inputs.specs.declared.unread.Unread.{Unread}
-use Rattle.audit_file.specs.Fitting.{Fits}
+use Rattle.audit_check.specs.Fitting.{Fits}
 use Rattle.audit_jobs.specs.Audited.{input_with, IsAuditClaim, CanBeJudged}
 use Rattle.audit_jobs.specs.declared.reading.AuditClaim.{AuditClaim}
 use Rattle.audit_jobs.specs.declared.reading.AuditInput.{AuditInput}

@@ -12,3 +12,5 @@ mod Answered
 mod Accepted
 mod BlankLines
 mod Printed
+pub use Rattle.decision_jobs.proofs.FirstMalformed
+pub use Rattle.decision_jobs.proofs.Truth

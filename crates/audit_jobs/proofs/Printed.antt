@@ -25,10 +25,10 @@ use Rattle.job_inputs.specs.declared.status.Status.{Status}
 use Rattle.job_inputs.specs.declared.status.Status.TheVariants.{Done, NoMemory}
 use Rattle.job_inputs.specs.declared.unread.Unread.{Unread}
 use Rattle.job_inputs.specs.declared.unread.Unread.TheVariants as U
-use Rattle.audit_file.specs.AuditLists.{AuditLists}
-use Rattle.audit_file.specs.AuditText.{audit_in}
-use Rattle.audit_file.specs.Written.{justifications_text, repairs_text, audit_text}
-use Rattle.audit_file.proofs.Joined.{fed_first}
+use Rattle.audit_check.specs.AuditLists.{AuditLists}
+use Rattle.audit_check.specs.AuditText.{audit_in}
+use Rattle.audit_check.specs.Written.{justifications_text, repairs_text, audit_text}
+use Rattle.audit_check.proofs.Joined.{fed_first}
 use Rattle.audit_check.specs.declared.verdict.AuditVerdict.{AuditVerdict}
 use Rattle.audit_check.specs.declared.verdict.AuditVerdict.TheVariants as verdict
 use Rattle.pinpointing_jobs.specs.Listings.{end_status}

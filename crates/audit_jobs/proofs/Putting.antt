@@ -20,10 +20,10 @@ use Rattle.pinpointing_jobs.specs.TreeFound.{Found}
 use Rattle.shq_terms.specs.NoMemory.{NoMemory}
 use Rattle.pinpointing_jobs.specs.Written.{AreFoundRepairs}
 use Rattle.refutation_tree.specs.RefutationLists.{RefutationLists}
-use Rattle.audit_file.specs.AuditLists.{AuditLists, justified_sets, repaired_sets, last_justified, last_repaired}
-use Rattle.audit_file.specs.AuditLists.{follows, with_justification, with_repair}
-use Rattle.audit_file.specs.declared.entries.Justification.{Justification}
-use Rattle.audit_file.specs.declared.entries.Repair.{Repair}
+use Rattle.audit_check.specs.AuditLists.{AuditLists, justified_sets, repaired_sets, last_justified, last_repaired}
+use Rattle.audit_check.specs.AuditLists.{follows, with_justification, with_repair}
+use Rattle.audit_check.specs.Justification.{Justification}
+use Rattle.audit_check.specs.Repair.{Repair}
 use Rattle.audit_check.proofs.Ascending.{not_before_itself}
 use Rattle.audit_jobs.specs.declared.evidence.CounterModel.{CounterModel}
 use Rattle.audit_jobs.specs.declared.evidence.Evidence.{Evidence}

@@ -14,9 +14,9 @@ use Rattle.job_inputs.specs.Asked.{IsAsked, IsUndocumented, IsUnasked}
 use Rattle.job_inputs.specs.Unread.{line_unread}
 use Rattle.job_inputs.specs.declared.unread.Unread.{Unread}
 use Rattle.job_inputs.specs.declared.unread.Unread.TheVariants.{Document, Query, Line, NoMemory}
-use Rattle.audit_file.specs.AuditLists.{AuditLists}
-use Rattle.audit_file.specs.AuditText.{IsFaultBy}
-use Rattle.audit_file.specs.Fitting.{Fits}
+use Rattle.audit_check.specs.AuditLists.{AuditLists}
+use Rattle.audit_check.specs.AuditText.{IsFaultBy}
+use Rattle.audit_check.specs.Fitting.{Fits}
 use Rattle.audit_check.specs.declared.verdict.AuditVerdict.{AuditVerdict}
 use Rattle.audit_jobs.specs.Audited.{audit_after, IsJudged, IsAskedOn, IsJudgedOn, IsAuditEnd, IsUnreadBy, IsAuditClaim}
 use Rattle.audit_jobs.specs.Audited.{IsUnclaimed, input_with, IsAuditInput}

@@ -27,11 +27,11 @@ use Rattle.refutation_tree.specs.ReadBack.{IsWritable}
 use Rattle.refutation_tree.specs.Written.{names_are_listed}
 use Rattle.run_log.specs.HonestLog.{IsJustificationSet}
 use Rattle.run_log.proofs.Named.{axioms_are}
-use Rattle.audit_file.specs.AuditLists.{AuditLists, repaired_sets}
-use Rattle.audit_file.specs.Fitting.{IsOfAxioms, AreOfAxioms}
-use Rattle.audit_file.specs.Written.{audit_is_listed}
-use Rattle.audit_file.specs.declared.entries.Justification.{Justification}
-use Rattle.audit_file.specs.declared.entries.Repair.{Repair}
+use Rattle.audit_check.specs.AuditLists.{AuditLists, repaired_sets}
+use Rattle.audit_check.specs.Fitting.{IsOfAxioms, AreOfAxioms}
+use Rattle.audit_check.specs.Written.{audit_is_listed}
+use Rattle.audit_check.specs.Justification.{Justification}
+use Rattle.audit_check.specs.Repair.{Repair}
 use Rattle.audit_check.specs.Audits.{IsAntichain}
 use Rattle.audit_check.specs.Transversals.{AreTransversals}
 use Rattle.audit_check.specs.Sound.{IsShown, meets_rest, IsCounterModel, IsSound}

@@ -6,10 +6,10 @@ use Rattle.shq_terms.specs.declared.axioms.Query.{Query as Asked}
 use Rattle.refutation_tree.specs.ReadBack.{IsWritable}
 use Rattle.run_log.specs.declared.entry.Entry.{Entry}
 use Rattle.run_log.specs.Entries.{spent_of}
-use Rattle.audit_file.specs.AuditLists.{AuditLists}
-use Rattle.audit_file.specs.Fitting.{AreOfAxioms}
-use Rattle.audit_file.specs.Written.{audit_text, IsKeptAudit}
-use Rattle.audit_file.specs.declared.entries.Justification.{Justification}
+use Rattle.audit_check.specs.AuditLists.{AuditLists}
+use Rattle.audit_check.specs.Fitting.{AreOfAxioms}
+use Rattle.audit_check.specs.Written.{audit_text, IsKeptAudit}
+use Rattle.audit_check.specs.Justification.{Justification}
 use Rattle.audit_check.specs.Sound.{IsSound}
 use Rattle.job_inputs.specs.Answer.{line}
 use Rattle.job_inputs.specs.declared.status.Status.{Status}

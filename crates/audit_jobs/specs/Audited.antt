@@ -16,9 +16,9 @@ use Rattle.job_inputs.specs.declared.status.Status.TheVariants.{Done, Rejected, 
 use Rattle.job_inputs.specs.declared.unread.Unread.{Unread}
 use Rattle.job_inputs.specs.declared.unread.Unread.TheVariants as U
 use Rattle.decision_jobs.specs.Certificates.{certificate_lines}
-use Rattle.audit_file.specs.AuditLists.{AuditLists, IsOrdered}
-use Rattle.audit_file.specs.AuditText.{audit_in, told}
-use Rattle.audit_file.specs.Fitting.{Fits}
+use Rattle.audit_check.specs.AuditLists.{AuditLists, IsOrdered}
+use Rattle.audit_check.specs.AuditText.{audit_in, told}
+use Rattle.audit_check.specs.Fitting.{Fits}
 use Rattle.audit_check.specs.Sound.{ListsAll}
 use Rattle.audit_check.specs.Verdicts.{IsVerdict}
 use Rattle.audit_check.specs.declared.verdict.AuditVerdict.{AuditVerdict}

@@ -6,8 +6,8 @@ use Rattle.certificate_lines.specs.Lines.{lines, is_blank}
 use Rattle.ofn_reader.specs.DocumentContext.{DocumentContext}
 use Rattle.ofn_reader.specs.Documents.{IsDocument}
 use Rattle.run_log.specs.declared.entry.Entry.{Entry}
-use Rattle.audit_file.specs.AuditLists.{AuditLists}
-use Rattle.audit_file.specs.AuditText.{audit_in}
+use Rattle.audit_check.specs.AuditLists.{AuditLists}
+use Rattle.audit_check.specs.AuditText.{audit_in}
 use Rattle.audit_check.specs.Sound.{ListsAll}
 use Rattle.audit_check.specs.Verdicts.{IsVerdict}
 use Rattle.audit_check.specs.declared.verdict.AuditVerdict.{AuditVerdict}

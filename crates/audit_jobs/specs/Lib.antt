@@ -6,7 +6,7 @@ pub mod Taken
 pub mod Listed
 pub mod Answers
 pub mod Laws
-pub use Rattle.audit_file.specs.AuditLists
+pub use Rattle.audit_check.specs.AuditLists
 pub use Rattle.audit_check.specs.Sound
 pub use Rattle.audit_check.specs.declared.verdict.AuditVerdict
 pub use Rattle.job_inputs.specs.declared.unread.Unread
@@ -16,3 +16,12 @@ pub use Rattle.pinpointing_jobs.specs.Listings
 pub use Rattle.pinpointing_jobs.specs.Counts
 pub use Rattle.pinpointing_jobs.specs.Memory
 pub use Rattle.refutation_tree.specs.RefutationLists
+pub use Rattle.decision_jobs.specs.Checked
+pub use Rattle.decision_jobs.specs.Decisions
+pub use Rattle.decision_jobs.specs.Answer
+pub use Rattle.decision_jobs.specs.Decided
+pub use Rattle.decision_jobs.specs.Checking
+pub use Rattle.decision_jobs.specs.Verdicts
+pub use Rattle.decision_jobs.specs.Certificates
+pub use Rattle.decision_jobs.specs.Malformed
+pub use Rattle.decision_jobs.specs.declared.certificate.Certificate

@@ -6,9 +6,9 @@ use Rattle.pinpointing_specs.specs.Smallest.{rest}
 use Rattle.set_questions.specs.InOrder.{HaveOneLimit}
 use Rattle.pinpointing_jobs.specs.TreeFound.{Found}
 use Rattle.refutation_tree.specs.RefutationLists.{RefutationLists}
-use Rattle.audit_file.specs.AuditLists.{AuditLists, justified_sets, repaired_sets, with_justification, with_repair}
-use Rattle.audit_file.specs.declared.entries.Justification.{Justification}
-use Rattle.audit_file.specs.declared.entries.Repair.{Repair}
+use Rattle.audit_check.specs.AuditLists.{AuditLists, justified_sets, repaired_sets, with_justification, with_repair}
+use Rattle.audit_check.specs.Justification.{Justification}
+use Rattle.audit_check.specs.Repair.{Repair}
 use Rattle.pinpointing_jobs.specs.Written.{AreFoundRepairs}
 use Rattle.audit_jobs.specs.declared.evidence.CounterModel.{CounterModel}
 use Rattle.audit_jobs.specs.declared.evidence.Evidence.{Evidence}

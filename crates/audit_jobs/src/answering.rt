@@ -4,13 +4,13 @@ ghost use Rattle.ontology_limits.specs.Limits.{IsInLimit};
 ghost use Rattle.job_inputs.specs.Answer.{text_bytes, is_fault};
 ghost use Rattle.job_inputs.specs.Questions.{follows};
 ghost use Rattle.job_inputs.specs.Refusals.{IsUnanswered};
-ghost use Rattle.audit_file.specs.Written.{audit_text, audit_is_listed, IsKeptAudit};
+ghost use Rattle.audit_check.specs.Written.{audit_text, audit_is_listed, IsKeptAudit};
 ghost use Rattle.audit_jobs.specs.Witnessed.{IsWitnessed, IsEvidenceLog, HasAsked};
 ghost use Rattle.audit_jobs.specs.Answers.{IsAuditText, IsWritten, IsEvidenceAnswer, IsEvidenced, AnswersEvidence};
 
 use crate::listing::audit_of;
 use crate::searching::{Searched, search};
-use audit_file::Audit;
+use audit_check::Audit;
 use job_inputs::{Status, Text, Unread, unread_reply};
 use pinpointing_jobs::{Input, read_input};
 use run_log::RunLog;

@@ -29,6 +29,7 @@ mod witness;
 
 pub use answering::find_evidence;
 pub use auditing::verify_audit;
+pub use decision_jobs::{answer, verify};
 pub use job_inputs::{Status, Text};
 pub use law::{evidence_is_accepted, printed_evidence_is_accepted};
 pub use pinpointing_jobs::{Wanted, pinpoint, run_workload};

@@ -2,14 +2,14 @@
 ghost use Rattle.std.specs.Prelude.{◌≡◌, [], true, IfOk, OnOk};
 ghost use Rattle.std.specs.Result.{result_map_both};
 ghost use Rattle.pinpointing_specs.specs.Order.{IsAscending};
-ghost use Rattle.audit_file.specs.AuditLists.{last_justified, last_repaired, follows, with_repair};
+ghost use Rattle.audit_check.specs.AuditLists.{last_justified, last_repaired, follows, with_repair};
 ghost use Rattle.audit_jobs.specs.Kept.{HasRefutation, HasModel};
 ghost use Rattle.audit_jobs.specs.Listed.{CanBeListed, IsAuditOf, HaveRefutations, HaveModels, outside};
 ghost use Rattle.audit_jobs.specs.Listed.{PutsJustification, PutsRepair, ListsJustifications, ListsRepairs};
 
 use crate::evidence::{CounterModel, Evidence};
 use crate::taking::{take_model, take_refutation};
-use audit_file::Audit;
+use audit_check::Audit;
 use axiom_sets::AxiomSet;
 use pinpointing_jobs::{Found, repairs};
 use refutation_tree::Refutation;

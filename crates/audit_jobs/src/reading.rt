@@ -3,12 +3,12 @@ ghost use Rattle.std.specs.Prelude.{◌≡◌, ◌≤◌, IfOk, IfErr, Ok, Err, 
 ghost use Rattle.std.specs.List.{prefix_len};
 ghost use Rattle.std.specs.Result.{result_map_both};
 ghost use Rattle.certificate_lines.specs.Lines.{is_blank, bytes_of};
-ghost use Rattle.audit_file.specs.AuditText.{audit_in};
-ghost use Rattle.audit_file.specs.Fitting.{Fits};
+ghost use Rattle.audit_check.specs.AuditText.{audit_in};
+ghost use Rattle.audit_check.specs.Fitting.{Fits};
 ghost use Rattle.audit_jobs.specs.Audited.{audit_after, IsUnreadBy, IsAuditClaim, IsUnclaimed, IsAuditInput};
 ghost use Rattle.audit_jobs.specs.Audited.{IsAuditEnd, CanBeJudged, input_with};
 
-use audit_file::{Audit, read_text};
+use audit_check::{Audit, read_text};
 use certificate_lines::{is_blank, lines};
 use job_inputs::{Unread, document, query_on};
 use ofn_reader::Context;

@@ -19,6 +19,7 @@ mod print;
 
 pub use block_list::{Blocks, is_clear, state};
 pub use changed::{current_before, least_changed, still_current};
+pub use completion_tree::{By, Choice, Deps, Item, Mark, Tree};
 pub use effort::BlockEffort;
 pub use laws::blocks_stay;
 pub use tableau_specs::Block;

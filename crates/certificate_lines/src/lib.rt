@@ -24,6 +24,7 @@ pub use laws::{
     iris_are_read_back, lines_are_read_back, numbers_are_read_back, words_are_read_back,
 };
 use shq_terms::NoMemory;
+pub use shq_terms::{NoMemory, NumberList, Ontology};
 use std::alloc::Global;
 use std::str;
 

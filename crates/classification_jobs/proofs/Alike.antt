@@ -3,7 +3,7 @@ use Rattle.std.proofs.Common.{◌≡◌, ap, sym, ◌∙◌, subst}
 use Rattle.shq_terms.specs.Listed.{Listed}
 use Rattle.ofn_reader.proofs.Unique.{documents}
 use Rattle.classifier.specs.Subsumption.{IsSubsumption}
-use Rattle.subsumption.specs.Groups.{Parthood}
+use Rattle.classifier.specs.Groups.{Parthood}
 use Rattle.classification_jobs.specs.TaxonomyText.{taxonomy_text}
 use Rattle.classification_jobs.specs.TaxonomyLaws.{taxonomy_by}
 use Rattle.classification_jobs.proofs.Same.{one_text}

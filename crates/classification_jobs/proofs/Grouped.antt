@@ -7,11 +7,11 @@ use Rattle.std.proofs.lemmas.Bool.{and_from}
 use Rattle.lane_sieve.specs.Sets.{NumberSet, passing}
 use Rattle.axiom_sets.specs.Sets.{Limited}
 use Rattle.classification_jobs.specs.TaxonomyLists.{GroupLists}
-use Rattle.subsumption.specs.Groups.{Parthood, is_equal, is_first}
-use Rattle.subsumption.specs.ClassNames.{are_listed}
-use Rattle.subsumption.specs.ClassSets.{has_class, class_list, HoldsClasses}
-use Rattle.subsumption.proofs.Passing.{below-passing}
-use Rattle.subsumption.proofs.Members.{taken_out, class_list-holds}
+use Rattle.classifier.specs.Groups.{Parthood, is_equal, is_first}
+use Rattle.classifier.specs.ClassNames.{are_listed}
+use Rattle.classifier.specs.ClassSets.{has_class, class_list, HoldsClasses}
+use Rattle.classifier.proofs.Passing.{below-passing}
+use Rattle.classifier.proofs.Members.{taken_out, class_list-holds}
 use Rattle.classification_jobs.specs.Taxonomies.{is_above, is_parent, group_of, hierarchy_of}
 use Rattle.classification_jobs.specs.Listing.{group_is_listed, hierarchy_is_listed}
 

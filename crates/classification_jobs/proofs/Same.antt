@@ -2,9 +2,9 @@
 use Rattle.std.proofs.Common.{◌≡◌, ℕ, ◌+◌, ◌<◌, ◌≤◌, ◌&&◌, not, cond, eqb, ap, arith, length}
 use Rattle.std.specs.Bool.{one_answer}
 use Rattle.lane_sieve.proofs.Ranges.{passing_same}
-use Rattle.subsumption.specs.Groups.{Parthood, is_empty, holds_all, is_equal, is_first}
-use Rattle.subsumption.proofs.Passing.{map-passing_same}
-use Rattle.subsumption.proofs.Same.{empty_same, all_same, equal_same, first_same, lowest_same}
+use Rattle.classifier.specs.Groups.{Parthood, is_empty, holds_all, is_equal, is_first}
+use Rattle.classifier.proofs.Passing.{map-passing_same}
+use Rattle.classifier.proofs.Same.{empty_same, all_same, equal_same, first_same, lowest_same}
 use Rattle.classification_jobs.specs.Taxonomies.{is_above, is_parent, group_of, hierarchy_of, taxonomy_of}
 use Rattle.classification_jobs.specs.TaxonomyText.{taxonomy_text}
 use Rattle.classification_jobs.specs.TaxonomyLaws.{HaveOneTaxonomy, HaveOneText}

@@ -7,7 +7,7 @@ use Rattle.classifier.specs.Shown.{ShowsClasses}
 use Rattle.classifier.specs.Subsumption.{IsSubsumption}
 use Rattle.classifier.specs.LogEnds.{EndsSpent}
 use Rattle.classifier.specs.Excluded.{AsksNoExcluded}
-use Rattle.subsumption.specs.Groups.{Parthood}
+use Rattle.classifier.specs.Groups.{Parthood}
 use Rattle.classification_jobs.specs.TaxonomyText.{taxonomy_text}
 use Rattle.classification_jobs.specs.TaxonomyLaws.{taxonomy_by}
 use Rattle.job_inputs.specs.Answer.{line}

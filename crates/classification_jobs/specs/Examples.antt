@@ -5,7 +5,7 @@ use Rattle.lane_sieve.specs.Sets.{passing}
 use Rattle.shq_terms.specs.Listed.{Listed}
 use Rattle.ofn_writer.specs.Canonical.{line}
 use Rattle.classification_jobs.specs.TaxonomyLists.{GroupLists}
-use Rattle.subsumption.specs.Groups.{Parthood}
+use Rattle.classifier.specs.Groups.{Parthood}
 use Rattle.classification_jobs.specs.Taxonomies.{group_of, hierarchy_of, taxonomy_of}
 use Rattle.classification_jobs.specs.TaxonomyText.{taxonomy_text}
 use Rattle.classification_jobs.specs.declared.groups.Taxonomy.TheVariants.{Consistent}

@@ -18,4 +18,4 @@ pub use Rattle.job_inputs.specs.declared.complaint.Sort
 pub use Rattle.job_inputs.specs.declared.status.Status
 pub use Rattle.job_inputs.specs.declared.verdict.Verdict
 pub use Rattle.job_inputs.specs.LimitLaws
-pub use Rattle.subsumption.specs.LogEnds
+pub use Rattle.classifier.specs.LogEnds

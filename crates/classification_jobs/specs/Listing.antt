@@ -1,7 +1,7 @@
 -- Whether the classes of a taxonomy are listed: their numbers are below a count.
 use Rattle.std.specs.Prelude.{ℕ, true, Bool, ◌&&◌}
 use Rattle.std.specs.List.{list_all}
-use Rattle.subsumption.specs.ClassNames.{are_listed}
+use Rattle.classifier.specs.ClassNames.{are_listed}
 use Rattle.classification_jobs.specs.TaxonomyLists.{GroupLists, HierarchyLists}
 use Rattle.classification_jobs.specs.declared.groups.Taxonomy.{Taxonomy}
 use Rattle.classification_jobs.specs.declared.groups.Taxonomy.TheVariants.{Inconsistent, Consistent}

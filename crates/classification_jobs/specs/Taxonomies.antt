@@ -2,7 +2,7 @@
 -- numbers below their count, owl:Thing has the count as its number, and owl:Nothing the next one.
 use Rattle.std.specs.Prelude.{ℕ, ◌+◌, ◌==◌, Bool, List, not, ◌&&◌, map, if◌then◌else◌}
 use Rattle.lane_sieve.specs.Sets.{passing}
-use Rattle.subsumption.specs.Groups.{Parthood, is_empty, holds_all, is_equal, is_first, holds_no_other, is_lowest}
+use Rattle.classifier.specs.Groups.{Parthood, is_empty, holds_all, is_equal, is_first, holds_no_other, is_lowest}
 use Rattle.classification_jobs.specs.TaxonomyLists.{GroupLists, HierarchyLists}
 use Rattle.classification_jobs.specs.declared.groups.Taxonomy.{Taxonomy}
 use Rattle.classification_jobs.specs.declared.groups.Taxonomy.TheVariants.{Inconsistent, Consistent}

@@ -2,7 +2,7 @@
 use Rattle.std.specs.Prelude.{◌≡◌, length}
 use Rattle.shq_terms.specs.Listed.{Listed}
 use Rattle.classifier.specs.Subsumption.{IsSubsumption}
-use Rattle.subsumption.specs.Groups.{Parthood}
+use Rattle.classifier.specs.Groups.{Parthood}
 use Rattle.classification_jobs.specs.Taxonomies.{taxonomy_of}
 use Rattle.classification_jobs.specs.TaxonomyText.{taxonomy_text}
 use Rattle.classification_jobs.specs.declared.groups.Taxonomy.{Taxonomy}

@@ -2,7 +2,7 @@
 use Rattle.std.specs.Prelude.{ℕ, List, [], ◌∷◌, ◌++◌, codes}
 use Rattle.shq_terms.specs.Listed.{Listed}
 use Rattle.ofn_writer.specs.Canonical.{line}
-use Rattle.subsumption.specs.ClassNames.{names_text, names_or_thing_text}
+use Rattle.classifier.specs.ClassNames.{names_text, names_or_thing_text}
 use Rattle.classification_jobs.specs.TaxonomyLists.{GroupLists, HierarchyLists}
 use Rattle.classification_jobs.specs.declared.groups.Taxonomy.{Taxonomy}
 use Rattle.classification_jobs.specs.declared.groups.Taxonomy.TheVariants.{Inconsistent, Consistent}

@@ -2,20 +2,19 @@
 ghost use Rattle.std.specs.Prelude.{◌≡◌, ◌<◌, IfOk, IsTrue};
 ghost use Rattle.lane_sieve.specs.Sets.{passing};
 ghost use Rattle.classifier.specs.Rows.{holds};
-ghost use Rattle.subsumption.specs.ClassSets.{HoldsClasses};
-ghost use Rattle.subsumption.specs.Groups.{is_empty, holds_all, is_between, is_first};
+ghost use Rattle.classifier.specs.ClassSets.{HoldsClasses};
+ghost use Rattle.classifier.specs.Groups.{is_empty, holds_all, is_between, is_first};
 ghost use Rattle.classification_jobs.specs.Listing.{is_listed};
 ghost use Rattle.classification_jobs.specs.Taxonomies.{is_above, is_parent, group_of, groups_of, hierarchy_of};
 ghost use Rattle.classification_jobs.specs.Taxonomies.{taxonomy_of};
 
 use crate::groups::{Group, Hierarchy, Taxonomy};
 use axiom_sets::AxiomSet;
-use classifier::Relation;
+use classifier::{
+    Relation, classes_between, classes_of, equal_classes, first_classes, keep, lowest, push_if,
+};
 use shq_terms::NoMemory;
 use std::alloc::Global;
-use subsumption::{
-    classes_between, classes_of, equal_classes, first_classes, keep, lowest, push_if,
-};
 
 impl Taxonomy {
     /// The taxonomy of the classes of a relation.

@@ -2,13 +2,13 @@
 ghost use Rattle.std.specs.Prelude.{◌≡◌, ◌++◌, OnOk, OnErr, IsTrue, length};
 ghost use Rattle.std.specs.List.{list_all};
 ghost use Rattle.ofn_writer.specs.Canonical.{line};
-ghost use Rattle.subsumption.specs.ClassNames.{are_listed, names_text};
+ghost use Rattle.classifier.specs.ClassNames.{are_listed, names_text};
 ghost use Rattle.classification_jobs.specs.TaxonomyText.{group_line, group_lines, hierarchy_text, taxonomy_text};
 ghost use Rattle.classification_jobs.specs.Listing.{group_is_listed, hierarchy_is_listed, is_listed};
 
 use crate::groups::{Group, Hierarchy, Taxonomy};
+use classifier::{put, put_names, put_names_or_thing};
 use shq_terms::{NoMemory, Ontology};
-use subsumption::{put, put_names, put_names_or_thing};
 
 impl Taxonomy {
     /// Appends the text of the taxonomy, with the names of the ontology's classes as full IRIs between `<` and `>`.

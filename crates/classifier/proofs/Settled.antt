@@ -2,9 +2,9 @@
 use Rattle.std.proofs.Common.{◌≡◌, ◌⊎◌, ℕ, ◌+◌, ◌<◌, ◌||◌, true, List, length, subst}
 use Rattle.shq_terms.specs.Concept.{Concept}
 use Rattle.shq_terms.specs.Listed.{Listed}
-use Rattle.run_log.specs.declared.entry.Entry.{Entry}
-use Rattle.run_log.specs.HonestLog.{IsChain, IsClassificationLog}
-use Rattle.run_log.specs.Shown.{IsRuledOut, ShowsClasses}
+use Rattle.subsumption.specs.Entry.{Entry}
+use Rattle.subsumption.specs.HonestLog.{IsChain, IsClassificationLog}
+use Rattle.subsumption.specs.Shown.{IsRuledOut, ShowsClasses}
 use Rattle.subsumption.specs.Matrices.{Matrix, has}
 use Rattle.subsumption.specs.Rows.{Rows, holds}
 use Rattle.subsumption.specs.Subsumption.{class_at}

@@ -1,8 +1,8 @@
 -- What a classification says.
 use Rattle.std.specs.Prelude.{◌≡◌, ◌+◌, List, length}
 use Rattle.shq_terms.specs.Listed.{Listed}
-use Rattle.run_log.specs.declared.entry.Entry.{Entry}
-use Rattle.run_log.specs.Shown.{ShowsClasses}
+use Rattle.subsumption.specs.Entry.{Entry}
+use Rattle.subsumption.specs.Shown.{ShowsClasses}
 use Rattle.subsumption.specs.Rows.{Rows, holds, IsOrder}
 use Rattle.subsumption.specs.Subsumption.{IsSubsumption}
 

@@ -6,9 +6,9 @@ use Rattle.shq_terms.specs.declared.axioms.On.TheVariants.{Any}
 use Rattle.shq_meaning.specs.Truth.{Entails}
 use Rattle.refutation_truth.specs.Theory.{all_axioms}
 use Rattle.ontology_limits.specs.Limits.{IsOntologyInLimit, IsInLimit}
-use Rattle.run_log.specs.declared.entry.Entry.{Entry}
-use Rattle.run_log.specs.HonestLog.{IsClassificationLog}
-use Rattle.run_log.specs.Shown.{IsRuledOut}
+use Rattle.subsumption.specs.Entry.{Entry}
+use Rattle.subsumption.specs.HonestLog.{IsClassificationLog}
+use Rattle.subsumption.specs.Shown.{IsRuledOut}
 use Rattle.subsumption.specs.Matrices.{Matrix, has}
 use Rattle.subsumption.specs.Rows.{Rows, holds}
 use Rattle.subsumption.specs.Subsumption.{query_at}

@@ -1,10 +1,13 @@
 pub mod ClassificationClassified
 pub mod ClassificationLaws
-pub use Rattle.run_log.specs.HonestLog
-pub use Rattle.run_log.specs.declared.entry.Entry
-pub use Rattle.run_log.specs.Shown
+pub use Rattle.subsumption.specs.HonestLog
+pub use Rattle.subsumption.specs.Entry
+pub use Rattle.subsumption.specs.Shown
 pub use Rattle.subsumption.specs.Excluded
 pub use Rattle.subsumption.specs.LogEnds
 pub use Rattle.subsumption.specs.Rows
 pub use Rattle.subsumption.specs.Stops
 pub use Rattle.subsumption.specs.Subsumption
+pub use Rattle.subsumption.specs.ClassSets
+pub use Rattle.subsumption.specs.Groups
+pub use Rattle.subsumption.specs.ClassNames

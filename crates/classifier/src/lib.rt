@@ -15,6 +15,7 @@ pub use classification_laws::{exclusions_are_true, questions_are_in_limit, settl
 pub use classifying::classify;
 pub use shq_terms::NoMemory;
 pub use subsumption::{
-    BitMatrix, Oracle, Relation, RunLog, Stop, first_is_order, relating_keeps_order,
-    subsumption_is_one,
+    BitMatrix, Oracle, Relation, RunLog, Stop, classes_between, classes_of, equal_classes,
+    first_classes, first_is_order, keep, lowest, push_if, put, put_names, put_names_or_thing,
+    relating_keeps_order, subsumption_is_one,
 };

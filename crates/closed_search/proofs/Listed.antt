@@ -19,10 +19,10 @@ use Rattle.calculus_specs.specs.Line.{Line}
 use Rattle.calculus_specs.specs.Line.Line.{start_line, and_line, or_line, all_line, carry_line, row_line, range_line}
 use Rattle.calculus_specs.specs.Line.Line.{some_line, least_line, choose_line, pair_line, bottom_line, clash_line}
 use Rattle.calculus_specs.specs.Line.Line.{most_line, fact_line, differ_line}
-use Rattle.refutation_tree.specs.Shapes.{shape_at, part_numbers, AreShapes}
-use Rattle.refutation_tree.specs.RuleLine.{concept_numbers}
-use Rattle.refutation_tree.specs.Written.{shape_is_listed, line_is_listed}
-use Rattle.refutation_tree.proofs.Normal.{shapes_are_normal}
+use Rattle.search_trace.specs.Shapes.{shape_at, part_numbers, AreShapes}
+use Rattle.search_trace.specs.RuleLine.{concept_numbers}
+use Rattle.search_trace.specs.Written.{shape_is_listed, line_is_listed}
+use Rattle.search_trace.proofs.Normal.{shapes_are_normal}
 use Rattle.search_trace.specs.Renumbered.{renumbered}
 use Rattle.closed_search.specs.Naming.{HasParts}
 use Rattle.closed_search.specs.Finished.{are_of_kind, IsOfKind}

@@ -13,11 +13,11 @@ use Rattle.calculus_specs.specs.Line.Line.{some_line, least_line, choose_line, p
 use Rattle.calculus_specs.specs.Line.Line.{most_line, fact_line, differ_line}
 use Rattle.calculus_specs.specs.Valid.{concept_at}
 use Rattle.axiom_sets.specs.Sets.{Limited}
-use Rattle.refutation_tree.specs.Shapes.{is_concept, AreShapes}
-use Rattle.refutation_tree.specs.RefutationText.{begun}
-use Rattle.refutation_tree.specs.RefutationLists.{RefutationLists}
-use Rattle.refutation_tree.specs.declared.line.Line.{Line as Kept}
-use Rattle.refutation_tree.specs.RuleLine.{line_of, concept_numbers, names_concepts}
+use Rattle.search_trace.specs.Shapes.{is_concept, AreShapes}
+use Rattle.search_trace.specs.RefutationText.{begun}
+use Rattle.search_trace.specs.RefutationLists.{RefutationLists}
+use Rattle.search_trace.specs.Line.{Line as Kept}
+use Rattle.search_trace.specs.RuleLine.{line_of, concept_numbers, names_concepts}
 use Rattle.tableau_specs.specs.Lines.{concept_in}
 use Rattle.search_trace.specs.Renumbered.{renumbered, Reads}
 use Rattle.closed_search.specs.Numbers.{is_used, are_used, number_in}

@@ -11,8 +11,8 @@ use Rattle.calculus_specs.specs.Shape.Shape.{top as top_shape, bottom as bottom_
 use Rattle.calculus_specs.specs.Shape.Shape.{intersection as and_shape, union as or_shape, some_of as some_shape}
 use Rattle.calculus_specs.specs.Shape.Shape.{all_of as all_shape, at_least as least_shape, at_most as most_shape}
 use Rattle.calculus_specs.specs.Tree.{tree_of}
-use Rattle.refutation_tree.specs.Shapes.{part_numbers, admits, AreShapes}
-use Rattle.refutation_tree.proofs.Shapes.{shapes_push}
+use Rattle.search_trace.specs.Shapes.{part_numbers, admits, AreShapes}
+use Rattle.search_trace.proofs.Shapes.{shapes_push}
 use Rattle.closed_search.specs.Numbers.{is_used, are_used, number_in, renumbered_shape}
 use Rattle.closed_search.specs.Naming.{IsNaming, Grows, IsNumberOf, IsPut, IsNamed, IsRenamed, AreRenamed}
 use Rattle.closed_search.specs.declared.numbering.Naming.{Naming}

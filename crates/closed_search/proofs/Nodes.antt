@@ -11,7 +11,7 @@ use Rattle.calculus_specs.specs.Line.{Line}
 use Rattle.calculus_specs.specs.Line.Line.{start_line, and_line, or_line, all_line, carry_line, row_line, range_line}
 use Rattle.calculus_specs.specs.Line.Line.{some_line, least_line, choose_line, pair_line, bottom_line, clash_line}
 use Rattle.calculus_specs.specs.Line.Line.{most_line, fact_line, differ_line}
-use Rattle.refutation_tree.specs.ReadBack.{has_nodes}
+use Rattle.search_trace.specs.ReadBack.{has_nodes}
 use Rattle.search_trace.specs.Premises.{most_rule, rule_of}
 use Rattle.search_trace.specs.Leaves.{leaves}
 use Rattle.search_trace.specs.Noted.{Noted, NotedLine, noted_by, noted_children}

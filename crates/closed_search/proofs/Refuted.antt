@@ -19,9 +19,9 @@ use Rattle.calculus_specs.specs.Rules.{nothing_known}
 use Rattle.calculus_specs.specs.Valid.{concept_at, IsRefutation}
 use Rattle.calculus_specs.proofs.Stack.{refutation_runs, run_refutes}
 use Rattle.refutation_truth.specs.Theory.{question_in}
-use Rattle.refutation_tree.specs.RefutationLists.{RefutationLists, IsKept}
-use Rattle.refutation_tree.specs.ReadBack.{has_nodes, is_small}
-use Rattle.refutation_tree.specs.Written.{shape_is_listed, line_is_listed, names_are_listed}
+use Rattle.search_trace.specs.RefutationLists.{RefutationLists, IsKept}
+use Rattle.search_trace.specs.ReadBack.{has_nodes, is_small}
+use Rattle.search_trace.specs.Written.{shape_is_listed, line_is_listed, names_are_listed}
 use Rattle.tableau_specs.specs.Lines.{concept_in}
 use Rattle.search_trace.specs.Noted.{NotedLine, start_of}
 use Rattle.search_trace.specs.Renumbered.{renumbered, Reads}

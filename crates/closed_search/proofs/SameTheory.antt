@@ -18,12 +18,12 @@ use Rattle.shq_terms.specs.declared.axioms.Query.{Query}
 use Rattle.shq_terms.specs.Listed.{Listed}
 use Rattle.calculus_specs.specs.Rows.{is_among, part_at}
 use Rattle.calculus_specs.specs.Rules.{Question}
-use Rattle.shq_nnf.specs.Meeting.{is_role_axiom}
-use Rattle.shq_nnf.specs.Parts.{part_in}
-use Rattle.role_box.specs.RoleAxioms.{role_part, role_part_at, role_axioms}
-use Rattle.role_box.specs.declared.role_axiom.RoleAxiom.{RoleAxiom}
-use Rattle.role_box.specs.Steps.{is_transitive}
-use Rattle.role_box.specs.Paths.{is_below}
+use Rattle.refutation_truth.specs.Meeting.{is_role_axiom}
+use Rattle.refutation_truth.specs.Parts.{part_in}
+use Rattle.refutation_truth.specs.RoleAxioms.{role_part, role_part_at, role_axioms}
+use Rattle.refutation_truth.specs.RoleAxiom.{RoleAxiom}
+use Rattle.refutation_truth.specs.Steps.{is_transitive}
+use Rattle.refutation_truth.specs.Paths.{is_below}
 use Rattle.refutation_truth.specs.Theory.{parts_at, listed_fact, fact_in, question_in}
 use Rattle.refutation_truth.proofs.Numbered.{numbered}
 use Rattle.calculus_specs.specs.Line.{Line}

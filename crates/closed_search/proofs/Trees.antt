@@ -13,10 +13,10 @@ use Rattle.calculus_specs.specs.Shape.Shape.{all_of as all_shape, at_least as le
 use Rattle.calculus_specs.specs.Tree.{tree_over, trees_of, tree_of}
 use Rattle.calculus_specs.proofs.Tree.{tree_of_new, tree_of-append}
 use Rattle.calculus_specs.proofs.Unique.{tree_of_shape, numbers_unique}
-use Rattle.refutation_tree.specs.Shapes.{shape_at, is_concept, part_numbers, fits, same_shape, is_among_shapes, admits}
-use Rattle.refutation_tree.specs.Shapes.{AreShapes}
-use Rattle.refutation_tree.proofs.Shapes.{same_is_equal}
-use Rattle.refutation_tree.proofs.Normal.{shapes_are_normal}
+use Rattle.search_trace.specs.Shapes.{shape_at, is_concept, part_numbers, fits, same_shape, is_among_shapes, admits}
+use Rattle.search_trace.specs.Shapes.{AreShapes}
+use Rattle.search_trace.proofs.Shapes.{same_is_equal}
+use Rattle.search_trace.proofs.Normal.{shapes_are_normal}
 use Rattle.closed_search.specs.Numbers.{is_used, are_used, number_in, renumbered_shape}
 use Rattle.closed_search.proofs.Places.{place_of}
 

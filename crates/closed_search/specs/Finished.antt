@@ -7,9 +7,9 @@ use Rattle.calculus_specs.specs.Shape.Shape.{top}
 use Rattle.calculus_specs.specs.Tree.{tree_of}
 use Rattle.calculus_specs.specs.Line.{Line}
 use Rattle.calculus_specs.specs.Valid.{concept_at}
-use Rattle.refutation_tree.specs.declared.line.Line.{Line as Kept}
-use Rattle.refutation_tree.specs.RuleLine.{line_of, concept_numbers, names_concepts}
-use Rattle.refutation_tree.specs.RefutationLists.{RefutationLists}
+use Rattle.search_trace.specs.Line.{Line as Kept}
+use Rattle.search_trace.specs.RuleLine.{line_of, concept_numbers, names_concepts}
+use Rattle.search_trace.specs.RefutationLists.{RefutationLists}
 use Rattle.tableau_specs.specs.Lines.{concept_in}
 use Rattle.search_trace.specs.Renumbered.{renumbered, Reads}
 use Rattle.closed_search.specs.Numbers.{are_used, number_in}

@@ -10,7 +10,7 @@ pub use Rattle.search_trace.specs.Leaves
 pub use Rattle.search_trace.specs.Noted
 pub use Rattle.search_trace.specs.Back
 pub use Rattle.search_trace.specs.Premises
-pub use Rattle.refutation_tree.specs.RefutationLists
-pub use Rattle.refutation_tree.specs.ReadBack
-pub use Rattle.refutation_tree.specs.RuleLine
-pub use Rattle.refutation_tree.specs.Written
+pub use Rattle.search_trace.specs.RefutationLists
+pub use Rattle.search_trace.specs.ReadBack
+pub use Rattle.search_trace.specs.RuleLine
+pub use Rattle.search_trace.specs.Written

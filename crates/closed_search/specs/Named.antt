@@ -5,7 +5,7 @@ use Rattle.std.specs.FinSet as sets
 use Rattle.lane_sieve.specs.Sets.{NumberSet}
 use Rattle.axiom_sets.specs.Sets.{Limited}
 use Rattle.shq_terms.specs.declared.axioms.Numbered.{Numbered}
-use Rattle.shq_nnf.specs.Meeting.{is_role_axiom}
+use Rattle.refutation_truth.specs.Meeting.{is_role_axiom}
 use Rattle.calculus_specs.specs.Line.{Line}
 use Rattle.calculus_specs.specs.Line.Line.{start_line, and_line, or_line, all_line, carry_line, row_line, range_line}
 use Rattle.calculus_specs.specs.Line.Line.{some_line, least_line, choose_line, pair_line, bottom_line, clash_line}

@@ -4,7 +4,7 @@ use Rattle.std.specs.List.{list_all}
 use Rattle.calculus_specs.specs.Shape.{Shape, shape_of}
 use Rattle.calculus_specs.specs.Shape.Shape.{top}
 use Rattle.calculus_specs.specs.Tree.{tree_of}
-use Rattle.refutation_tree.specs.Shapes.{part_numbers, AreShapes}
+use Rattle.search_trace.specs.Shapes.{part_numbers, AreShapes}
 use Rattle.closed_search.specs.Numbers.{is_used, are_used, number_in, renumbered_shape}
 use Rattle.closed_search.specs.declared.numbering.Naming.{Naming}
 

@@ -10,10 +10,10 @@ use Rattle.calculus_specs.specs.Tree.{tree_of}
 use Rattle.calculus_specs.specs.Line.{Line}
 use Rattle.calculus_specs.specs.Valid.{IsRefutation}
 use Rattle.refutation_truth.specs.Theory.{node_in_question, question_in}
-use Rattle.refutation_tree.specs.RefutationLists.{RefutationLists}
-use Rattle.refutation_tree.specs.RuleLine.{concept_numbers}
-use Rattle.refutation_tree.specs.Written.{line_is_listed}
-use Rattle.refutation_tree.specs.ReadBack.{IsWritable}
+use Rattle.search_trace.specs.RefutationLists.{RefutationLists}
+use Rattle.search_trace.specs.RuleLine.{concept_numbers}
+use Rattle.search_trace.specs.Written.{line_is_listed}
+use Rattle.search_trace.specs.ReadBack.{IsWritable}
 use Rattle.search_trace.specs.Leaves.{leaves}
 use Rattle.search_trace.specs.Noted.{NotedLine, start_of}
 use Rattle.search_trace.specs.Back.{step_of}

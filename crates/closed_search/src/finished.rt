@@ -7,7 +7,7 @@
 // Refutations from lines over a table.
 ghost use Rattle.std.specs.Prelude.{◌≡◌, ◌++◌, [], true, IsTrue, IfOk, OnOk, length, map};
 ghost use Rattle.std.specs.List.{list_all};
-ghost use Rattle.refutation_tree.specs.RuleLine.{line_of, names_concepts};
+ghost use Rattle.search_trace.specs.RuleLine.{line_of, names_concepts};
 ghost use Rattle.search_trace.specs.Renumbered.{renumbered};
 ghost use Rattle.closed_search.specs.Naming.{IsNaming};
 ghost use Rattle.closed_search.specs.Finished.{is_over, are_over, IsNumbered, IsLine, AreLines};
@@ -15,8 +15,8 @@ ghost use Rattle.closed_search.specs.Finished.{is_over, are_over, IsNumbered, Is
 use crate::NoMemory;
 use crate::numbering::Naming;
 use axiom_sets::AxiomSet;
-use refutation_tree::{Line, Refutation};
-use shq_nnf::Concepts;
+use refutation_truth::Concepts;
+use search_trace::{Line, Refutation};
 use std::alloc::Global;
 
 /// The refutation with these axioms and these lines, in which each number of the table is replaced by the number of

@@ -14,7 +14,6 @@ mod refuting;
 mod small;
 
 pub use finished::numbered_refutation;
-pub use refutation_tree::{Line, Refutation};
 pub use refuting::refutation_of;
-pub use search_trace::Trace;
+pub use search_trace::{Line, Refutation, Trace};
 pub use shq_terms::NoMemory;

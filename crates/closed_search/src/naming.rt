@@ -2,14 +2,14 @@
 ghost use Rattle.std.specs.Prelude.{◌≡◌, ◌≤◌, ◌==◌, true, IfOk, length, map};
 ghost use Rattle.std.specs.FinSet as sets;
 ghost use Rattle.axiom_sets.specs.Sets.{member_list};
-ghost use Rattle.shq_nnf.specs.Meeting.{is_role_axiom as says_of_roles_alone};
-ghost use Rattle.refutation_tree.specs.RuleLine.{line_of};
+ghost use Rattle.refutation_truth.specs.Meeting.{is_role_axiom as says_of_roles_alone};
+ghost use Rattle.search_trace.specs.RuleLine.{line_of};
 ghost use Rattle.closed_search.specs.Named.{axiom_of, uses_axiom, is_role_number, takes_role, IsPut, ArePut};
 ghost use Rattle.closed_search.specs.Named.{NamesAxioms};
 
 use crate::NoMemory;
 use axiom_sets::AxiomSet;
-use refutation_tree::Line;
+use search_trace::Line;
 use shq_terms::{Axiom, Numbered, Ontology};
 use std::alloc::Global;
 

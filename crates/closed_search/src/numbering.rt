@@ -2,17 +2,17 @@
 ghost use Rattle.std.specs.Prelude.{◌≡◌, ◌+◌, ◌<◌, ◌≤◌, [], false, nat_lt, IsTrue, IfOk, IfSome, IsNone, length};
 ghost use Rattle.std.specs.List.{list_all};
 ghost use Rattle.calculus_specs.specs.Shape.{shape_of};
-ghost use Rattle.shq_nnf.specs.Shapes.{form_of, form_of_owned};
-ghost use Rattle.refutation_tree.specs.RefutationText.{begun};
-ghost use Rattle.refutation_tree.specs.Shapes.{part_numbers, admits};
+ghost use Rattle.refutation_truth.specs.Shapes.{form_of, form_of_owned};
+ghost use Rattle.search_trace.specs.RefutationText.{begun};
+ghost use Rattle.search_trace.specs.Shapes.{part_numbers, admits};
 ghost use Rattle.closed_search.specs.Numbers.{is_used};
 ghost use Rattle.closed_search.specs.Naming.{IsNaming, IsNumberOf, IsPut, IsNamed, IsRenamed, AreRenamed};
 
 use crate::NoMemory;
 use axiom_sets::AxiomSet;
 use indexmap::IndexSet;
-use refutation_tree::Refutation;
-use shq_nnf::{Concepts, OwnedShape, Shape};
+use refutation_truth::{Concepts, OwnedShape, Shape};
+use search_trace::Refutation;
 use std::alloc::Global;
 
 /// The concepts of a table that are named so far, in the order of their numbers, and the refutation that has their

@@ -3,7 +3,7 @@ ghost use Rattle.std.specs.Prelude.{◌≡◌, true, IsTrue, IfOk, length};
 ghost use Rattle.std.specs.List.{list_all};
 ghost use Rattle.shq_terms.specs.declared.axioms.Query.{Query};
 ghost use Rattle.lane_sieve.specs.Sets.{IsPart};
-ghost use Rattle.refutation_tree.specs.Written.{names_are_listed};
+ghost use Rattle.search_trace.specs.Written.{names_are_listed};
 ghost use Rattle.closed_search.specs.Finished.{are_over};
 ghost use Rattle.search_trace.specs.Trace.{lines_in};
 ghost use Rattle.closed_search.specs.Named.{NamesAxioms};
@@ -13,7 +13,7 @@ use crate::naming::axioms_named;
 use crate::small::show_small;
 use crate::{NoMemory, Refutation, Trace, numbered_refutation};
 use axiom_sets::AxiomSet;
-use shq_nnf::Concepts;
+use refutation_truth::Concepts;
 use shq_terms::Ontology;
 use std::alloc::Global;
 

@@ -1,10 +1,10 @@
 // The numbers of lines fit 32 bits.
 ghost use Rattle.std.specs.Prelude.{◌≡◌, ◌^◌, nat_lt, true, [], ◌∷◌, map};
 ghost use Rattle.std.specs.List.{list_all};
-ghost use Rattle.refutation_tree.specs.RuleLine.{line_of};
-ghost use Rattle.refutation_tree.specs.ReadBack.{is_small};
+ghost use Rattle.search_trace.specs.RuleLine.{line_of};
+ghost use Rattle.search_trace.specs.ReadBack.{is_small};
 
-use refutation_tree::Line;
+use search_trace::Line;
 
 /// Shows that the numbers of the lines fit 32 bits.
 pub(crate) fn show_small(lines: &[Line])

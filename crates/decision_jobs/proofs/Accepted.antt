@@ -18,8 +18,8 @@ use Rattle.refutation_tree.specs.Written.{refutation_text}
 use Rattle.refutation_tree.proofs.TextBack.{refutation_read_back}
 use Rattle.refutation_truth.specs.Theory.{all_axioms}
 use Rattle.job_inputs.specs.LimitLaws.{AreWritable}
-use Rattle.run_log.specs.HonestLog.{IsWhole}
-use Rattle.run_log.proofs.Named.{whole}
+use Rattle.shq_oracle.specs.HonestLog.{IsWhole}
+use Rattle.shq_oracle.proofs.Named.{whole}
 use Rattle.shq_oracle.specs.declared.answer.Answer.{Answer as Decision}
 use Rattle.shq_oracle.specs.declared.answer.Answer.TheVariants as Answered
 use Rattle.shq_oracle.specs.Decided.{IsRefuting}

@@ -6,7 +6,7 @@ use Rattle.shq_terms.specs.declared.axioms.Query.{Query as Asked}
 use Rattle.finite_model.specs.ReadBack.{IsKept}
 use Rattle.finite_model.specs.Written.{uses_listed_names}
 use Rattle.refutation_tree.specs.Written.{names_are_listed}
-use Rattle.run_log.specs.HonestLog.{IsWhole}
+use Rattle.shq_oracle.specs.HonestLog.{IsWhole}
 use Rattle.shq_oracle.specs.Decided.{IsAnswer}
 use Rattle.shq_oracle.specs.declared.answer.Answer.{Answer as Decision}
 use Rattle.shq_oracle.specs.declared.answer.Answer.TheVariants as Answered

@@ -6,7 +6,7 @@ use Rattle.shq_terms.specs.declared.axioms.Axiom.{Axiom}
 use Rattle.shq_meaning.specs.Truth.{Entails}
 use Rattle.finite_model.specs.ModelLists.{ModelLists}
 use Rattle.refutation_tree.specs.RefutationLists.{RefutationLists}
-use Rattle.run_log.specs.declared.entry.Entry.{Entry}
+use Rattle.shq_oracle.specs.Entry.{Entry}
 use Rattle.shq_oracle.specs.declared.answer.Answer.TheVariants as Answered
 use Rattle.job_inputs.specs.declared.status.Status.TheVariants.{Done}
 use Rattle.job_inputs.specs.Questions.{Text, IsQuestion}

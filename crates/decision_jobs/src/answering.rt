@@ -3,7 +3,7 @@ ghost use Rattle.std.specs.Prelude.{◌≡◌, ℕ, ◌≤◌, false, List, [], 
 ghost use Rattle.ontology_limits.specs.Limits.{IsInLimit};
 ghost use Rattle.job_inputs.specs.Answer.{text_bytes, is_fault};
 ghost use Rattle.job_inputs.specs.Questions.{question_text, IsDocumentAlone};
-ghost use Rattle.run_log.specs.HonestLog.{IsDecisionLog};
+ghost use Rattle.shq_oracle.specs.HonestLog.{IsDecisionLog};
 ghost use Rattle.decision_jobs.specs.Decisions.{AnswersQuestion};
 ghost use Rattle.job_inputs.specs.Refusals.{IsUnanswered};
 ghost use Rattle.decision_jobs.specs.Answering.{IsAnswered, IsDecidedBy, IsBegun, IsUnansweredOn};

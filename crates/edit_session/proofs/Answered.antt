@@ -6,7 +6,7 @@ use Rattle.shq_terms.specs.Listed.{Listed}
 use Rattle.ofn_expressions.specs.declared.refusal.Refusal.{Refusal}
 use Rattle.ofn_reader.specs.DocumentContext.{DocumentContext}
 use Rattle.ofn_reader.specs.Documents.{IsDocument, IsNoDocument}
-use Rattle.run_log.specs.declared.entry.Entry.{Entry}
+use Rattle.shq_oracle.specs.Entry.{Entry}
 use Rattle.job_inputs.specs.Answer.{Answer, no_memory, complaint_answer, IsAnswer, Gives, is_fault}
 use Rattle.job_inputs.specs.Asked.{IsUndocumented}
 use Rattle.job_inputs.specs.Complaints.{Complaint, complaint, sort_status}

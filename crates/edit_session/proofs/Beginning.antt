@@ -7,7 +7,7 @@ use Rattle.pinpointing_specs.specs.Smallest.{numbers_to}
 use Rattle.set_questions.proofs.Rest.{full_is}
 use Rattle.shq_terms.specs.Listed.{Listed}
 use Rattle.ofn_reader.specs.DocumentContext.{DocumentContext}
-use Rattle.run_log.specs.declared.entry.Entry.{Entry}
+use Rattle.shq_oracle.specs.Entry.{Entry}
 use Rattle.edit_session.specs.Noted.{Noted, nothing_noted}
 use Rattle.edit_session.specs.Sessions.{SessionLists, state_of, begun}
 use Rattle.edit_session.specs.SessionLog.{IsHonestThen}

@@ -16,11 +16,11 @@ use Rattle.lane_sieve.specs.Sets.{NumberSet, IsPart}
 use Rattle.lane_sieve.proofs.Bits.{contains_insert, contains_remove}
 use Rattle.axiom_sets.specs.Sets.{Limited, IsWithin}
 use Rattle.shq_terms.specs.declared.axioms.Query.{Query}
-use Rattle.run_log.specs.declared.entry.Entry.{Entry}
-use Rattle.run_log.specs.declared.entry.Entry.TheVariants.{Test, Node}
-use Rattle.run_log.specs.declared.entry.TestEnd.{TestEnd}
-use Rattle.run_log.specs.declared.entry.TestEnd.TheVariants.{Yes, No, Spent}
-use Rattle.run_log.specs.Entries.{EndAnswers, AnswersQuery, IsAnswered}
+use Rattle.shq_oracle.specs.Entry.{Entry}
+use Rattle.shq_oracle.specs.Entry.TheVariants.{Test, Node}
+use Rattle.shq_oracle.specs.TestEnd.{TestEnd}
+use Rattle.shq_oracle.specs.TestEnd.TheVariants.{Yes, No, Spent}
+use Rattle.shq_oracle.specs.Entries.{EndAnswers, AnswersQuery, IsAnswered}
 use Rattle.edit_session.specs.Prints.{query_print}
 use Rattle.edit_session.specs.Held.{EndIsOf, IsOfHeld}
 use Rattle.edit_session.specs.Places.{places_at, IsOver, AreFiled, IsFiledAt, SamePlaces, KeepsPlaces, IsYesEnd}

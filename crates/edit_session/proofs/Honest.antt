@@ -12,11 +12,11 @@ use Rattle.shq_terms.specs.Listed.{Listed}
 use Rattle.shq_terms.specs.declared.axioms.Numbered.{Numbered}
 use Rattle.shq_terms.specs.declared.axioms.Query.{Query}
 use Rattle.ontology_limits.specs.Limits.{IsInLimit}
-use Rattle.run_log.specs.declared.entry.Entry.{Entry}
-use Rattle.run_log.specs.declared.entry.Entry.TheVariants.{Test}
-use Rattle.run_log.specs.declared.entry.TestEnd.{TestEnd}
-use Rattle.run_log.specs.Entries.{spent_of, is_spent, ended_spent, IsAnswered}
-use Rattle.run_log.specs.HonestLog.{IsHonestEntry, EndsWhenSpent, AsksNoAnswer}
+use Rattle.shq_oracle.specs.Entry.{Entry}
+use Rattle.shq_oracle.specs.Entry.TheVariants.{Test}
+use Rattle.shq_oracle.specs.TestEnd.{TestEnd}
+use Rattle.shq_oracle.specs.Entries.{spent_of, is_spent, ended_spent, IsAnswered}
+use Rattle.shq_oracle.specs.HonestLog.{IsHonestEntry, EndsWhenSpent, AsksNoAnswer}
 use Rattle.edit_session.specs.SessionLog.{IsHonestThen, IsSessionLog, Tests}
 use Rattle.edit_session.proofs.Standing.{stay_honest}
 

@@ -10,8 +10,8 @@ use Rattle.ontology_limits.specs.Limits.{IsOntologyInLimit, IsInLimit}
 use Rattle.ofn_reader.specs.DocumentContext.{DocumentContext}
 use Rattle.ofn_reader.specs.Queries.{IsQueryOn}
 use Rattle.ofn_reader.specs.Additions.{IsAdditionTo}
-use Rattle.text_laws.proofs.InLimit.{queries_stay}
-use Rattle.text_laws.proofs.Additions.{additions_stay, queries_cut_again}
+use Rattle.job_inputs.proofs.InLimit.{queries_stay}
+use Rattle.job_inputs.proofs.Additions.{additions_stay, queries_cut_again}
 use Rattle.edit_session.specs.Asked.{IsCutTo}
 
 module _ (kept : DocumentContext) (o : Listed) (text : List ℕ) where

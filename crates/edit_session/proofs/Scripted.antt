@@ -11,8 +11,8 @@ use Rattle.certificate_lines.specs.Lines.{bytes_of, is_blank}
 use Rattle.shq_terms.specs.NoMemory.{NoMemory}
 use Rattle.shq_terms.specs.Listed.{Listed}
 use Rattle.shq_terms.specs.declared.axioms.Numbered.{Numbered}
-use Rattle.run_log.specs.declared.entry.Entry.{Entry}
-use Rattle.run_log.specs.Entries.{spent_of, is_spent}
+use Rattle.shq_oracle.specs.Entry.{Entry}
+use Rattle.shq_oracle.specs.Entries.{spent_of, is_spent}
 use Rattle.edit_session.specs.Sessions.{State, SessionLists}
 use Rattle.edit_session.specs.ScriptLines.{script_lines}
 use Rattle.edit_session.specs.Said.{Said}

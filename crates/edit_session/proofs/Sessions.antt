@@ -6,8 +6,8 @@ use Rattle.shq_terms.specs.NoMemory.{NoMemory}
 use Rattle.shq_terms.specs.Listed.{Listed}
 use Rattle.ofn_expressions.specs.declared.refusal.Refusal.{Refusal}
 use Rattle.ofn_reader.specs.DocumentContext.{DocumentContext}
-use Rattle.run_log.specs.declared.entry.Entry.{Entry}
-use Rattle.run_log.specs.Entries.{spent_of}
+use Rattle.shq_oracle.specs.Entry.{Entry}
+use Rattle.shq_oracle.specs.Entries.{spent_of}
 use Rattle.job_inputs.specs.Answer.{text_bytes}
 use Rattle.job_inputs.specs.declared.text.Text.{Text}
 use Rattle.shq_oracle.specs.declared.answer.Outcome.{Outcome}

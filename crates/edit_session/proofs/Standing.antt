@@ -13,10 +13,10 @@ use Rattle.shq_terms.specs.declared.axioms.Numbered.{Numbered}
 use Rattle.shq_terms.specs.declared.axioms.Query.{Query}
 use Rattle.shq_meaning.specs.Truth.{Entails}
 use Rattle.pinpointing_specs.specs.LocalModule.{axioms_from, axioms_in_set, FollowsFrom}
-use Rattle.run_log.specs.declared.entry.Entry.{Entry}
-use Rattle.run_log.specs.declared.entry.Entry.TheVariants.{Test, Node}
-use Rattle.run_log.specs.declared.entry.TestEnd.{TestEnd}
-use Rattle.run_log.specs.declared.entry.TestEnd.TheVariants.{Yes, No, Spent}
+use Rattle.shq_oracle.specs.Entry.{Entry}
+use Rattle.shq_oracle.specs.Entry.TheVariants.{Test, Node}
+use Rattle.shq_oracle.specs.TestEnd.{TestEnd}
+use Rattle.shq_oracle.specs.TestEnd.TheVariants.{Yes, No, Spent}
 use Rattle.edit_session.specs.SessionLog.{WasHonest, IsHonestThen}
 use Rattle.edit_session.specs.Held.{EndIsOf, IsOfHeld, EndHolds, Holds}
 use Rattle.edit_session.specs.Laws.{EntriesStayHonest}

@@ -18,13 +18,13 @@ use Rattle.ofn_reader.specs.DocumentContext.{DocumentContext}
 use Rattle.ofn_reader.specs.Queries.{IsQueryOn, IsNoQueryOn, query_start}
 use Rattle.ofn_reader.proofs.Unique.{queries, queries_not_refused}
 use Rattle.ofn_reader.specs.Additions.{IsAdditionTo, IsNoAdditionTo}
-use Rattle.run_log.specs.declared.entry.Entry.{Entry}
-use Rattle.run_log.specs.declared.entry.Entry.TheVariants.{Test}
-use Rattle.run_log.specs.declared.entry.TestEnd.{TestEnd}
-use Rattle.run_log.specs.declared.entry.TestEnd.TheVariants as E
-use Rattle.run_log.specs.Entries.{spent_of, is_spent, IsAnswered}
-use Rattle.run_log.specs.HonestLog.{IsAxiomSet, IsHonestEnd, IsHonestEntry}
-use Rattle.run_log.proofs.Named.{follows_from}
+use Rattle.shq_oracle.specs.Entry.{Entry}
+use Rattle.shq_oracle.specs.Entry.TheVariants.{Test}
+use Rattle.shq_oracle.specs.TestEnd.{TestEnd}
+use Rattle.shq_oracle.specs.TestEnd.TheVariants as E
+use Rattle.shq_oracle.specs.Entries.{spent_of, is_spent, IsAnswered}
+use Rattle.shq_oracle.specs.HonestLog.{IsAxiomSet, IsHonestEnd, IsHonestEntry}
+use Rattle.shq_oracle.proofs.Named.{follows_from}
 use Rattle.job_inputs.specs.Complaints.{Complaint, complaint}
 use Rattle.shq_oracle.specs.declared.answer.Outcome.{Outcome}
 use Rattle.shq_oracle.specs.declared.answer.Outcome.TheVariants.{Yes, No, Undecided}

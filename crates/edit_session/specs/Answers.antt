@@ -5,7 +5,7 @@ use Rattle.shq_terms.specs.Listed.{Listed}
 use Rattle.ofn_expressions.specs.declared.refusal.Refusal.{Refusal}
 use Rattle.ofn_reader.specs.DocumentContext.{DocumentContext}
 use Rattle.ofn_reader.specs.Documents.{IsDocument, IsNoDocument}
-use Rattle.run_log.specs.declared.entry.Entry.{Entry}
+use Rattle.shq_oracle.specs.Entry.{Entry}
 use Rattle.job_inputs.specs.Answer.{complaint_answer, IsAnswer}
 use Rattle.job_inputs.specs.Complaints.{complaint}
 use Rattle.job_inputs.specs.Refusals.{IsOutOfMemory}

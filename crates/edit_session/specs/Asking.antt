@@ -4,11 +4,11 @@ use Rattle.lane_sieve.specs.Sets.{IsPart}
 use Rattle.axiom_sets.specs.Sets.{Limited}
 use Rattle.shq_terms.specs.Listed.{Listed}
 use Rattle.shq_terms.specs.declared.axioms.Query.{Query}
-use Rattle.run_log.specs.declared.entry.Entry.{Entry}
-use Rattle.run_log.specs.declared.entry.Entry.TheVariants.{Test}
-use Rattle.run_log.specs.declared.entry.TestEnd.{TestEnd}
-use Rattle.run_log.specs.declared.entry.TestEnd.TheVariants as E
-use Rattle.run_log.specs.Entries.{spent_of, IsAnswered}
+use Rattle.shq_oracle.specs.Entry.{Entry}
+use Rattle.shq_oracle.specs.Entry.TheVariants.{Test}
+use Rattle.shq_oracle.specs.TestEnd.{TestEnd}
+use Rattle.shq_oracle.specs.TestEnd.TheVariants as E
+use Rattle.shq_oracle.specs.Entries.{spent_of, IsAnswered}
 use Rattle.shq_oracle.specs.declared.answer.Outcome.{Outcome}
 use Rattle.shq_oracle.specs.declared.answer.Outcome.TheVariants.{Yes, No, Undecided}
 use Rattle.edit_session.specs.SessionLog.{Tests}

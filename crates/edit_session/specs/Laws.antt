@@ -7,7 +7,7 @@ use Rattle.shq_terms.specs.declared.axioms.Query.{Query}
 use Rattle.shq_meaning.specs.Truth.{Entails}
 use Rattle.ofn_reader.specs.DocumentContext.{DocumentContext}
 use Rattle.ofn_reader.specs.Queries.{IsQueryOn}
-use Rattle.run_log.specs.declared.entry.Entry.{Entry}
+use Rattle.shq_oracle.specs.Entry.{Entry}
 use Rattle.edit_session.specs.Noted.{nothing_noted}
 use Rattle.edit_session.specs.Sessions.{State, begun}
 use Rattle.edit_session.specs.ScriptLines.{request, asks}

@@ -9,12 +9,12 @@ use Rattle.axiom_sets.specs.Sets.{Limited}
 use Rattle.shq_terms.specs.Listed.{Listed}
 use Rattle.shq_terms.specs.declared.axioms.Query.{Query}
 use Rattle.ofn_reader.specs.Queries.{IsQueryOn}
-use Rattle.run_log.specs.declared.entry.Entry.{Entry}
-use Rattle.run_log.specs.declared.entry.Entry.TheVariants.{Test, Node}
-use Rattle.run_log.specs.declared.entry.TestEnd.{TestEnd}
-use Rattle.run_log.specs.declared.entry.TestEnd.TheVariants.{Yes, No}
-use Rattle.run_log.specs.Entries.{IsAnswered, AnswersQuery}
-use Rattle.run_log.specs.HonestLog.{AsksNoAnswer}
+use Rattle.shq_oracle.specs.Entry.{Entry}
+use Rattle.shq_oracle.specs.Entry.TheVariants.{Test, Node}
+use Rattle.shq_oracle.specs.TestEnd.{TestEnd}
+use Rattle.shq_oracle.specs.TestEnd.TheVariants.{Yes, No}
+use Rattle.shq_oracle.specs.Entries.{IsAnswered, AnswersQuery}
+use Rattle.shq_oracle.specs.HonestLog.{AsksNoAnswer}
 use Rattle.edit_session.specs.Sessions.{State}
 use Rattle.edit_session.specs.ScriptLines.{Request, request, removes, asks}
 use Rattle.edit_session.specs.Said.{bad_line, numbered_line, SaidTo, Said}

@@ -4,8 +4,8 @@ use Rattle.shq_terms.specs.Listed.{Listed}
 use Rattle.shq_terms.specs.declared.axioms.Query.{Query}
 use Rattle.ontology_limits.specs.Limits.{IsInLimit}
 use Rattle.ofn_reader.specs.Queries.{IsQueryOn}
-use Rattle.run_log.specs.declared.entry.Entry.{Entry}
-use Rattle.run_log.specs.Entries.{spent_of, IsAnswered}
+use Rattle.shq_oracle.specs.Entry.{Entry}
+use Rattle.shq_oracle.specs.Entries.{spent_of, IsAnswered}
 use Rattle.edit_session.specs.Sessions.{State, live_set}
 use Rattle.edit_session.specs.ScriptLines.{request, asks}
 use Rattle.edit_session.specs.SessionLog.{Tests}

@@ -4,11 +4,11 @@ use Rattle.std.specs.Prelude.{Contains}
 use Rattle.lane_sieve.specs.Sets.{NumberSet, IsPart}
 use Rattle.axiom_sets.specs.Sets.{Limited}
 use Rattle.shq_terms.specs.declared.axioms.Query.{Query}
-use Rattle.run_log.specs.declared.entry.Entry.{Entry}
-use Rattle.run_log.specs.declared.entry.Entry.TheVariants.{Test, Node}
-use Rattle.run_log.specs.declared.entry.TestEnd.{TestEnd}
-use Rattle.run_log.specs.declared.entry.TestEnd.TheVariants.{Yes, No, Spent}
-use Rattle.run_log.specs.Entries.{EndAnswers, AnswersQuery}
+use Rattle.shq_oracle.specs.Entry.{Entry}
+use Rattle.shq_oracle.specs.Entry.TheVariants.{Test, Node}
+use Rattle.shq_oracle.specs.TestEnd.{TestEnd}
+use Rattle.shq_oracle.specs.TestEnd.TheVariants.{Yes, No, Spent}
+use Rattle.shq_oracle.specs.Entries.{EndAnswers, AnswersQuery}
 use Rattle.edit_session.specs.Noted.{Noted}
 use Rattle.edit_session.specs.Prints.{query_print}
 use Rattle.edit_session.specs.declared.noted_places.NotedPlaces.{NotedPlaces}

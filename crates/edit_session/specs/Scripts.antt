@@ -1,7 +1,7 @@
 -- A whole script.
 use Rattle.std.specs.Prelude.{◌≡◌, ℕ, Bool, true, false, List, [], ◌∷◌, ◌++◌, codes}
 use Rattle.certificate_lines.specs.Lines.{is_blank}
-use Rattle.run_log.specs.declared.entry.Entry.{Entry}
+use Rattle.shq_oracle.specs.Entry.{Entry}
 use Rattle.job_inputs.specs.Answer.{line}
 use Rattle.edit_session.specs.Sessions.{State, SessionLists}
 use Rattle.edit_session.specs.ScriptLines.{script_lines}

@@ -11,11 +11,11 @@ use Rattle.axiom_sets.specs.Sets.{Limited}
 use Rattle.shq_terms.specs.Listed.{Listed}
 use Rattle.shq_terms.specs.declared.axioms.Query.{Query}
 use Rattle.ontology_limits.specs.Limits.{IsInLimit}
-use Rattle.run_log.specs.declared.entry.Entry.{Entry}
-use Rattle.run_log.specs.declared.entry.Entry.TheVariants.{Test, Node}
-use Rattle.run_log.specs.declared.entry.TestEnd.{TestEnd}
-use Rattle.run_log.specs.Entries.{ended_spent, IsAnswered}
-use Rattle.run_log.specs.HonestLog.{IsHonestEntry, IsWithinBudget, EndsWhenSpent, AsksNoAnswer}
+use Rattle.shq_oracle.specs.Entry.{Entry}
+use Rattle.shq_oracle.specs.Entry.TheVariants.{Test, Node}
+use Rattle.shq_oracle.specs.TestEnd.{TestEnd}
+use Rattle.shq_oracle.specs.Entries.{ended_spent, IsAnswered}
+use Rattle.shq_oracle.specs.HonestLog.{IsHonestEntry, IsWithinBudget, EndsWhenSpent, AsksNoAnswer}
 
 -- ---- honest entries
 

@@ -13,7 +13,7 @@ use crate::{NoMemory, Said, Session, run_script};
 use certificate_lines::lines;
 use job_inputs::{Status, Text, Unread, document, unread_reply};
 use ofn_reader::Context;
-use run_log::RunLog;
+use shq_oracle::RunLog;
 use shq_terms::Ontology;
 use std::alloc::Global;
 

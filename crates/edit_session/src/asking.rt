@@ -2,7 +2,7 @@
 ghost use Rattle.std.specs.Prelude.{◌≡◌, ◌≤◌, false, IfOk, IfErr, OnErr, length};
 ghost use Rattle.std.specs.List.{list_any};
 ghost use Rattle.ontology_limits.specs.Limits.{IsOntologyInLimit, IsInLimit};
-ghost use Rattle.run_log.specs.Entries.{spent_of, is_spent, IsAnswered};
+ghost use Rattle.shq_oracle.specs.Entries.{spent_of, is_spent, IsAnswered};
 ghost use Rattle.edit_session.specs.Places.{IsNotedOf, plain_noted};
 ghost use Rattle.edit_session.specs.Asking.{IsDecided, GrowsLog};
 ghost use Rattle.edit_session.specs.Asked.{IsAsked, IsUnasked, IsCutTo};
@@ -10,8 +10,7 @@ ghost use Rattle.edit_session.specs.Asked.{IsAsked, IsUnasked, IsCutTo};
 use crate::noted_places::NotedPlaces;
 use axiom_sets::AxiomSet;
 use ofn_reader::{Context, Refusal, read_query};
-use run_log::RunLog;
-use shq_oracle::{Oracle, Outcome};
+use shq_oracle::{Oracle, Outcome, RunLog};
 use shq_terms::{NoMemory, Ontology, Query};
 use std::alloc::Global;
 use std::mem;

@@ -1,7 +1,7 @@
 // Which tests of a log may answer a query again.
 ghost use Rattle.std.specs.Prelude.{◌≡◌, ◌+◌, ◌<◌, ◌≤◌, ◌↔◌, [], ◌∷◌, ◌++◌, if◌then◌else◌, IfOk, IsTrue, OnOk, OnErr};
 ghost use Rattle.std.specs.Prelude.{length, option_map, Contains};
-ghost use Rattle.run_log.specs.Entries.{EndAnswers};
+ghost use Rattle.shq_oracle.specs.Entries.{EndAnswers};
 ghost use Rattle.edit_session.specs.Prints.{query_print};
 ghost use Rattle.edit_session.specs.Places.{places_at, AreFiled, StaysFiled, IsFiledAt, SamePlaces, KeepsPlaces};
 ghost use Rattle.edit_session.specs.Places.{IsYesEnd, IsYesTo, IsYesAt, KeepsOthers, KeepsAllOthers, IsAnswerOf};
@@ -11,8 +11,7 @@ ghost use Rattle.edit_session.specs.Asking.{IsRecalled, outcome_of};
 use crate::inclusion::is_part;
 use crate::prints::query_print;
 use axiom_sets::AxiomSet;
-use run_log::{Entry, TestEnd};
-use shq_oracle::Outcome;
+use shq_oracle::{Entry, Outcome, TestEnd};
 use shq_terms::{NoMemory, NumberList, Query};
 use std::alloc::Global;
 

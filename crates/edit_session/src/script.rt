@@ -7,7 +7,7 @@ ghost use Rattle.edit_session.specs.Scripts.{IsScriptWritten, IsToldAtFirst, IsS
 
 use crate::{NoMemory, Said, Session};
 use certificate_lines::is_blank;
-use run_log::RunLog;
+use shq_oracle::RunLog;
 
 /// Does what the lines of a script ask for, one after another, and puts their answers last. Lines of whitespace alone
 /// are passed over. Where a query could not be decided, the lines after it are not looked at, and the last line that is

@@ -1,7 +1,7 @@
 // An edit session.
 ghost use Rattle.std.specs.Prelude.{◌≡◌, ◌≤◌, Ok, IfOk, OnErr, option_map};
 ghost use Rattle.ontology_limits.specs.Limits.{IsOntologyInLimit};
-ghost use Rattle.run_log.specs.Entries.{spent_of};
+ghost use Rattle.shq_oracle.specs.Entries.{spent_of};
 ghost use Rattle.job_inputs.specs.Answer.{text_bytes};
 ghost use Rattle.edit_session.specs.Noted.{nothing_noted};
 ghost use Rattle.edit_session.specs.Sessions.{begun};
@@ -19,8 +19,7 @@ use crate::{NoMemory, Said};
 use axiom_sets::AxiomSet;
 use job_inputs::Text;
 use ofn_reader::{Context, Refusal};
-use run_log::RunLog;
-use shq_oracle::Outcome;
+use shq_oracle::{Outcome, RunLog};
 use shq_terms::Ontology;
 use std::alloc::Global;
 use std::marker::Model;

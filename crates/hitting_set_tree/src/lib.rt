@@ -10,5 +10,6 @@ mod tree;
 
 pub use frames::{Frame, Look, Node};
 pub use law::explored_lists_are_all;
+pub use set_questions::{Entail, put_in_order};
 pub use steps::{frame_of, next_child};
 pub use tree::{Found, enumerate};

@@ -9,7 +9,7 @@ use Rattle.lane_sieve.proofs.Ranges.{passing-at}
 use Rattle.shq_terms.specs.NoMemory.{NoMemory as OutOfMemory}
 use Rattle.shq_terms.specs.Concept.{Concept}
 use Rattle.shq_terms.specs.Listed.{Listed}
-use Rattle.run_log.specs.declared.entry.Entry.{Entry}
+use Rattle.realizer.specs.Entry.{Entry}
 use Rattle.job_inputs.specs.declared.status.Status.{Status}
 use Rattle.individual_jobs.specs.declared.searching.Explained.{Explained}
 use Rattle.individual_jobs.specs.ReasonLists.{ReasonLists}

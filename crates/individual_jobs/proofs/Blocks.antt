@@ -14,10 +14,10 @@ use Rattle.shq_terms.specs.Concept.{Concept}
 use Rattle.shq_terms.specs.Listed.{Listed}
 use Rattle.shq_terms.specs.declared.axioms.On.TheVariants.{Individual}
 use Rattle.shq_terms.specs.declared.axioms.Query.{Query}
-use Rattle.run_log.specs.declared.entry.Entry.{Entry}
-use Rattle.run_log.specs.declared.entry.Entry.TheVariants.{Test, Node}
-use Rattle.run_log.specs.Entries.{cost_of, spent_of, is_spent}
-use Rattle.run_log.specs.HonestLog.{IsHonestEntry, IsHonestWithin, IsTestOf, IsPinpointingLog}
+use Rattle.realizer.specs.Entry.{Entry}
+use Rattle.realizer.specs.Entry.TheVariants.{Test, Node}
+use Rattle.realizer.specs.Entries.{cost_of, spent_of, is_spent}
+use Rattle.realizer.specs.HonestLog.{IsHonestEntry, IsHonestWithin, IsTestOf, IsPinpointingLog}
 use Rattle.pinpointing_jobs.specs.Told.{IsTestOfOther, AreTestsOfOthers}
 use Rattle.pinpointing_jobs.proofs.Logged.{at_end}
 use Rattle.pinpointing_jobs.specs.Wanted.{ShowsAll}

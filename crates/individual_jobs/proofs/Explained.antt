@@ -18,9 +18,9 @@ use Rattle.shq_terms.specs.Listed.{Listed}
 use Rattle.shq_terms.specs.declared.axioms.Query.{Query}
 use Rattle.pinpointing_specs.specs.LocalModule.{IsLocalModule}
 use Rattle.ontology_limits.specs.Limits.{IsInLimit}
-use Rattle.run_log.specs.declared.entry.Entry.{Entry}
-use Rattle.run_log.specs.Entries.{cost_of, spent_of, is_spent}
-use Rattle.run_log.specs.HonestLog.{IsHonestEntry, IsPinpointingLog}
+use Rattle.realizer.specs.Entry.{Entry}
+use Rattle.realizer.specs.Entries.{cost_of, spent_of, is_spent}
+use Rattle.realizer.specs.HonestLog.{IsHonestEntry, IsPinpointingLog}
 use Rattle.pinpointing_jobs.specs.Told.{AreTestsOfOthers}
 use Rattle.pinpointing_jobs.proofs.Logged.{goes_on}
 use Rattle.pinpointing_jobs.specs.TreeFound.{Found}

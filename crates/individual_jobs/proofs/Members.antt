@@ -18,8 +18,8 @@ use Rattle.shq_terms.specs.declared.axioms.Axiom.{Axiom}
 use Rattle.shq_terms.specs.declared.axioms.Query.{Query}
 use Rattle.shq_meaning.specs.Truth.{Entails}
 use Rattle.refutation_truth.specs.Theory.{all_axioms}
-use Rattle.run_log.specs.HonestLog.{IsWhole, IsJustificationSet}
-use Rattle.run_log.proofs.Named.{axioms_are, whole_is_set, whole}
+use Rattle.realizer.specs.HonestLog.{IsWhole, IsJustificationSet}
+use Rattle.realizer.proofs.Named.{axioms_are, whole_is_set, whole}
 
 -- ---- the set of all axioms
 

@@ -2,7 +2,7 @@
 use Rattle.std.proofs.Common.{◌≡◌, ℕ, true, false, List, length, refl, ap, sym, ◌∙◌, inl}
 use Rattle.shq_terms.specs.Concept.{Concept}
 use Rattle.shq_terms.specs.Listed.{Listed}
-use Rattle.run_log.specs.declared.entry.Entry.{Entry}
+use Rattle.realizer.specs.Entry.{Entry}
 use Rattle.realizer.specs.ClassNames.{are_listed}
 use Rattle.realizer.proofs.Passing.{below-passing}
 use Rattle.realizer.specs.Instances.{AreInstances}

@@ -2,7 +2,7 @@
 use Rattle.std.proofs.Common.{◌≡◌, ◌⊎◌, ℕ, Bool, true, false, Option, Some, None, List, refl, ap, sym, ◌∙◌, inl, inr}
 use Rattle.shq_terms.specs.Concept.{Concept}
 use Rattle.shq_terms.specs.Listed.{Listed}
-use Rattle.run_log.specs.declared.entry.Entry.{Entry}
+use Rattle.realizer.specs.Entry.{Entry}
 use Rattle.job_inputs.specs.Answer.{Answer, complaint_answer, IsAnswer, Gives, is_fault}
 use Rattle.job_inputs.specs.Complaints.{Complaint, complaint, sort_status}
 use Rattle.job_inputs.specs.Questions.{Text, has_element, document, query, IsRefusedQuestion}

@@ -5,9 +5,9 @@ use Rattle.axiom_sets.specs.Sets.{Limited}
 use Rattle.shq_terms.specs.Concept.{Concept}
 use Rattle.shq_terms.specs.Listed.{Listed}
 use Rattle.shq_terms.specs.declared.axioms.Query.{Query as Asked}
-use Rattle.run_log.specs.declared.entry.Entry.{Entry}
-use Rattle.run_log.specs.Entries.{spent_of}
-use Rattle.run_log.specs.HonestLog.{IsJustificationSet}
+use Rattle.realizer.specs.Entry.{Entry}
+use Rattle.realizer.specs.Entries.{spent_of}
+use Rattle.realizer.specs.HonestLog.{IsJustificationSet}
 use Rattle.job_inputs.specs.Answer.{line}
 use Rattle.job_inputs.specs.Questions.{has_element, IsQuestion}
 use Rattle.job_inputs.specs.Refusals.{IsRefused, HasBegun, IsOutOfMemory}

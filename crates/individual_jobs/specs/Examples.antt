@@ -13,10 +13,10 @@ use Rattle.shq_terms.specs.declared.axioms.Axiom.TheVariants.{SubClassOf, Member
 use Rattle.shq_terms.specs.declared.axioms.On.TheVariants.{Individual}
 use Rattle.shq_terms.specs.declared.axioms.Query.{Query}
 use Rattle.ofn_writer.specs.Canonical.{line}
-use Rattle.run_log.specs.declared.entry.Entry.{Entry}
-use Rattle.run_log.specs.declared.entry.Entry.TheVariants.{Test}
-use Rattle.run_log.specs.declared.entry.TestEnd.TheVariants.{No}
-use Rattle.run_log.specs.HonestLog.{IsTestOf}
+use Rattle.realizer.specs.Entry.{Entry}
+use Rattle.realizer.specs.Entry.TheVariants.{Test}
+use Rattle.realizer.specs.TestEnd.TheVariants.{No}
+use Rattle.realizer.specs.HonestLog.{IsTestOf}
 use Rattle.job_inputs.specs.SetText.{numbers_text}
 use Rattle.pinpointing_jobs.specs.SetLists.{axiom_lines}
 use Rattle.realizer.specs.Instances.{instance_query}

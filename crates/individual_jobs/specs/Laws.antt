@@ -1,6 +1,6 @@
 -- What follows of answers.
 use Rattle.std.specs.Prelude.{◌≡◌, ℕ, List}
-use Rattle.run_log.specs.declared.entry.Entry.{Entry}
+use Rattle.realizer.specs.Entry.{Entry}
 use Rattle.job_inputs.specs.declared.status.Status.TheVariants.{Done}
 use Rattle.individual_jobs.specs.Answers.{AnswersWhy}
 use Rattle.individual_jobs.specs.Realizations.{AnswersRealization, AnswersInstances}

@@ -3,8 +3,8 @@ use Rattle.std.specs.Prelude.{◌≡◌, ◌⊎◌, ℕ, false, [], List, codes}
 use Rattle.std.specs.List.{list_any}
 use Rattle.shq_terms.specs.Concept.{Concept}
 use Rattle.shq_terms.specs.Listed.{Listed}
-use Rattle.run_log.specs.declared.entry.Entry.{Entry}
-use Rattle.run_log.specs.Entries.{is_spent}
+use Rattle.realizer.specs.Entry.{Entry}
+use Rattle.realizer.specs.Entries.{is_spent}
 use Rattle.realizer.specs.LogEnds.{EndsSpent}
 use Rattle.realizer.specs.declared.types.Types.{Types}
 use Rattle.realizer.specs.Instances.{AreInstances, instances_text}

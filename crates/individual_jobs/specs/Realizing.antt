@@ -2,7 +2,7 @@
 use Rattle.std.specs.Prelude.{◌≡◌, ℕ, [], List}
 use Rattle.shq_terms.specs.Concept.{Concept}
 use Rattle.shq_terms.specs.Listed.{Listed}
-use Rattle.run_log.specs.declared.entry.Entry.{Entry}
+use Rattle.realizer.specs.Entry.{Entry}
 use Rattle.job_inputs.specs.Questions.{IsNotAlone}
 use Rattle.job_inputs.specs.declared.status.Status.{Status}
 use Rattle.job_inputs.specs.declared.unread.Unread.{Unread}

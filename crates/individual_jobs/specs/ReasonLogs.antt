@@ -5,9 +5,9 @@ use Rattle.std.specs.List.{flat_map}
 use Rattle.shq_terms.specs.Concept.{Concept}
 use Rattle.shq_terms.specs.Listed.{Listed}
 use Rattle.shq_terms.specs.declared.axioms.Query.{Query}
-use Rattle.run_log.specs.declared.entry.Entry.{Entry}
-use Rattle.run_log.specs.HonestLog.{IsHonestWithin, AreTestsOf, AsksNoAnswer, AreTreeNodes, AsksFewPerNode}
-use Rattle.run_log.specs.HonestLog.{StaysInModule}
+use Rattle.realizer.specs.Entry.{Entry}
+use Rattle.realizer.specs.HonestLog.{IsHonestWithin, AreTestsOf, AsksNoAnswer, AreTreeNodes, AsksFewPerNode}
+use Rattle.realizer.specs.HonestLog.{StaysInModule}
 use Rattle.pinpointing_jobs.specs.Wanted.{ShowsAll}
 use Rattle.realizer.specs.Instances.{instance_query}
 

@@ -8,7 +8,7 @@ use Rattle.shq_terms.specs.Concept.{Concept}
 use Rattle.shq_terms.specs.Listed.{Listed}
 use Rattle.shq_terms.specs.declared.axioms.Query.{Query}
 use Rattle.ontology_limits.specs.Limits.{IsInLimit}
-use Rattle.run_log.specs.declared.entry.Entry.{Entry}
+use Rattle.realizer.specs.Entry.{Entry}
 use Rattle.job_inputs.specs.Answer.{line}
 use Rattle.job_inputs.specs.declared.status.Status.{Status}
 use Rattle.job_inputs.specs.declared.status.Status.TheVariants.{Done, Undecided}

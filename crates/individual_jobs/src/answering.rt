@@ -11,7 +11,7 @@ use crate::searching::{Explained, explain_all};
 use crate::writing::reasons_text;
 use job_inputs::{Question, Status, Text, Unread, unread_reply};
 use pinpointing_jobs::{Input, read_question_input};
-use run_log::RunLog;
+use realizer::RunLog;
 use shq_terms::{Concept, NoMemory, Ontology};
 use std::alloc::Global;
 

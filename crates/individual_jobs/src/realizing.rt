@@ -2,7 +2,7 @@
 ghost use Rattle.std.specs.Prelude.{◌≡◌, ◌≤◌, false, [], IsTrue, IfOk, IfErr, OnOk, length};
 ghost use Rattle.std.specs.List.{list_any};
 ghost use Rattle.ontology_limits.specs.Limits.{IsOntologyInLimit};
-ghost use Rattle.run_log.specs.Entries.{is_spent};
+ghost use Rattle.realizer.specs.Entries.{is_spent};
 ghost use Rattle.realizer.specs.Stops.{IsStop};
 ghost use Rattle.realizer.specs.Listing.{is_listed};
 ghost use Rattle.realizer.specs.Realization.{AreTypes, realization_text};
@@ -13,8 +13,7 @@ ghost use Rattle.individual_jobs.specs.Realizations.{AnswersRealization};
 ghost use Rattle.individual_jobs.specs.Realizing.{IsRealizedOn, IsUnrealizedBy};
 
 use job_inputs::{Status, Text, Unread, read_document, unread_reply};
-use realizer::{Halt, Oracle, Types, realize as types_by};
-use run_log::RunLog;
+use realizer::{Halt, Oracle, RunLog, Types, realize as types_by};
 use shq_terms::{NoMemory, Ontology};
 use std::alloc::Global;
 use std::mem;

@@ -2,7 +2,7 @@
 ghost use Rattle.std.specs.Prelude.{◌≡◌, ◌≤◌, false, [], IsTrue, IfOk, IfErr, OnOk, length};
 ghost use Rattle.std.specs.List.{list_any};
 ghost use Rattle.ontology_limits.specs.Limits.{IsInLimit};
-ghost use Rattle.run_log.specs.Entries.{is_spent};
+ghost use Rattle.realizer.specs.Entries.{is_spent};
 ghost use Rattle.realizer.specs.Stops.{IsStop};
 ghost use Rattle.realizer.specs.ClassNames.{are_listed};
 ghost use Rattle.realizer.specs.Instances.{AreInstances, instances_text};
@@ -17,8 +17,7 @@ ghost use Rattle.individual_jobs.specs.Searching.{AreInLimit};
 
 use job_inputs::{Question, Status, Text, Unread, unread_reply};
 use pinpointing_jobs::{Input, read_question_input};
-use realizer::{Halt, NumberList, Oracle, instances as found_by, instances_text};
-use run_log::RunLog;
+use realizer::{Halt, NumberList, Oracle, RunLog, instances as found_by, instances_text};
 use shq_terms::{Concept, NoMemory, Ontology};
 use std::alloc::Global;
 use std::mem;

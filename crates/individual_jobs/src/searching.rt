@@ -12,7 +12,7 @@ use crate::queries::{instance_queries, module_of_each};
 use crate::reasons::Reasons;
 use axiom_sets::AxiomSet;
 use pinpointing_jobs::{Found, Oracle, search_with};
-use run_log::RunLog;
+use realizer::RunLog;
 use shq_terms::{Concept, NoMemory, Ontology, Query};
 use std::alloc::Global;
 use std::mem;

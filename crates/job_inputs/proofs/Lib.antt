@@ -8,3 +8,4 @@ pub mod NoFault
 pub mod ReadInLimit
 pub use Rattle.text_laws.proofs.InLimit
 pub use Rattle.text_laws.proofs.LongerDocuments
+pub use Rattle.text_laws.proofs.Additions

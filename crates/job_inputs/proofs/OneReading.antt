@@ -2,14 +2,14 @@
 use Rattle.std.proofs.Common.{◌≡◌, ℕ, ◌+◌, List, drop, ap, sym, ◌∙◌, subst}
 use Rattle.shq_terms.specs.Listed.{Listed}
 use Rattle.shq_terms.specs.declared.axioms.Query.{Query as Asked}
-use Rattle.ofn_expressions.specs.Counts.{Counts}
-use Rattle.ofn_expressions.specs.declared.refusal.Refusal.{Refusal}
-use Rattle.ofn_expressions.specs.declared.refusal.Refusal.TheVariants.{BadShape}
-use Rattle.ofn_reader.specs.DocumentContext.{DocumentContext}
-use Rattle.ofn_reader.specs.Queries.{query_start}
-use Rattle.ofn_reader.proofs.Unique.{documents, documents_not_refused, queries, queries_not_refused, classes}
-use Rattle.ofn_reader.proofs.Unique.{classes_not_refused}
-use Rattle.ofn_reader.proofs.OneReason.{document_refusals, query_refusals, class_refusals}
+use Rattle.text_laws.specs.Counts.{Counts}
+use Rattle.text_laws.specs.Refusal.{Refusal}
+use Rattle.text_laws.specs.Refusal.TheVariants.{BadShape}
+use Rattle.text_laws.specs.DocumentContext.{DocumentContext}
+use Rattle.text_laws.specs.Queries.{query_start}
+use Rattle.text_laws.proofs.Unique.{documents, documents_not_refused, queries, queries_not_refused, classes}
+use Rattle.text_laws.proofs.Unique.{classes_not_refused}
+use Rattle.text_laws.proofs.OneReason.{document_refusals, query_refusals, class_refusals}
 use Rattle.text_laws.specs.LimitLaws.{with_names}
 use Rattle.job_inputs.specs.Asked.{refused_document, refused_query}
 use Rattle.job_inputs.specs.Rest.{IsOnlyGap, IsStray, line_at}

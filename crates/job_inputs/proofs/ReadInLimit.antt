@@ -4,7 +4,7 @@ use Rattle.shq_terms.specs.Concept.{bottom}
 use Rattle.shq_terms.specs.Listed.{Listed}
 use Rattle.shq_terms.specs.declared.axioms.On.TheVariants.{Any}
 use Rattle.shq_terms.specs.declared.axioms.Query.{Query as Asked}
-use Rattle.ofn_reader.specs.DocumentContext.{DocumentContext}
+use Rattle.text_laws.specs.DocumentContext.{DocumentContext}
 use Rattle.text_laws.specs.Limits.{IsInLimit}
 use Rattle.text_laws.specs.LimitLaws.{AreWritable}
 use Rattle.text_laws.proofs.InLimit.{queries_in_limit, classes_in_limit, queries_list_names, classes_list_names}

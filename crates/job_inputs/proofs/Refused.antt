@@ -1,9 +1,9 @@
 -- What keeps a document or a question from being read.
 use Rattle.std.proofs.Common.{◌≡◌, ◌≢◌, ℕ, List, sym, subst}
 use Rattle.shq_terms.specs.Listed.{Listed}
-use Rattle.ofn_expressions.specs.declared.refusal.Refusal.{Refusal}
-use Rattle.ofn_expressions.specs.declared.refusal.Refusal.TheVariants as R
-use Rattle.ofn_reader.specs.DocumentContext.{DocumentContext}
+use Rattle.text_laws.specs.Refusal.{Refusal}
+use Rattle.text_laws.specs.Refusal.TheVariants as R
+use Rattle.text_laws.specs.DocumentContext.{DocumentContext}
 use Rattle.job_inputs.specs.Unread.{query_unread}
 use Rattle.job_inputs.specs.declared.unread.Unread.{Unread}
 use Rattle.job_inputs.specs.declared.unread.Unread.TheVariants as U

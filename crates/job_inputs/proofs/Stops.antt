@@ -1,10 +1,10 @@
 -- Why a reader stopped, and what keeps a document or a query from being read then.
 use Rattle.std.proofs.Common.{◌≡◌, ◌≢◌, ℕ, List, sym, subst}
 use Rattle.shq_terms.specs.Listed.{Listed}
-use Rattle.ofn_expressions.specs.declared.refusal.Refusal.{Refusal}
-use Rattle.ofn_expressions.specs.declared.refusal.Refusal.TheVariants as R
-use Rattle.ofn_reader.specs.DocumentContext.{DocumentContext}
-use Rattle.ofn_reader.specs.Documents.{IsNoDocument}
+use Rattle.text_laws.specs.Refusal.{Refusal}
+use Rattle.text_laws.specs.Refusal.TheVariants as R
+use Rattle.text_laws.specs.DocumentContext.{DocumentContext}
+use Rattle.text_laws.specs.Documents.{IsNoDocument}
 use Rattle.job_inputs.specs.Asked.{IsNotAsked, IsUndocumented, IsUnasked}
 use Rattle.job_inputs.specs.Unread.{document_unread, query_unread}
 use Rattle.job_inputs.specs.declared.unread.Unread.{Unread}

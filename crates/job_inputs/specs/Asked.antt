@@ -2,11 +2,11 @@
 use Rattle.std.specs.Prelude.{◌≡◌, ℕ, List}
 use Rattle.shq_terms.specs.Listed.{Listed}
 use Rattle.shq_terms.specs.declared.axioms.Query.{Query as Asked}
-use Rattle.ofn_expressions.specs.Counts.{Counts}
-use Rattle.ofn_expressions.specs.declared.refusal.Refusal.{Refusal}
-use Rattle.ofn_reader.specs.DocumentContext.{DocumentContext}
-use Rattle.ofn_reader.specs.Documents.{IsNoDocument}
-use Rattle.ofn_reader.specs.Queries.{IsQuery, IsNoQuery, query_start}
+use Rattle.text_laws.specs.Counts.{Counts}
+use Rattle.text_laws.specs.Refusal.{Refusal}
+use Rattle.text_laws.specs.DocumentContext.{DocumentContext}
+use Rattle.text_laws.specs.Documents.{IsNoDocument}
+use Rattle.text_laws.specs.Queries.{IsQuery, IsNoQuery, query_start}
 use Rattle.text_laws.specs.LimitLaws.{with_names}
 use Rattle.job_inputs.specs.declared.unread.Unread.{Unread}
 use Rattle.job_inputs.specs.declared.unread.Unread.TheVariants as U

@@ -2,11 +2,11 @@
 use Rattle.std.specs.Prelude.{ℕ, List, [], ◌∷◌, ◌++◌, codes, decimal, Option, Some, None}
 use Rattle.ofn_tree.specs.declared.fault.TextFault.{TextFault}
 use Rattle.ofn_tree.specs.declared.fault.TextFault.TheVariants as F
-use Rattle.ofn_expressions.specs.Constructs.{spelling}
-use Rattle.ofn_expressions.specs.declared.refusal.Refusal.{Refusal}
-use Rattle.ofn_expressions.specs.declared.refusal.Refusal.TheVariants as R
-use Rattle.ofn_expressions.specs.declared.refusal.Which.{Which}
-use Rattle.ofn_expressions.specs.declared.refusal.Which.TheVariants as W
+use Rattle.text_laws.specs.Constructs.{spelling}
+use Rattle.text_laws.specs.Refusal.{Refusal}
+use Rattle.text_laws.specs.Refusal.TheVariants as R
+use Rattle.text_laws.specs.Which.{Which}
+use Rattle.text_laws.specs.Which.TheVariants as W
 use Rattle.job_inputs.specs.declared.complaint.Complaint.{Complaint as Kept}
 use Rattle.job_inputs.specs.declared.complaint.Place.{Place}
 use Rattle.job_inputs.specs.declared.complaint.Place.TheVariants.{Document, Query}

@@ -2,8 +2,8 @@
 use Rattle.std.specs.Prelude.{◌≡◌, ℕ, List}
 use Rattle.shq_terms.specs.Listed.{Listed}
 use Rattle.shq_terms.specs.declared.axioms.Query.{Query as Asked}
-use Rattle.ofn_expressions.specs.declared.refusal.Refusal.{Refusal}
-use Rattle.ofn_reader.specs.DocumentContext.{DocumentContext}
+use Rattle.text_laws.specs.Refusal.{Refusal}
+use Rattle.text_laws.specs.DocumentContext.{DocumentContext}
 use Rattle.job_inputs.specs.Asked.{Reply}
 use Rattle.job_inputs.specs.Rest.{IsOnlyGap, IsStray}
 use Rattle.job_inputs.specs.Questions.{Text, IsDocumentAlone, IsNotAlone, IsQuestion, IsRefusedQuestion}

@@ -9,3 +9,4 @@ pub mod Questions
 pub mod Refusals
 pub mod Laws
 pub use Rattle.text_laws.specs.LimitLaws
+pub use Rattle.text_laws.specs.Limits

@@ -4,12 +4,12 @@ use Rattle.shq_terms.specs.Concept.{Concept, bottom}
 use Rattle.shq_terms.specs.Listed.{Listed}
 use Rattle.shq_terms.specs.declared.axioms.On.TheVariants.{Any}
 use Rattle.shq_terms.specs.declared.axioms.Query.{Query as Asked}
-use Rattle.ofn_expressions.specs.Counts.{Counts}
-use Rattle.ofn_expressions.specs.declared.refusal.Refusal.{Refusal}
-use Rattle.ofn_expressions.specs.declared.refusal.Refusal.TheVariants.{BadShape}
-use Rattle.ofn_reader.specs.DocumentContext.{DocumentContext}
-use Rattle.ofn_reader.specs.Documents.{IsDocument, IsNoDocument}
-use Rattle.ofn_reader.specs.Queries.{IsClass, IsNoClass, query_start}
+use Rattle.text_laws.specs.Counts.{Counts}
+use Rattle.text_laws.specs.Refusal.{Refusal}
+use Rattle.text_laws.specs.Refusal.TheVariants.{BadShape}
+use Rattle.text_laws.specs.DocumentContext.{DocumentContext}
+use Rattle.text_laws.specs.Documents.{IsDocument, IsNoDocument}
+use Rattle.text_laws.specs.Queries.{IsClass, IsNoClass, query_start}
 use Rattle.text_laws.specs.LimitLaws.{with_names}
 use Rattle.job_inputs.specs.Asked.{IsAsked, IsNotAsked, Reply, refused_document, refused_query}
 use Rattle.job_inputs.specs.declared.unread.Unread.{Unread}

@@ -3,8 +3,8 @@
 use Rattle.std.specs.Prelude.{◌≡◌, ℕ, [], List}
 use Rattle.shq_terms.specs.Listed.{Listed}
 use Rattle.shq_terms.specs.declared.axioms.Query.{Query as Asked}
-use Rattle.ofn_expressions.specs.declared.refusal.Refusal.{Refusal}
-use Rattle.ofn_reader.specs.DocumentContext.{DocumentContext}
+use Rattle.text_laws.specs.Refusal.{Refusal}
+use Rattle.text_laws.specs.DocumentContext.{DocumentContext}
 use Rattle.job_inputs.specs.Answer.{no_memory, complaint_answer, IsAnswer}
 use Rattle.job_inputs.specs.Asked.{Reply, refused_document, refused_query}
 use Rattle.job_inputs.specs.Complaints.{complaint}

@@ -1,7 +1,7 @@
 -- Sets of axioms as they are written.
 use Rattle.std.specs.Prelude.{ℕ, List, [], ◌∷◌, map, codes, decimal}
 use Rattle.axiom_sets.specs.Sets.{Limited, member_list}
-use Rattle.ofn_writer.specs.Canonical.{items_text}
+use Rattle.text_laws.specs.Canonical.{items_text}
 
 -- numbers with one blank between; none of them are the word `empty`
 abbrev pub numbers_text : List ℕ → List ℕ

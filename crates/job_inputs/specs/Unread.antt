@@ -1,8 +1,8 @@
 -- What keeps an input from being verified, by what its readers say.
-use Rattle.certificate_lines.specs.declared.fault.LineFault.{LineFault}
-use Rattle.certificate_lines.specs.declared.fault.LineFault.TheVariants as F
-use Rattle.ofn_expressions.specs.declared.refusal.Refusal.{Refusal}
-use Rattle.ofn_expressions.specs.declared.refusal.Refusal.TheVariants as R
+use Rattle.text_laws.specs.LineFault.{LineFault}
+use Rattle.text_laws.specs.LineFault.TheVariants as F
+use Rattle.text_laws.specs.Refusal.{Refusal}
+use Rattle.text_laws.specs.Refusal.TheVariants as R
 use Rattle.job_inputs.specs.declared.unread.Unread.{Unread}
 use Rattle.job_inputs.specs.declared.unread.Unread.TheVariants as U
 

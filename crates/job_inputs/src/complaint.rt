@@ -4,10 +4,10 @@ ghost use Rattle.job_inputs.specs.Complaints.{complaint, fault_complaint, compla
 ghost use Rattle.job_inputs.specs.Complaints.{limit_name, complaint_text, plain_complaint};
 
 use crate::status::Status;
-use ofn_reader::{Refusal, Which};
 use ofn_tree::TextFault;
 use shq_terms::NoMemory;
 use std::alloc::Global;
+use text_laws::{Refusal, Which};
 
 /// Where a refused text stands.
 #[derive(Clone, Copy, Debug, PartialEq, Eq)]

@@ -1,12 +1,12 @@
 // A document that bytes begin with, and a query on it.
 ghost use Rattle.std.specs.Prelude.{◌≡◌, ◌≤◌, IfOk, IfErr, OnErr, length};
-ghost use Rattle.ofn_reader.specs.Documents.{IsDocument};
+ghost use Rattle.text_laws.specs.Documents.{IsDocument};
 ghost use Rattle.job_inputs.specs.Asked.{IsUnasked, IsUndocumented, IsReadQuery};
 
 use crate::unread::Unread;
-use ofn_reader::{Context, read_ontology, read_query};
 use shq_terms::{Ontology, Query};
 use std::alloc::Global;
+use text_laws::{Context, read_ontology, read_query};
 
 /// Reads the document that the bytes begin with, and answers the place after it.
 ///

@@ -9,9 +9,9 @@ use crate::status::Status;
 use crate::text::Text;
 use crate::unread::Unread;
 use crate::verdict::Verdict;
-use ofn_reader::Refusal;
 use shq_terms::NoMemory;
 use std::alloc::Global;
+use text_laws::Refusal;
 
 /// What is answered, before its text is made.
 #[derive(Clone, Copy)]

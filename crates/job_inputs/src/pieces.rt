@@ -1,7 +1,7 @@
 // Pieces of answers, which are put last: bytes, numbers in decimal, and sets of axioms. A set is written as the numbers
 // of its axioms, ascending, with one blank between, and as the word `empty` where it has none.
 ghost use Rattle.std.specs.Prelude.{◌≡◌, ◌++◌, ◌∷◌, [], List, OnErr, OnOk, decimal, map};
-ghost use Rattle.ofn_writer.specs.Canonical.{spaced};
+ghost use Rattle.text_laws.specs.Canonical.{spaced};
 ghost use Rattle.job_inputs.specs.SetText.{numbers_text, set_text};
 
 use axiom_sets::{AxiomSet, Numbers};

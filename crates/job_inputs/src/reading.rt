@@ -8,10 +8,10 @@ ghost use Rattle.job_inputs.specs.Questions.{IsUnreadDocument, IsUnreadQuestion}
 use crate::documents::{document, query_on};
 use crate::rest::first_stray;
 use crate::unread::Unread;
-use ofn_reader::{Context, Refusal, read_class};
 use ofn_tree::end_line;
 use shq_terms::{Concept, Node, On, Ontology, Query};
 use std::alloc::Global;
+use text_laws::{Context, Refusal, read_class};
 
 /// What is asked of a document.
 #[derive(Clone, Copy)]

@@ -2,9 +2,8 @@
 ghost use Rattle.std.specs.Prelude.{◌≡◌};
 ghost use Rattle.job_inputs.specs.Unread.{document_unread, query_unread};
 
-use certificate_lines::LineFault;
-use ofn_reader::Refusal;
 use shq_terms::NoMemory;
+use text_laws::{LineFault, Refusal};
 
 /// Why there is nothing to verify.
 #[derive(Clone, Copy, Debug, PartialEq, Eq)]

@@ -25,9 +25,9 @@ use Rattle.finite_model.specs.Written.{uses_listed_names}
 use Rattle.calculus_specs.specs.declared.facts.Fact.{Fact}
 use Rattle.calculus_specs.specs.State.{node_count_from, is_successor}
 use Rattle.tableau_specs.specs.Items.{facts_of}
-use Rattle.completion_tree.specs.declared.tree.Entry.{Entry}
-use Rattle.completion_tree.specs.declared.tree.Entry.TheVariants.{Fact as Grounded, Mark}
-use Rattle.completion_tree.specs.Trail.{facts_in, items_of}
+use Rattle.blocking.specs.Entry.{Entry}
+use Rattle.blocking.specs.Entry.TheVariants.{Fact as Grounded, Mark}
+use Rattle.blocking.specs.Trail.{facts_in, items_of}
 use Rattle.search_laws.specs.Elements.{elements, node_at, original}
 use Rattle.search_laws.specs.Built.{IsBuilt}
 use Rattle.search_laws.specs.CounterModelLaws.{UsesListed, IsCounterModel}

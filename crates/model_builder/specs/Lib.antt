@@ -5,5 +5,7 @@ pub mod Saturated
 pub mod Structure
 pub mod Gains
 pub mod Walks
-pub use Rattle.completion_tree.specs.Trail
+pub use Rattle.blocking.specs.Trail
 pub use Rattle.search_laws.specs.Limits
+pub use Rattle.finite_model.specs.ModelLists
+pub use Rattle.finite_model.specs.Written

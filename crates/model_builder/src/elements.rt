@@ -1,13 +1,12 @@
 // The elements of a tree, by their numbers.
 ghost use Rattle.std.specs.Prelude.{◌≡◌, ◌≤◌, ◌<◌, ◌++◌, ◌∷◌, [], ◌^◌, length, OnOk, IfOk, map};
 ghost use Rattle.calculus_specs.specs.State.{node_count_from};
-ghost use Rattle.completion_tree.specs.Trail.{facts_in};
+ghost use Rattle.blocking.specs.Trail.{facts_in};
 ghost use Rattle.blocking.specs.Followed.{IsCurrent};
 ghost use Rattle.model_builder.specs.Numbered.{like_node, original_in, number_in, original_list, AreNumbered};
 
 use crate::NoMemory;
-use blocking::{Blocks, state};
-use completion_tree::Tree;
+use blocking::{Blocks, Tree, state};
 use std::alloc::{Allocator, Global};
 use tableau_specs::Block;
 

@@ -26,7 +26,8 @@ mod structure_model;
 mod successors;
 mod walk;
 
-pub use completion_tree::Tree;
+pub use blocking::Tree;
+pub use finite_model::Interp;
 pub use laws::structures_are_built;
 pub use model::{build, interpretation_of_elements};
 pub use shq_terms::NoMemory;

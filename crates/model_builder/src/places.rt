@@ -3,14 +3,14 @@ ghost use Rattle.std.specs.Prelude.{◌≡◌, ◌<◌, ◌≤◌, ◌+◌, ◌^
 ghost use Rattle.std.specs.List.{range_with_len};
 ghost use Rattle.calculus_specs.specs.Joins.{rep};
 ghost use Rattle.calculus_specs.specs.State.{node_count_from};
-ghost use Rattle.completion_tree.specs.Trail.{facts_in};
+ghost use Rattle.blocking.specs.Trail.{facts_in};
 ghost use Rattle.model_builder.specs.Numbered.{number_of, place_of};
 ghost use Rattle.model_builder.specs.Collected.{ArePlaces};
 ghost use Rattle.model_builder.specs.Gains.{HasPlaces};
 
 use crate::NoMemory;
 use crate::structure::number_at;
-use completion_tree::Tree;
+use blocking::Tree;
 use finite_model::Interp;
 use std::alloc::{Allocator, Global};
 

@@ -2,17 +2,17 @@
 ghost use Rattle.std.specs.Prelude.{◌≡◌, ◌++◌, None, length, map, slice_index_or, OnOk, IfOk};
 ghost use Rattle.std.specs.List.{range_with_len};
 ghost use Rattle.calculus_specs.specs.Shape.{shape_of};
-ghost use Rattle.shq_nnf.specs.Shapes.{form_of};
+ghost use Rattle.search_laws.specs.Shapes.{form_of};
 ghost use Rattle.calculus_specs.specs.Joins.{rep};
 ghost use Rattle.calculus_specs.specs.State.{node_count_from};
-ghost use Rattle.completion_tree.specs.Trail.{facts_in};
+ghost use Rattle.blocking.specs.Trail.{facts_in};
 ghost use Rattle.model_builder.specs.Numbered.{number_of};
 ghost use Rattle.model_builder.specs.Collected.{class_in, member_of, members_by, edge_to, edges_by, AreMembers};
 ghost use Rattle.model_builder.specs.Collected.{AreElementEdges};
 
 use crate::{Edge, Member, NoMemory};
-use completion_tree::Tree;
-use shq_nnf::{Concepts, Shape};
+use blocking::Tree;
+use search_laws::{Concepts, Shape};
 use std::alloc::{Allocator, Global};
 
 /// Each element in the classes of the node that it is like. There are `size` elements.

@@ -13,7 +13,7 @@ use Rattle.shq_terms.specs.declared.axioms.Axiom.TheVariants.{DisjointUnion, Sub
 use Rattle.shq_terms.specs.declared.axioms.Axiom.TheVariants.{Functional, Transitive, Member, Pair, SameAll, Different}
 use Rattle.shq_terms.specs.declared.axioms.Numbered.{Numbered}
 use Rattle.shq_terms.proofs.Bools.{same_truth}
-use Rattle.calculus_specs.specs.Roles.{IsBelow, itself, by_step}
+use Rattle.role_box.specs.Roles.{IsBelow, itself, by_step}
 use Rattle.role_box.specs.declared.role_axiom.RoleAxiom.{RoleAxiom}
 use Rattle.role_box.specs.declared.role_axiom.RoleAxiom.TheVariants.{Inclusion, Equivalence, Transitivity}
 use Rattle.role_box.specs.RoleAxioms.{role_part, role_part_at, role_axioms}

@@ -6,7 +6,7 @@ use Rattle.shq_terms.specs.Listed.{Listed}
 use Rattle.shq_terms.specs.declared.axioms.Axiom.{Axiom as SomeAxiom}
 use Rattle.shq_terms.specs.declared.axioms.Query.{Query as Asked}
 use Rattle.shq_meaning.specs.Truth.{Entails}
-use Rattle.decision_jobs.proofs.Truth.{followed, not_followed}
+use Rattle.audit_jobs.proofs.Truth.{followed, not_followed}
 use Rattle.run_log.specs.declared.entry.Entry.{Entry}
 use Rattle.audit_jobs.specs.Audited.{IsAuditEnd, IsJudgedOn, end_answer}
 use Rattle.audit_jobs.specs.AuditVerdict.{AuditVerdict}
@@ -16,14 +16,14 @@ use Rattle.audit_jobs.specs.Unread.TheVariants as U
 use Rattle.ontology_jobs.specs.Words.{check, audit}
 use Rattle.classification_jobs.specs.LimitLaws.{with_names}
 use Rattle.classification_jobs.specs.Asked.{Reply, judged, refused_document, refused_query, malformed_line}
-use Rattle.decision_jobs.specs.Checking.{IsVerdictOn, first_unmet, Shows, IsReply, no_document, no_query, shown}
+use Rattle.audit_jobs.specs.Checking.{IsVerdictOn, first_unmet, Shows, IsReply, no_document, no_query, shown}
 use Rattle.classification_jobs.specs.Complaints.{Complaint, sort_status, complaint}
 use Rattle.classification_jobs.specs.Answer.{line, Answer, complaint_answer}
 use Rattle.classification_jobs.specs.Replies.{reply_answer}
 use Rattle.ontology_jobs.specs.Answers.{AnswersJob}
 use Rattle.ontology_jobs.specs.Laws.{HaveRead, HaveAudited, AcceptedAuditsListAll}
-use Rattle.decision_jobs.specs.declared.certificate.Certificate.{Certificate}
-use Rattle.decision_jobs.specs.declared.certificate.Certificate.TheVariants as C
+use Rattle.audit_jobs.specs.Certificate.{Certificate}
+use Rattle.audit_jobs.specs.Certificate.TheVariants as C
 use Rattle.classification_jobs.specs.Place.{Place}
 use Rattle.classification_jobs.specs.Place.TheVariants as P
 use Rattle.classification_jobs.specs.Sort.{Sort}

@@ -13,8 +13,8 @@ use Rattle.audit_jobs.specs.AuditVerdict.{AuditVerdict}
 use Rattle.audit_jobs.specs.AuditVerdict.TheVariants as A
 use Rattle.audit_jobs.specs.Unread.{Unread}
 use Rattle.audit_jobs.specs.Unread.TheVariants as U
-use Rattle.decision_jobs.specs.Checked.{Checked}
-use Rattle.decision_jobs.specs.Checking.{Shows, IsReply, no_document, no_query, shown}
+use Rattle.audit_jobs.specs.Checked.{Checked}
+use Rattle.audit_jobs.specs.Checking.{Shows, IsReply, no_document, no_query, shown}
 use Rattle.classification_jobs.specs.Answer.{Answer}
 use Rattle.classification_jobs.specs.Asked.{IsAsked, IsNotAsked, Reply, judged, refused_document, refused_query}
 use Rattle.classification_jobs.specs.Asked.{malformed_line}

@@ -11,7 +11,7 @@ use Rattle.finite_model.specs.ModelLists.{ModelLists as Model, meaning}
 use Rattle.calculus_specs.specs.RefutationLaws.{IsJudged}
 use Rattle.calculus_specs.proofs.Broken.{judged as judged_once}
 use Rattle.audit_jobs.specs.RefutationLists.{RefutationLists as Refutation}
-use Rattle.decision_jobs.specs.Verdicts.{named_question}
+use Rattle.audit_jobs.specs.Verdicts.{named_question}
 use Rattle.ofn_expressions.specs.Counts.{Counts}
 use Rattle.ofn_reader.specs.DocumentContext.{DocumentContext}
 use Rattle.ofn_reader.specs.Documents.{IsDocument}
@@ -26,20 +26,20 @@ use Rattle.audit_jobs.specs.AuditVerdict.{AuditVerdict}
 use Rattle.audit_jobs.proofs.OneAnswer.{IsKnown, one_end}
 use Rattle.audit_jobs.specs.Unread.{Unread}
 use Rattle.audit_jobs.specs.Unread.TheVariants as U
-use Rattle.decision_jobs.specs.Certificates.{certificate_lines}
-use Rattle.decision_jobs.specs.Malformed.{certificate_read}
-use Rattle.decision_jobs.proofs.FirstMalformed.{first_is_one, malformed_is_none}
+use Rattle.audit_jobs.specs.Certificates.{certificate_lines}
+use Rattle.audit_jobs.specs.Malformed.{certificate_read}
+use Rattle.audit_jobs.proofs.FirstMalformed.{first_is_one, malformed_is_none}
 use Rattle.classification_jobs.specs.LimitLaws.{with_names}
 use Rattle.classification_jobs.specs.Asked.{IsAsked, IsNotAsked, Reply, judged, refused_document, refused_query}
 use Rattle.classification_jobs.specs.Asked.{malformed_line}
-use Rattle.decision_jobs.specs.Checking.{IsOfModel, IsOfRefutation, IsVerdictOn, line_of_place, Shows, IsReply}
-use Rattle.decision_jobs.specs.Checking.{no_document, no_query, shown}
+use Rattle.audit_jobs.specs.Checking.{IsOfModel, IsOfRefutation, IsVerdictOn, line_of_place, Shows, IsReply}
+use Rattle.audit_jobs.specs.Checking.{no_document, no_query, shown}
 use Rattle.classification_jobs.specs.Answer.{line, Answer}
 use Rattle.classification_jobs.specs.Replies.{verdict_answer, reply_answer}
 use Rattle.ontology_jobs.specs.Answers.{IsTooLong, IsBadWords, AnswersJob, AnswersRequest}
 use Rattle.ontology_jobs.specs.Laws.{IsFinal, AsksForNoSearch, AnswersAreUnique}
-use Rattle.decision_jobs.specs.declared.certificate.Certificate.{Certificate}
-use Rattle.decision_jobs.specs.declared.certificate.Certificate.TheVariants as C
+use Rattle.audit_jobs.specs.Certificate.{Certificate}
+use Rattle.audit_jobs.specs.Certificate.TheVariants as C
 use Rattle.classification_jobs.specs.Verdict.{Verdict}
 use Rattle.classification_jobs.specs.Verdict.TheVariants.{NotEntailed, Entailed, Axiom, Query, Line}
 use Rattle.classification_jobs.specs.Status.{Status}

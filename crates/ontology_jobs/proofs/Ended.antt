@@ -9,9 +9,9 @@ use Rattle.ofn_reader.specs.DocumentContext.{DocumentContext}
 use Rattle.ofn_expressions.specs.declared.refusal.Refusal.{Refusal}
 use Rattle.run_log.specs.declared.entry.Entry.{Entry}
 use Rattle.run_log.specs.Entries.{spent_of, is_spent}
-use Rattle.decision_jobs.specs.Answer.{Answer as Decision}
-use Rattle.decision_jobs.specs.Answer.TheVariants as Answered
-use Rattle.decision_jobs.specs.Decisions.{decision_status, IsDecided, AnswersQuestion}
+use Rattle.audit_jobs.specs.Answer.{Answer as Decision}
+use Rattle.audit_jobs.specs.Answer.TheVariants as Answered
+use Rattle.audit_jobs.specs.Decisions.{decision_status, IsDecided, AnswersQuestion}
 use Rattle.classification_jobs.specs.Answer.{Answer, complaint_answer}
 use Rattle.classification_jobs.specs.Asked.{Reply, refused_document}
 use Rattle.classification_jobs.specs.Classifications.{IsFinished}

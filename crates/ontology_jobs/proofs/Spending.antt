@@ -12,15 +12,15 @@ use Rattle.run_log.specs.declared.entry.Entry.TheVariants.{Test}
 use Rattle.run_log.specs.declared.entry.TestEnd.{TestEnd}
 use Rattle.run_log.specs.declared.entry.TestEnd.TheVariants as E
 use Rattle.run_log.specs.Entries.{spent_of, is_spent, ended_spent}
-use Rattle.decision_jobs.specs.Answer.{Answer as Decision}
-use Rattle.decision_jobs.specs.Answer.TheVariants as Answered
-use Rattle.decision_jobs.specs.Decided.{Matches}
+use Rattle.audit_jobs.specs.Answer.{Answer as Decision}
+use Rattle.audit_jobs.specs.Answer.TheVariants as Answered
+use Rattle.audit_jobs.specs.Decided.{Matches}
 use Rattle.classification_jobs.specs.Answer.{Answer}
 use Rattle.classification_jobs.specs.Status.{Status}
 use Rattle.classification_jobs.specs.Status.TheVariants.{Undecided}
 use Rattle.classification_jobs.specs.Questions.{Text, follows}
 use Rattle.classification_jobs.specs.Refusals.{IsRefused}
-use Rattle.decision_jobs.specs.Decisions.{decision_status, IsDecided}
+use Rattle.audit_jobs.specs.Decisions.{decision_status, IsDecided}
 use Rattle.audit_jobs.specs.Wanted.{Wanted}
 use Rattle.classification_jobs.specs.LogEnds.{EndsSpent}
 use Rattle.edit_session.specs.Sessions.{State, live_set}

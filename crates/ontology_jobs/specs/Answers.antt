@@ -10,8 +10,8 @@ use Rattle.classification_jobs.specs.Refusals.{IsOutOfMemory}
 use Rattle.classification_jobs.specs.Status.{Status}
 use Rattle.classification_jobs.specs.Status.TheVariants.{BadWords, Limit, ReadFault, WriteFault, NoMemory}
 use Rattle.run_log.specs.declared.entry.Entry.{Entry}
-use Rattle.decision_jobs.specs.Checked.{Checked}
-use Rattle.decision_jobs.specs.Decisions.{AnswersQuestion}
+use Rattle.audit_jobs.specs.Checked.{Checked}
+use Rattle.audit_jobs.specs.Decisions.{AnswersQuestion}
 use Rattle.classification_jobs.specs.Classifications.{AnswersClassification}
 use Rattle.audit_jobs.specs.Answers.{AnswersEvidence}
 use Rattle.audit_jobs.specs.PinpointingAnswers.{AnswersPinpointing, AnswersWorkload}

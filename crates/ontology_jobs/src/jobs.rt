@@ -10,9 +10,8 @@ ghost use Rattle.ontology_jobs.specs.Answers.{AnsweredAll, SaysBadWords, IsBadWo
 ghost use Rattle.ontology_jobs.specs.Answers.{LeavesFor, Leaves};
 
 use crate::words::{Command, Job, read_words};
-use audit_jobs::{find_evidence, pinpoint, run_workload, verify_audit};
+use audit_jobs::{answer, find_evidence, pinpoint, run_workload, verify, verify_audit};
 use classification_jobs::{Status, Text, classify};
-use decision_jobs::{answer, verify};
 use edit_session::answer_script;
 use individual_jobs::{instances, realize, why};
 use run_log::RunLog;

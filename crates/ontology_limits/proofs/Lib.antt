@@ -1,2 +1,13 @@
 pub mod Simple
 pub mod Each
+pub use Rattle.shq_nnf.proofs.Pairs
+pub use Rattle.shq_nnf.proofs.Numbers
+pub use Rattle.shq_nnf.proofs.Truth
+pub use Rattle.shq_nnf.proofs.Meeting
+pub use Rattle.shq_nnf.proofs.Facts
+pub use Rattle.shq_nnf.proofs.Grown
+pub use Rattle.shq_nnf.proofs.Members
+pub use Rattle.shq_nnf.proofs.Implied
+pub use Rattle.role_box.proofs.Limits
+pub use Rattle.role_box.proofs.Paths
+pub use Rattle.role_box.proofs.Tested

@@ -4,3 +4,13 @@ pub use Rattle.role_box.specs.Counted
 pub use Rattle.role_box.specs.RoleAxioms
 pub use Rattle.role_box.specs.Simple
 pub use Rattle.role_box.specs.declared.role_axiom.RoleAxiom
+pub use Rattle.role_box.specs.Steps
+pub use Rattle.role_box.specs.Paths
+pub use Rattle.shq_nnf.specs.Shapes
+pub use Rattle.shq_nnf.specs.Facts
+pub use Rattle.shq_nnf.specs.Parts
+pub use Rattle.shq_nnf.specs.Counts
+pub use Rattle.shq_nnf.specs.Numbers
+pub use Rattle.shq_nnf.specs.Meeting
+pub use Rattle.shq_nnf.specs.Truth
+pub use Rattle.shq_nnf.specs.Below

@@ -10,3 +10,5 @@ mod laws;
 pub use laws::{
     counts_stay_simple, each_axiom_is_in_limit, query_counts_stay_simple, simple_roles_stay_simple,
 };
+pub use role_box::RoleBox;
+pub use shq_nnf::{Concepts, OwnedShape, Shape};

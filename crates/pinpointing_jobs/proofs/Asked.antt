@@ -2,15 +2,15 @@
 use Rattle.std.proofs.Common.{◌≡◌, ◌⊎◌, ℕ, ◌≤◌, Bool, true, false, List, [], refl, ap, sym, ◌∙◌, inl, inr}
 use Rattle.shq_terms.specs.Listed.{Listed}
 use Rattle.shq_terms.specs.declared.axioms.Query.{Query as Asked}
-use Rattle.ofn_reader.specs.DocumentContext.{DocumentContext}
+use Rattle.workload.specs.DocumentContext.{DocumentContext}
 use Rattle.job_inputs.specs.declared.unread.Unread.{Unread}
 use Rattle.job_inputs.specs.declared.unread.Unread.TheVariants as U
-use Rattle.ofn_reader.specs.Queries.{IsQueryOn}
+use Rattle.workload.specs.Queries.{IsQueryOn}
 use Rattle.workload.specs.WorkloadText.{workload_text}
 use Rattle.workload.specs.Laws.{IsWorkload, asked as wanted}
 use Rattle.workload.proofs.Whole.{workloads_are_documents}
 use Rattle.workload.proofs.Asked.{queries_are_read}
-use Rattle.run_log.specs.declared.entry.Entry.{Entry}
+use Rattle.query_asker.specs.Entry.{Entry}
 use Rattle.job_inputs.specs.Asked.{refused_document, refused_query}
 use Rattle.job_inputs.specs.Answer.{Answer, no_memory, IsAnswer, Gives}
 use Rattle.job_inputs.specs.Replies.{unread_answer}
@@ -27,7 +27,7 @@ use Rattle.pinpointing_jobs.specs.Asked.{IsInputOf, IsNoInputOf, IsInput, IsNoIn
 use Rattle.pinpointing_jobs.specs.declared.wanted.Wanted.{Wanted}
 use Rattle.pinpointing_jobs.specs.Memory.{UnlessNoMemory}
 use Rattle.pinpointing_jobs.specs.Answers.{IsPinpointed, AnswersPinpointing, workload_query}
-use Rattle.run_log.specs.HonestLog.{IsPinpointingLog}
+use Rattle.query_asker.specs.HonestLog.{IsPinpointingLog}
 use Rattle.pinpointing_jobs.specs.Begun.{HasSearched}
 use Rattle.pinpointing_jobs.specs.Laws.{WorkloadsAreQuestions}
 

@@ -14,7 +14,7 @@ use Rattle.shq_terms.specs.Listed.{Listed}
 use Rattle.shq_terms.specs.declared.axioms.Query.{Query as Asked}
 use Rattle.pinpointing_specs.specs.LocalModule.{FollowsFrom, of_axioms}
 use Rattle.pinpointing_specs.proofs.Kept.{grows}
-use Rattle.run_log.specs.HonestLog.{IsJustificationSet}
+use Rattle.query_asker.specs.HonestLog.{IsJustificationSet}
 use Rattle.pinpointing_jobs.specs.Wanted.{IsRepairSet, HasRepairsOf}
 use Rattle.pinpointing_jobs.specs.Searched.{IsLeaf}
 

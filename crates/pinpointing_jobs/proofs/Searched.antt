@@ -28,13 +28,13 @@ use Rattle.shq_terms.specs.Listed.{Listed}
 use Rattle.shq_terms.specs.declared.axioms.Query.{Query as Asked}
 use Rattle.pinpointing_specs.specs.LocalModule.{IsLocalModule, FollowsFrom, of_axioms, IsJustification, IsRepair}
 use Rattle.pinpointing_specs.proofs.Kept.{keeps, grows, intersection_part}
-use Rattle.run_log.specs.declared.entry.Entry.{Entry}
-use Rattle.run_log.specs.declared.entry.Entry.TheVariants.{Test, Node}
-use Rattle.run_log.specs.declared.entry.TestEnd.TheVariants as E
-use Rattle.run_log.specs.Entries.{cost_of, spent_of, nodes_of, is_spent, IsAnswered}
-use Rattle.run_log.specs.HonestLog.{IsAxiomSet, IsHonestEntry, EachIsHonest, IsJustificationSet, EndsWhenSpent}
-use Rattle.run_log.specs.HonestLog.{AreTreeNodes, AsksFewPerNode, IsHonestWithin, IsPinpointingLog}
-use Rattle.run_log.specs.Shown.{IsShownYes, IsShownNo}
+use Rattle.query_asker.specs.Entry.{Entry}
+use Rattle.query_asker.specs.Entry.TheVariants.{Test, Node}
+use Rattle.query_asker.specs.TestEnd.TheVariants as E
+use Rattle.query_asker.specs.Entries.{cost_of, spent_of, nodes_of, is_spent, IsAnswered}
+use Rattle.query_asker.specs.HonestLog.{IsAxiomSet, IsHonestEntry, EachIsHonest, IsJustificationSet, EndsWhenSpent}
+use Rattle.query_asker.specs.HonestLog.{AreTreeNodes, AsksFewPerNode, IsHonestWithin, IsPinpointingLog}
+use Rattle.query_asker.specs.Shown.{IsShownYes, IsShownNo}
 use Rattle.query_asker.specs.OracleLists.{OracleLists}
 use Rattle.query_asker.specs.AskerLists.{AskerLists, AskerOrigin, origin_of}
 use Rattle.query_asker.specs.Told.{KeepsAnswers, IsShownNoIn, IsLeftOut, asker_meaning, IsAskerLog}

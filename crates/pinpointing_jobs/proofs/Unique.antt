@@ -6,10 +6,10 @@ use Rattle.std.specs.List.{Contains}
 use Rattle.std.specs.declared.cmp.Ordering.TheVariants.{Less, Greater}
 use Rattle.axiom_sets.specs.Sets.{Limited, list_cmp}
 use Rattle.pinpointing_specs.specs.Order.{IsAscending}
-use Rattle.set_questions.proofs.Ordered.{turned_back}
+use Rattle.query_asker.proofs.Ordered.{turned_back}
 use Rattle.shq_terms.specs.Listed.{Listed}
 use Rattle.shq_terms.specs.declared.axioms.Query.{Query as Asked}
-use Rattle.run_log.specs.declared.entry.Entry.{Entry}
+use Rattle.query_asker.specs.Entry.{Entry}
 use Rattle.job_inputs.specs.declared.status.Status.TheVariants.{Done}
 use Rattle.job_inputs.specs.Questions.{follows}
 use Rattle.job_inputs.proofs.OneReading.{questions}

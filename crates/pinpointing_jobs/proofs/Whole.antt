@@ -5,7 +5,7 @@ use Rattle.axiom_sets.specs.Sets.{Limited}
 use Rattle.shq_terms.specs.Listed.{Listed}
 use Rattle.shq_terms.specs.declared.axioms.Query.{Query as Asked}
 use Rattle.pinpointing_specs.specs.LocalModule.{IsLocalModule, of_axioms}
-use Rattle.run_log.specs.declared.entry.Entry.{Entry}
+use Rattle.query_asker.specs.Entry.{Entry}
 use Rattle.job_inputs.specs.declared.status.Status.{Status}
 use Rattle.job_inputs.specs.declared.status.Status.TheVariants.{Done}
 use Rattle.pinpointing_jobs.specs.declared.wanted.Wanted.{Wanted}

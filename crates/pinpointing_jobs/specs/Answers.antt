@@ -3,8 +3,8 @@ use Rattle.std.specs.Prelude.{◌⊎◌, ℕ, List, codes}
 use Rattle.shq_terms.specs.Listed.{Listed}
 use Rattle.shq_terms.specs.declared.axioms.Query.{Query as Asked}
 use Rattle.workload.specs.WorkloadText.{workload_text}
-use Rattle.run_log.specs.declared.entry.Entry.{Entry}
-use Rattle.run_log.specs.HonestLog.{IsPinpointingLog}
+use Rattle.query_asker.specs.Entry.{Entry}
+use Rattle.query_asker.specs.HonestLog.{IsPinpointingLog}
 use Rattle.job_inputs.specs.declared.status.Status.{Status}
 use Rattle.job_inputs.specs.Questions.{follows, IsQuestion}
 use Rattle.job_inputs.specs.Refusals.{IsRefused, HasBegun}

@@ -1,6 +1,6 @@
 -- The question of a run, once it is read.
 use Rattle.std.specs.Prelude.{ℕ, List}
-use Rattle.ontology_limits.specs.Limits.{IsInLimit}
+use Rattle.job_inputs.specs.Limits.{IsInLimit}
 use Rattle.job_inputs.specs.Asked.{refused_document, refused_query}
 use Rattle.job_inputs.specs.declared.unread.Unread.{Unread}
 use Rattle.job_inputs.specs.declared.unread.Unread.TheVariants as U

@@ -5,9 +5,9 @@ use Rattle.axiom_sets.specs.Sets.{Limited}
 use Rattle.shq_terms.specs.Listed.{Listed}
 use Rattle.shq_terms.specs.declared.axioms.Query.{Query as Asked}
 use Rattle.pinpointing_jobs.specs.SetLists.{heading_line}
-use Rattle.run_log.specs.declared.entry.Entry.{Entry}
-use Rattle.run_log.specs.Entries.{spent_of}
-use Rattle.run_log.specs.HonestLog.{IsJustificationSet, IsPinpointingLog}
+use Rattle.query_asker.specs.Entry.{Entry}
+use Rattle.query_asker.specs.Entries.{spent_of}
+use Rattle.query_asker.specs.HonestLog.{IsJustificationSet, IsPinpointingLog}
 use Rattle.job_inputs.specs.Answer.{line}
 use Rattle.job_inputs.specs.declared.status.Status.{Status}
 use Rattle.pinpointing_jobs.specs.declared.wanted.Wanted.TheVariants.{Justifications, Repairs}

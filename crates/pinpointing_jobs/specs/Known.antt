@@ -9,9 +9,9 @@ use Rattle.pinpointing_specs.specs.Nodes.{AreNodes}
 use Rattle.shq_terms.specs.Listed.{Listed}
 use Rattle.shq_terms.specs.declared.axioms.Query.{Query as Asked}
 use Rattle.pinpointing_specs.specs.LocalModule.{IsLocalModule, of_axioms}
-use Rattle.run_log.specs.declared.entry.Entry.{Entry}
-use Rattle.run_log.specs.Entries.{nodes_of}
-use Rattle.run_log.specs.Shown.{IsShownYes, IsShownNo}
+use Rattle.query_asker.specs.Entry.{Entry}
+use Rattle.query_asker.specs.Entries.{nodes_of}
+use Rattle.query_asker.specs.Shown.{IsShownYes, IsShownNo}
 use Rattle.query_asker.specs.Told.{IsShownNoIn}
 
 -- the log shows that the set is a justification: a test found that the query follows from just its axioms, and for each

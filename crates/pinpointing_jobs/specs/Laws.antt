@@ -3,7 +3,7 @@ use Rattle.std.specs.Prelude.{◌≡◌, ℕ, ◌≤◌, List}
 use Rattle.shq_terms.specs.Listed.{Listed}
 use Rattle.shq_terms.specs.declared.axioms.Query.{Query as Asked}
 use Rattle.workload.specs.WorkloadText.{workload_text}
-use Rattle.run_log.specs.declared.entry.Entry.{Entry}
+use Rattle.query_asker.specs.Entry.{Entry}
 use Rattle.job_inputs.specs.declared.status.Status.TheVariants.{Done}
 use Rattle.pinpointing_jobs.specs.declared.wanted.Wanted.{Wanted}
 use Rattle.job_inputs.specs.Questions.{follows, IsQuestion}

@@ -7,9 +7,9 @@ use Rattle.repair_list.specs.TreeFound.{Found}
 use Rattle.shq_terms.specs.Listed.{Listed}
 use Rattle.shq_terms.specs.declared.axioms.Query.{Query as Asked}
 use Rattle.pinpointing_specs.specs.LocalModule.{IsLocalModule, IsJustification}
-use Rattle.run_log.specs.declared.entry.Entry.{Entry}
-use Rattle.run_log.specs.Entries.{nodes_of}
-use Rattle.run_log.specs.Shown.{IsShownNo}
+use Rattle.query_asker.specs.Entry.{Entry}
+use Rattle.query_asker.specs.Entries.{nodes_of}
+use Rattle.query_asker.specs.Shown.{IsShownNo}
 use Rattle.job_inputs.specs.declared.status.Status.{Status}
 use Rattle.job_inputs.specs.declared.status.Status.TheVariants.{Done}
 use Rattle.pinpointing_jobs.specs.declared.wanted.Wanted.{Wanted}

@@ -5,15 +5,15 @@ use Rattle.axiom_sets.specs.Sets.{Limited, IsWithin}
 use Rattle.pinpointing_specs.specs.Smallest.{rest, IsExplored}
 use Rattle.pinpointing_specs.specs.Order.{IsAscending}
 use Rattle.pinpointing_specs.specs.Nodes.{AreNodes, AreSettled}
-use Rattle.set_questions.specs.InOrder.{HaveOneLimit}
+use Rattle.query_asker.specs.InOrder.{HaveOneLimit}
 use Rattle.repair_list.specs.TreeFound.{Found}
 use Rattle.shq_terms.specs.Listed.{Listed}
 use Rattle.shq_terms.specs.declared.axioms.Query.{Query as Asked}
 use Rattle.pinpointing_specs.specs.LocalModule.{FollowsFrom}
-use Rattle.run_log.specs.declared.entry.Entry.{Entry}
-use Rattle.run_log.specs.Entries.{spent_of, nodes_of}
-use Rattle.run_log.specs.HonestLog.{IsJustificationSet, IsPinpointingLog}
-use Rattle.run_log.specs.Shown.{ShowsPinpointing}
+use Rattle.query_asker.specs.Entry.{Entry}
+use Rattle.query_asker.specs.Entries.{spent_of, nodes_of}
+use Rattle.query_asker.specs.HonestLog.{IsJustificationSet, IsPinpointingLog}
+use Rattle.query_asker.specs.Shown.{ShowsPinpointing}
 use Rattle.pinpointing_jobs.specs.Known.{HasAllShown, LeavesSomeOpen}
 
 -- a leaf: a set of axioms of the ontology without which the query does not follow

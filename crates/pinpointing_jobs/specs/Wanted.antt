@@ -8,10 +8,10 @@ use Rattle.pinpointing_specs.specs.Order.{IsAscending}
 use Rattle.shq_terms.specs.Listed.{Listed}
 use Rattle.shq_terms.specs.declared.axioms.Query.{Query as Asked}
 use Rattle.pinpointing_specs.specs.LocalModule.{of_axioms, IsRepair}
-use Rattle.run_log.specs.declared.entry.Entry.{Entry}
-use Rattle.run_log.specs.Entries.{nodes_of}
-use Rattle.run_log.specs.HonestLog.{IsJustificationSet}
-use Rattle.run_log.specs.Shown.{ShowsPinpointing}
+use Rattle.query_asker.specs.Entry.{Entry}
+use Rattle.query_asker.specs.Entries.{nodes_of}
+use Rattle.query_asker.specs.HonestLog.{IsJustificationSet}
+use Rattle.query_asker.specs.Shown.{ShowsPinpointing}
 use Rattle.pinpointing_jobs.specs.Known.{AreKnown}
 use Rattle.pinpointing_jobs.specs.declared.wanted.Wanted.{Wanted}
 use Rattle.pinpointing_jobs.specs.declared.wanted.Wanted.TheVariants.{Justifications, Repairs}

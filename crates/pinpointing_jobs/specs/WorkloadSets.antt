@@ -8,7 +8,7 @@ use Rattle.shq_terms.specs.declared.axioms.Query.{Query as Asked}
 use Rattle.pinpointing_specs.specs.LocalModule.{FollowsFrom, of_axioms}
 use Rattle.workload.specs.WorkloadText.{workload_text}
 use Rattle.workload.specs.WorkloadAxioms.{workload_axioms}
-use Rattle.run_log.specs.declared.entry.Entry.{Entry}
+use Rattle.query_asker.specs.Entry.{Entry}
 use Rattle.job_inputs.specs.declared.status.Status.TheVariants.{Done}
 use Rattle.job_inputs.specs.Questions.{follows, IsQuestion}
 use Rattle.pinpointing_jobs.specs.declared.wanted.Wanted.TheVariants.{Justifications, Repairs}

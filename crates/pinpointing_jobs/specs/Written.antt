@@ -3,7 +3,7 @@ use Rattle.std.specs.Prelude.{◌≡◌, ◌++◌, ℕ, Bool, true, false, List,
 use Rattle.std.specs.List.{All, Contains}
 use Rattle.axiom_sets.specs.Sets.{Limited}
 use Rattle.pinpointing_specs.specs.Order.{IsAscending}
-use Rattle.set_questions.specs.InOrder.{HaveOneLimit}
+use Rattle.query_asker.specs.InOrder.{HaveOneLimit}
 use Rattle.repair_list.specs.TreeFound.{Found}
 use Rattle.repair_list.specs.Alone.{AreRepairs}
 use Rattle.shq_terms.specs.Listed.{Listed}

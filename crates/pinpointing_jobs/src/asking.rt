@@ -4,9 +4,9 @@ ghost use Rattle.job_inputs.specs.Questions.{question_text, IsDocumentAlone};
 ghost use Rattle.pinpointing_jobs.specs.Asked.{IsInputOf, IsNoInputOf, IsInput, IsNoInput};
 
 use job_inputs::{Question, Unread, read_document, read_question};
-use ofn_reader::Context;
 use shq_terms::{Ontology, Query};
 use std::alloc::Global;
+use workload::Context;
 
 /// An ontology and a query on it.
 #[derive(Drop)]

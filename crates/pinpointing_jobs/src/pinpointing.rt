@@ -1,10 +1,10 @@
 // From the question and the bytes of a document to the list of its sets.
 ghost use Rattle.std.specs.Prelude.{◌≡◌, ◌≤◌, false, [], IfOk, IfErr, OnErr, length};
-ghost use Rattle.ontology_limits.specs.Limits.{IsInLimit};
+ghost use Rattle.job_inputs.specs.Limits.{IsInLimit};
 ghost use Rattle.job_inputs.specs.Answer.{text_bytes, is_fault};
 ghost use Rattle.job_inputs.specs.Questions.{follows};
 ghost use Rattle.job_inputs.specs.Refusals.{IsUnanswered};
-ghost use Rattle.run_log.specs.HonestLog.{IsPinpointingLog};
+ghost use Rattle.query_asker.specs.HonestLog.{IsPinpointingLog};
 ghost use Rattle.pinpointing_jobs.specs.Begun.{HasSearched};
 ghost use Rattle.pinpointing_jobs.specs.Listings.{IsListAnswer};
 ghost use Rattle.pinpointing_jobs.specs.Answers.{IsPinpointed, AnswersPinpointing};
@@ -13,7 +13,7 @@ use crate::asking::{Input, read_input};
 use crate::searching::search;
 use crate::{Wanted, list_answer};
 use job_inputs::{Status, Text, Unread, unread_reply};
-use run_log::RunLog;
+use query_asker::RunLog;
 use shq_terms::{NoMemory, Ontology, Query};
 use std::alloc::Global;
 

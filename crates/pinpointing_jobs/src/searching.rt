@@ -1,9 +1,9 @@
 // The search for justifications and repairs.
 ghost use Rattle.std.specs.Prelude.{◌≡◌, [], false, length, IfOk, OnErr};
 ghost use Rattle.std.specs.List.{list_any};
-ghost use Rattle.ontology_limits.specs.Limits.{IsInLimit};
+ghost use Rattle.job_inputs.specs.Limits.{IsInLimit};
 ghost use Rattle.pinpointing_specs.specs.LocalModule.{IsLocalModule};
-ghost use Rattle.run_log.specs.Entries.{is_spent};
+ghost use Rattle.query_asker.specs.Entries.{is_spent};
 ghost use Rattle.query_asker.specs.Told.{AreTestsOfOthers};
 ghost use Rattle.pinpointing_jobs.specs.Searched.{IsSearched};
 ghost use Rattle.pinpointing_jobs.specs.Begun.{HasSearched};
@@ -11,9 +11,8 @@ ghost use Rattle.pinpointing_jobs.specs.Gained.{GainsSearch, GainsBegun};
 
 use axiom_sets::AxiomSet;
 use module_extract::module;
-use query_asker::{Asker, Oracle};
+use query_asker::{Asker, Oracle, RunLog};
 use repair_list::{Found, enumerate};
-use run_log::RunLog;
 use shq_terms::{NoMemory, Ontology, Query};
 use std::alloc::Global;
 use std::mem;

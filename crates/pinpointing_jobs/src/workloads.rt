@@ -1,13 +1,13 @@
 // The numbers of the sets of a generated document.
 ghost use Rattle.std.specs.Prelude.{◌≡◌, ◌≤◌, false, [], IfOk, OnErr};
-ghost use Rattle.ontology_limits.specs.Limits.{IsInLimit};
+ghost use Rattle.job_inputs.specs.Limits.{IsInLimit};
 ghost use Rattle.workload.specs.WorkloadText.{workload_text};
 ghost use Rattle.job_inputs.specs.Answer.{text_bytes, is_fault};
 ghost use Rattle.job_inputs.specs.Questions.{follows};
 ghost use Rattle.job_inputs.specs.Refusals.{HasBegun};
 ghost use Rattle.pinpointing_jobs.specs.Counts.{IsCounted};
 ghost use Rattle.pinpointing_jobs.specs.Asked.{IsInput, IsNoInput};
-ghost use Rattle.run_log.specs.HonestLog.{IsPinpointingLog};
+ghost use Rattle.query_asker.specs.HonestLog.{IsPinpointingLog};
 ghost use Rattle.pinpointing_jobs.specs.Begun.{HasSearched};
 ghost use Rattle.pinpointing_jobs.specs.Answers.{workload_query, IsMeasured, AnswersWorkload};
 
@@ -15,7 +15,7 @@ use crate::asking::{Input, read_input};
 use crate::count_answer;
 use crate::searching::search;
 use job_inputs::{Status, Text, Unread};
-use run_log::RunLog;
+use query_asker::RunLog;
 use shq_terms::{NoMemory, Ontology, Query};
 use std::alloc::Global;
 use workload::{QUERY, generate};

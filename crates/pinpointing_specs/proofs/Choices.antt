@@ -7,8 +7,8 @@ use Rattle.std.specs.Ordering.{nat_cmp, eq_by_cmp}
 use Rattle.std.specs.FinSet as set
 use Rattle.std.proofs.lemmas.Bool.{cases_Bool, false≢true, true≢false, and_parts, ne_eqb, cases_eq}
 use Rattle.std.proofs.lemmas.List.Elements.{Contains-append_right, Contains-append_cases}
-use Rattle.lane_sieve.specs.Sets.{NumberSet, IsPart, DoMeet}
-use Rattle.lane_sieve.proofs.Bits.{contains_insert, contains_remove}
+use Rattle.axiom_sets.specs.NumberSets.{NumberSet, IsPart, DoMeet}
+use Rattle.axiom_sets.proofs.Bits.{contains_insert, contains_remove}
 use Rattle.axiom_sets.specs.Sets.{Limited}
 use Rattle.pinpointing_specs.specs.Smallest.{numbers_to, rest}
 

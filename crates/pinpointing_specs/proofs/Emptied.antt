@@ -8,15 +8,15 @@ use Rattle.std.proofs.lemmas.Bool.{and_parts, and_from, and_left, and_right, or_
 use Rattle.std.proofs.lemmas.Bool.{not-true, leb-true, le-leb, lt-leb, eq-eqb, ne_eqb, true≢false}
 use Rattle.std.proofs.lemmas.List.Folds.{list_all-append}
 use Rattle.std.proofs.lemmas.List.Sums.{sum_by-cons}
-use Rattle.shq_terms.specs.Concept.{Concept, top, bottom, name, complement, intersection, union, some_of, all_of}
-use Rattle.shq_terms.specs.Concept.{at_least, at_most, exactly, Parts, no_parts, part, parts_of}
-use Rattle.shq_terms.specs.declared.axioms.Axiom.{Axiom}
-use Rattle.shq_terms.specs.declared.axioms.Axiom.TheVariants.{SubClassOf, EquivalentClasses, DisjointClasses}
-use Rattle.shq_terms.specs.declared.axioms.Axiom.TheVariants.{DisjointUnion, SubRole, EquivalentRoles, Domain, Range}
-use Rattle.shq_terms.specs.declared.axioms.Axiom.TheVariants.{Functional, Transitive, Member, Pair, SameAll, Different}
-use Rattle.shq_terms.specs.declared.axioms.On.{On}
-use Rattle.shq_terms.specs.declared.axioms.On.TheVariants.{Any, Individual}
-use Rattle.shq_terms.specs.declared.axioms.Query.{Query}
+use Rattle.shq_meaning.specs.Concept.{Concept, top, bottom, name, complement, intersection, union, some_of, all_of}
+use Rattle.shq_meaning.specs.Concept.{at_least, at_most, exactly, Parts, no_parts, part, parts_of}
+use Rattle.shq_meaning.specs.Axiom.{Axiom}
+use Rattle.shq_meaning.specs.Axiom.TheVariants.{SubClassOf, EquivalentClasses, DisjointClasses}
+use Rattle.shq_meaning.specs.Axiom.TheVariants.{DisjointUnion, SubRole, EquivalentRoles, Domain, Range}
+use Rattle.shq_meaning.specs.Axiom.TheVariants.{Functional, Transitive, Member, Pair, SameAll, Different}
+use Rattle.shq_meaning.specs.On.{On}
+use Rattle.shq_meaning.specs.On.TheVariants.{Any, Individual}
+use Rattle.shq_meaning.specs.Query.{Query}
 use Rattle.shq_meaning.specs.Below.{all_below, count_below}
 use Rattle.shq_meaning.specs.Truth.{Interpretation, implies, same, successors, each_successor, holds, hold_all}
 use Rattle.shq_meaning.specs.Truth.{hold_any, all_same, none_twice, included, out_degree, differs_from_all}

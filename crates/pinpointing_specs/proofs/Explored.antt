@@ -3,7 +3,7 @@ use Rattle.std.proofs.Common.{◌≡◌, ℕ, ◌≤◌, true, false, List, ◌�
 use Rattle.std.specs.List.{Contains}
 use Rattle.std.specs.FinSet as set
 use Rattle.std.proofs.lemmas.Bool.{cases_Bool, true≢false, cases_eq}
-use Rattle.lane_sieve.specs.Sets.{NumberSet, IsPart, DoMeet}
+use Rattle.axiom_sets.specs.NumberSets.{NumberSet, IsPart, DoMeet}
 use Rattle.axiom_sets.specs.Sets.{Limited}
 use Rattle.axiom_sets.proofs.Same.{set_of_parts, same_limited}
 use Rattle.pinpointing_specs.specs.Smallest.{rest, without, Grows, IsMinimalYes, IsMinimalRemoval, IsHitAlone, HasPart}

@@ -4,9 +4,9 @@ use Rattle.std.proofs.Common.{arith}
 use Rattle.std.specs.Prelude.{slice_get, if◌then◌else◌}
 use Rattle.std.specs.List.{Contains}
 use Rattle.std.specs.FinSet as set
-use Rattle.lane_sieve.specs.Sets.{NumberSet}
-use Rattle.shq_terms.specs.declared.axioms.Axiom.{Axiom}
-use Rattle.shq_terms.specs.declared.axioms.Numbered.{Numbered}
+use Rattle.axiom_sets.specs.NumberSets.{NumberSet}
+use Rattle.shq_meaning.specs.Axiom.{Axiom}
+use Rattle.shq_meaning.specs.Numbered.{Numbered}
 use Rattle.pinpointing_specs.specs.LocalModule.{axioms_from, axioms_in_set}
 
 -- the axiom stands at a place whose number, from k on, is in the set

@@ -4,11 +4,11 @@ use Rattle.std.specs.Cmp.{nat_cmp_total}
 use Rattle.std.specs.List.{list_all, Contains}
 use Rattle.std.specs.FinSet as set
 use Rattle.std.proofs.lemmas.Bool.{and_parts, and_from, true≢false, true_from_ne_false, cases_eq, ne_eqb}
-use Rattle.lane_sieve.specs.Sets.{NumberSet, IsPart}
-use Rattle.lane_sieve.proofs.Bits.{contains_remove}
-use Rattle.shq_terms.specs.declared.axioms.Axiom.{Axiom}
-use Rattle.shq_terms.specs.declared.axioms.Numbered.{Numbered}
-use Rattle.shq_terms.specs.declared.axioms.Query.{Query}
+use Rattle.axiom_sets.specs.NumberSets.{NumberSet, IsPart}
+use Rattle.axiom_sets.proofs.Bits.{contains_remove}
+use Rattle.shq_meaning.specs.Axiom.{Axiom}
+use Rattle.shq_meaning.specs.Numbered.{Numbered}
+use Rattle.shq_meaning.specs.Query.{Query}
 use Rattle.shq_meaning.specs.Truth.{Interpretation, meets, meets_all}
 use Rattle.shq_meaning.proofs.Members.{member_passes, all_pass}
 use Rattle.pinpointing_specs.specs.declared.module_laws.Name.{Name}

@@ -6,10 +6,10 @@ use Rattle.std.specs.List.{list_all, flat_map, Contains}
 use Rattle.std.specs.FinSet as set
 use Rattle.std.proofs.lemmas.Bool.{eqb-true, or_left, or_right, or_cases}
 use Rattle.std.proofs.lemmas.List.Folds.{list_any-append}
-use Rattle.lane_sieve.specs.Sets.{NumberSet, IsPart}
-use Rattle.shq_terms.specs.declared.axioms.Axiom.{Axiom}
-use Rattle.shq_terms.specs.declared.axioms.Numbered.{Numbered}
-use Rattle.shq_terms.specs.declared.axioms.Query.{Query}
+use Rattle.axiom_sets.specs.NumberSets.{NumberSet, IsPart}
+use Rattle.shq_meaning.specs.Axiom.{Axiom}
+use Rattle.shq_meaning.specs.Numbered.{Numbered}
+use Rattle.shq_meaning.specs.Query.{Query}
 use Rattle.shq_meaning.proofs.Members.{all_pass}
 use Rattle.pinpointing_specs.specs.declared.module_laws.Name.{Name}
 use Rattle.pinpointing_specs.specs.declared.module_laws.Name.TheVariants.{Class, Role}

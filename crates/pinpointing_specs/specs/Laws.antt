@@ -1,7 +1,7 @@
 -- What two explored lists are, for a claim that each superset keeps.
 use Rattle.std.specs.Prelude.{◌≡◌, ℕ, List, ◌↔◌}
 use Rattle.std.specs.List.{Contains}
-use Rattle.lane_sieve.specs.Sets.{NumberSet}
+use Rattle.axiom_sets.specs.NumberSets.{NumberSet}
 use Rattle.axiom_sets.specs.Sets.{Limited}
 use Rattle.pinpointing_specs.specs.Smallest.{Grows, IsMinimalYes, IsMinimalRemoval, IsHitAlone, IsExplored}
 

@@ -6,3 +6,7 @@ pub mod Signature
 pub mod Local
 pub mod LocalModule
 pub mod ModuleLaws
+pub use Rattle.axiom_sets.specs.Sets
+pub use Rattle.shq_meaning.specs.Truth
+pub use Rattle.shq_meaning.specs.Below
+pub use Rattle.axiom_sets.specs.NumberSets

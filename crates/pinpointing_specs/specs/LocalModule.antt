@@ -2,12 +2,12 @@
 use Rattle.std.specs.Prelude.{◌≡◌, ℕ, ◌+◌, true, false, Some, List, [], ◌∷◌, ◌++◌, length, slice_get, if◌then◌else◌}
 use Rattle.std.specs.List.{flat_map}
 use Rattle.std.specs.FinSet as set
-use Rattle.lane_sieve.specs.Sets.{NumberSet, IsPart}
+use Rattle.axiom_sets.specs.NumberSets.{NumberSet, IsPart}
 use Rattle.axiom_sets.specs.Sets.{Limited, IsWithin}
 use Rattle.pinpointing_specs.specs.Smallest.{IsMinimalYes, IsMinimalRemoval}
-use Rattle.shq_terms.specs.declared.axioms.Axiom.{Axiom}
-use Rattle.shq_terms.specs.declared.axioms.Numbered.{Numbered}
-use Rattle.shq_terms.specs.declared.axioms.Query.{Query}
+use Rattle.shq_meaning.specs.Axiom.{Axiom}
+use Rattle.shq_meaning.specs.Numbered.{Numbered}
+use Rattle.shq_meaning.specs.Query.{Query}
 use Rattle.shq_meaning.specs.Truth.{Entails}
 use Rattle.pinpointing_specs.specs.declared.module_laws.Name.{Name}
 use Rattle.pinpointing_specs.specs.Signature.{is_among, axiom_names, query_names}

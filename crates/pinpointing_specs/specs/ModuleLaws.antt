@@ -1,10 +1,10 @@
 -- What local modules are good for.
 use Rattle.std.specs.Prelude.{◌≡◌, ◌↔◌, List}
 use Rattle.std.specs.FinSet as set
-use Rattle.lane_sieve.specs.Sets.{NumberSet, IsPart}
+use Rattle.axiom_sets.specs.NumberSets.{NumberSet, IsPart}
 use Rattle.pinpointing_specs.specs.Smallest.{Grows}
-use Rattle.shq_terms.specs.declared.axioms.Numbered.{Numbered}
-use Rattle.shq_terms.specs.declared.axioms.Query.{Query}
+use Rattle.shq_meaning.specs.Numbered.{Numbered}
+use Rattle.shq_meaning.specs.Query.{Query}
 use Rattle.pinpointing_specs.specs.LocalModule.{IsLocalModule, FollowsFrom, IsJustification}
 
 -- a query has one local module at most

@@ -2,7 +2,7 @@
 use Rattle.std.specs.Prelude.{◌≡◌, ℕ, zero, suc, ◌+◌, true, false, List}
 use Rattle.std.specs.FinSet as set
 use Rattle.std.specs.List.{Contains}
-use Rattle.lane_sieve.specs.Sets.{NumberSet, IsPart, DoMeet}
+use Rattle.axiom_sets.specs.NumberSets.{NumberSet, IsPart, DoMeet}
 use Rattle.axiom_sets.specs.Sets.{Limited, IsWithin}
 
 -- the set of the numbers from 1 to n

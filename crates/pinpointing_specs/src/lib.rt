@@ -18,13 +18,14 @@ mod module_laws;
 
 ghost use Rattle.pinpointing_specs.specs.Laws.{ListedAreMinimalYes, HitAloneAreMinimalRemovals};
 
+pub use axiom_sets::AxiomSet;
 pub use module_laws::{
     Name, following_grows, modules_are_unique, modules_hold_justifications, modules_keep_entailment,
 };
 
 /// A claim about sets of numbers.
 pub trait Claim {
-    ghost use Rattle.lane_sieve.specs.Sets.{NumberSet};
+    ghost use Rattle.axiom_sets.specs.NumberSets.{NumberSet};
 
     ghost holds: { NumberSet → Type 0 };
 }

@@ -17,13 +17,13 @@ use Rattle.set_questions.specs.Asked.{Answers, IsUnknownIf, ShowsNoOther}
 use Rattle.set_questions.specs.declared.entail.Reply.{Reply}
 use Rattle.set_questions.specs.declared.entail.Reply.TheVariants.{Yes, No, Spent}
 use Rattle.pinpointing_specs.proofs.Kept.{grows, intersection_part}
-use Rattle.run_log.specs.declared.entry.Entry.{Entry}
-use Rattle.run_log.specs.declared.entry.Entry.TheVariants.{Test, Node}
-use Rattle.run_log.specs.declared.entry.TestEnd.TheVariants as E
-use Rattle.run_log.specs.Entries.{cost_of, spent_of, AnswersQuery, IsAnswered}
-use Rattle.run_log.specs.HonestLog.{IsHonestEntry, EachIsHonest, IsTestOf, FollowsIn}
-use Rattle.run_log.specs.Shown.{IsShownYes}
-use Rattle.run_log.proofs.Named.{follows_from}
+use Rattle.shq_oracle.specs.Entry.{Entry}
+use Rattle.shq_oracle.specs.Entry.TheVariants.{Test, Node}
+use Rattle.shq_oracle.specs.TestEnd.TheVariants as E
+use Rattle.shq_oracle.specs.Entries.{cost_of, spent_of, AnswersQuery, IsAnswered}
+use Rattle.shq_oracle.specs.HonestLog.{IsHonestEntry, EachIsHonest, IsTestOf, FollowsIn}
+use Rattle.shq_oracle.specs.Shown.{IsShownYes}
+use Rattle.shq_oracle.proofs.Named.{follows_from}
 use Rattle.query_asker.specs.AskerLists.{AskerLists}
 use Rattle.query_asker.specs.Told.{IsShownNoIn, asker_meaning, IsAskerLog, part_in, IsUnknown}
 use Rattle.query_asker.specs.Memory.{yes_of, no_of, yes_sets, no_sets, Recalls}

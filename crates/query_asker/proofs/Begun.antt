@@ -7,10 +7,10 @@ use Rattle.std.proofs.lemmas.List.{append-nil}
 use Rattle.std.proofs.lemmas.List.Elements.{All-nil}
 use Rattle.axiom_sets.specs.Sets.{Limited}
 use Rattle.shq_terms.specs.declared.axioms.Query.{Query}
-use Rattle.ontology_limits.specs.Limits.{IsInLimit}
-use Rattle.run_log.specs.declared.entry.Entry.{Entry}
-use Rattle.run_log.specs.Entries.{spent_of, is_spent}
-use Rattle.run_log.specs.HonestLog.{IsHonestEntry, EndsWhenSpent, IsTestOf, AsksNoAnswer, IsTestIn}
+use Rattle.shq_oracle.specs.Limits.{IsInLimit}
+use Rattle.shq_oracle.specs.Entry.{Entry}
+use Rattle.shq_oracle.specs.Entries.{spent_of, is_spent}
+use Rattle.shq_oracle.specs.HonestLog.{IsHonestEntry, EndsWhenSpent, IsTestOf, AsksNoAnswer, IsTestIn}
 use Rattle.shq_oracle.specs.OracleLists.{OracleLists}
 use Rattle.query_asker.specs.declared.memo.Memo.{Memo}
 use Rattle.query_asker.specs.AskerLists.{AskerLists}

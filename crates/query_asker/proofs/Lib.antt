@@ -4,3 +4,4 @@ pub mod Remembered
 pub mod Answering
 pub mod Tested
 pub mod Begun
+pub use Rattle.set_questions.proofs.Ordered

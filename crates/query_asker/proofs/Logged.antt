@@ -8,10 +8,10 @@ use Rattle.std.proofs.lemmas.List.Elements.{All-push}
 use Rattle.std.proofs.lemmas.List.Folds.{list_any-append}
 use Rattle.std.proofs.lemmas.List.Sums.{sum_by_push}
 use Rattle.set_questions.specs.Meaning.{one_more}
-use Rattle.run_log.specs.declared.entry.Entry.{Entry}
-use Rattle.run_log.specs.declared.entry.Entry.TheVariants.{Test, Node}
-use Rattle.run_log.specs.Entries.{spent_of, is_test, test_count, is_spent, IsAnswered}
-use Rattle.run_log.specs.HonestLog.{IsHonestEntry, EndsWhenSpent, IsTestOf, AsksNoAnswer, IsTestIn}
+use Rattle.shq_oracle.specs.Entry.{Entry}
+use Rattle.shq_oracle.specs.Entry.TheVariants.{Test, Node}
+use Rattle.shq_oracle.specs.Entries.{spent_of, is_test, test_count, is_spent, IsAnswered}
+use Rattle.shq_oracle.specs.HonestLog.{IsHonestEntry, EndsWhenSpent, IsTestOf, AsksNoAnswer, IsTestIn}
 use Rattle.query_asker.specs.AskerLists.{AskerLists}
 use Rattle.query_asker.specs.Told.{IsAskerLog}
 

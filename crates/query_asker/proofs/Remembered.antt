@@ -16,9 +16,9 @@ use Rattle.set_questions.specs.declared.antichain.Kind.{Kind}
 use Rattle.set_questions.specs.declared.antichain.Kind.TheVariants.{Minimal, Maximal}
 use Rattle.set_questions.specs.InOrder.{HaveOneLimit}
 use Rattle.shq_terms.specs.declared.axioms.Query.{Query}
-use Rattle.run_log.specs.declared.entry.Entry.{Entry}
-use Rattle.run_log.specs.declared.entry.Entry.TheVariants.{Test, Node}
-use Rattle.run_log.specs.declared.entry.TestEnd.TheVariants.{Yes, No, Spent}
+use Rattle.shq_oracle.specs.Entry.{Entry}
+use Rattle.shq_oracle.specs.Entry.TheVariants.{Test, Node}
+use Rattle.shq_oracle.specs.TestEnd.TheVariants.{Yes, No, Spent}
 use Rattle.query_asker.specs.Memory.{yes_of, no_of, yes_sets, no_sets, KeepsWithAll, IsInSome}
 
 none_in : {X : Type 0} (x : X) → ¬ Contains {X = X} [] x

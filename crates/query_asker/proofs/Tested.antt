@@ -15,13 +15,13 @@ use Rattle.set_questions.specs.Meaning.{ShowsTheSame, one_more}
 use Rattle.set_questions.specs.Asked.{Answers, ShowsNoOther, Takes}
 use Rattle.set_questions.specs.declared.entail.Reply.{Reply}
 use Rattle.set_questions.specs.declared.entail.Reply.TheVariants.{Yes}
-use Rattle.run_log.specs.declared.entry.Entry.{Entry}
-use Rattle.run_log.specs.declared.entry.Entry.TheVariants.{Test, Node}
-use Rattle.run_log.specs.declared.entry.TestEnd.{TestEnd}
-use Rattle.run_log.specs.declared.entry.TestEnd.TheVariants as E
-use Rattle.run_log.specs.Entries.{cost_of, spent_of, nodes_of, is_spent, ended_spent, AnswersQuery, IsAnswered}
-use Rattle.run_log.specs.HonestLog.{IsAxiomSet, IsHonestEnd, EndsWhenSpent}
-use Rattle.run_log.specs.Shown.{IsShownYes}
+use Rattle.shq_oracle.specs.Entry.{Entry}
+use Rattle.shq_oracle.specs.Entry.TheVariants.{Test, Node}
+use Rattle.shq_oracle.specs.TestEnd.{TestEnd}
+use Rattle.shq_oracle.specs.TestEnd.TheVariants as E
+use Rattle.shq_oracle.specs.Entries.{cost_of, spent_of, nodes_of, is_spent, ended_spent, AnswersQuery, IsAnswered}
+use Rattle.shq_oracle.specs.HonestLog.{IsAxiomSet, IsHonestEnd, EndsWhenSpent}
+use Rattle.shq_oracle.specs.Shown.{IsShownYes}
 use Rattle.shq_oracle.specs.OracleLists.{OracleLists}
 use Rattle.shq_oracle.specs.Decided.{EndsAs, AddsTest, SpendsAll, TakesNode}
 use Rattle.shq_oracle.specs.declared.answer.Outcome.{Outcome}

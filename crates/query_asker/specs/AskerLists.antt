@@ -5,7 +5,7 @@ use Rattle.std.specs.Coded.{Coded, coded_ℕ}
 use Rattle.lane_sieve.specs.Sets.{NumberSet}
 use Rattle.shq_terms.specs.Listed.{Listed}
 use Rattle.shq_terms.specs.declared.axioms.Query.{Query}
-use Rattle.run_log.specs.declared.entry.Entry.{Entry}
+use Rattle.shq_oracle.specs.Entry.{Entry}
 
 -- the ontology, the query, the budget of steps and nodes, the axioms among which it asks, the entries that the log
 -- had before and those that it gained, and how many asks were answered

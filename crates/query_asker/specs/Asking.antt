@@ -6,13 +6,13 @@ use Rattle.axiom_sets.specs.Sets.{Limited}
 use Rattle.pinpointing_specs.specs.Smallest.{numbers_to}
 use Rattle.shq_terms.specs.Listed.{Listed}
 use Rattle.shq_terms.specs.declared.axioms.Query.{Query}
-use Rattle.ontology_limits.specs.Limits.{IsInLimit}
+use Rattle.shq_oracle.specs.Limits.{IsInLimit}
 use Rattle.pinpointing_specs.specs.LocalModule.{FollowsFrom}
 use Rattle.set_questions.specs.Asked.{Answers}
 use Rattle.set_questions.specs.declared.entail.Reply.{Reply}
 use Rattle.set_questions.specs.declared.entail.Reply.TheVariants.{Yes, No, Spent}
-use Rattle.run_log.specs.declared.entry.Entry.{Entry}
-use Rattle.run_log.specs.Entries.{IsAnswered}
+use Rattle.shq_oracle.specs.Entry.{Entry}
+use Rattle.shq_oracle.specs.Entries.{IsAnswered}
 use Rattle.shq_oracle.specs.OracleLists.{OracleLists}
 use Rattle.shq_oracle.specs.declared.answer.Outcome.{Outcome}
 use Rattle.shq_oracle.specs.declared.answer.Outcome.TheVariants as Found

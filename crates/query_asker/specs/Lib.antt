@@ -7,3 +7,9 @@ pub use Rattle.shq_oracle.specs.OracleLists
 pub use Rattle.shq_oracle.specs.Decided
 pub use Rattle.shq_oracle.specs.declared.answer.Answer
 pub use Rattle.shq_oracle.specs.declared.answer.Outcome
+pub use Rattle.set_questions.specs.InOrder
+pub use Rattle.shq_oracle.specs.HonestLog
+pub use Rattle.shq_oracle.specs.Entries
+pub use Rattle.shq_oracle.specs.Entry
+pub use Rattle.shq_oracle.specs.Shown
+pub use Rattle.shq_oracle.specs.TestEnd

@@ -12,12 +12,12 @@ use Rattle.set_questions.specs.declared.entail.Reply.{Reply}
 use Rattle.set_questions.specs.declared.entail.Reply.TheVariants.{Yes, No as NoReply, Spent}
 use Rattle.pinpointing_specs.specs.LocalModule.{FollowsFrom, IsLocalModule}
 use Rattle.pinpointing_specs.proofs.Kept.{grows}
-use Rattle.run_log.specs.declared.entry.Entry.{Entry}
-use Rattle.run_log.specs.declared.entry.Entry.TheVariants.{Test, Node}
-use Rattle.run_log.specs.declared.entry.TestEnd.TheVariants.{No}
-use Rattle.run_log.specs.Entries.{spent_of, nodes_of, test_count, IsAnswered}
-use Rattle.run_log.specs.HonestLog.{EachIsHonest, EndsWhenSpent, AreTestsOf, AsksNoAnswer, IsTestIn}
-use Rattle.run_log.specs.Shown.{IsShownYes}
+use Rattle.shq_oracle.specs.Entry.{Entry}
+use Rattle.shq_oracle.specs.Entry.TheVariants.{Test, Node}
+use Rattle.shq_oracle.specs.TestEnd.TheVariants.{No}
+use Rattle.shq_oracle.specs.Entries.{spent_of, nodes_of, test_count, IsAnswered}
+use Rattle.shq_oracle.specs.HonestLog.{EachIsHonest, EndsWhenSpent, AreTestsOf, AsksNoAnswer, IsTestIn}
+use Rattle.shq_oracle.specs.Shown.{IsShownYes}
 use Rattle.query_asker.specs.AskerLists.{AskerLists}
 
 -- the query follows from some of the axioms just where it follows from those of them that are in m

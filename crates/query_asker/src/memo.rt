@@ -4,14 +4,14 @@ ghost use Rattle.std.specs.List.{All, Contains};
 ghost use Rattle.axiom_sets.specs.Sets.{Limited};
 ghost use Rattle.set_questions.specs.Kept.{kind_of, kept_sets};
 ghost use Rattle.set_questions.specs.InOrder.{HaveOneLimit};
-ghost use Rattle.run_log.specs.declared.entry.Entry.{Entry as PlainEntry};
+ghost use Rattle.shq_oracle.specs.Entry.{Entry as PlainEntry};
 ghost use Rattle.query_asker.specs.Memory.{yes_by, no_by, yes_of, no_of, yes_sets, no_sets, IsMemo, KeepsWithAll};
 ghost use Rattle.query_asker.specs.Memory.{IsInSome, Recalls};
 
 use crate::NoMemory;
 use axiom_sets::AxiomSet;
-use run_log::{Entry, TestEnd};
 use set_questions::{Antichain, Reply, place_of_part};
+use shq_oracle::{Entry, TestEnd};
 use std::alloc::Global;
 
 /// What the entries of a log found, as far as they were seen: the smallest sets of axioms from which the query

@@ -12,11 +12,11 @@ use Rattle.shq_terms.specs.declared.axioms.On.TheVariants.{Any, Individual}
 use Rattle.shq_meaning.specs.Truth.{Entails}
 use Rattle.refutation_truth.specs.Theory.{all_axioms}
 use Rattle.ontology_limits.specs.Limits.{IsOntologyInLimit, IsInLimit}
-use Rattle.run_log.specs.declared.entry.Entry.{Entry}
-use Rattle.run_log.specs.declared.entry.Entry.TheVariants.{Test, Node}
-use Rattle.run_log.specs.declared.entry.TestEnd.{TestEnd}
-use Rattle.run_log.specs.HonestLog.{IsWhole, IsClassTest, IsClassificationLog}
-use Rattle.shq_oracle.specs.OracleLists.{OracleLists}
+use Rattle.subsumption.specs.Entry.{Entry}
+use Rattle.subsumption.specs.Entry.TheVariants.{Test, Node}
+use Rattle.subsumption.specs.TestEnd.{TestEnd}
+use Rattle.subsumption.specs.HonestLog.{IsWhole, IsClassTest, IsClassificationLog}
+use Rattle.subsumption.specs.OracleLists.{OracleLists}
 use Rattle.subsumption.specs.Rows.{Rows, holds}
 use Rattle.subsumption.specs.Subsumption.{class_at}
 use Rattle.subsumption.specs.Settled.{IsSettled}

@@ -10,13 +10,13 @@ use Rattle.shq_terms.specs.declared.axioms.Query.{Query}
 use Rattle.shq_terms.proofs.Bools.{none_outside}
 use Rattle.shq_meaning.specs.Truth.{holds, Entails}
 use Rattle.refutation_truth.specs.Theory.{all_axioms}
-use Rattle.run_log.specs.declared.entry.Entry.{Entry}
-use Rattle.run_log.specs.declared.entry.Entry.TheVariants.{Test, Node}
-use Rattle.run_log.specs.declared.entry.TestEnd.TheVariants.{Yes}
-use Rattle.run_log.specs.HonestLog.{IsHonestEntry, EachIsHonest, IsClassTest, IsClass, IsStep, IsChain}
-use Rattle.run_log.specs.HonestLog.{IsClassificationLog}
-use Rattle.run_log.specs.HonestLog.IsStep.{by_test, in_top, of_bottom}
-use Rattle.run_log.specs.HonestLog.IsChain.{none, onward}
+use Rattle.subsumption.specs.Entry.{Entry}
+use Rattle.subsumption.specs.Entry.TheVariants.{Test, Node}
+use Rattle.subsumption.specs.TestEnd.TheVariants.{Yes}
+use Rattle.subsumption.specs.HonestLog.{IsHonestEntry, EachIsHonest, IsClassTest, IsClass, IsStep, IsChain}
+use Rattle.subsumption.specs.HonestLog.{IsClassificationLog}
+use Rattle.subsumption.specs.HonestLog.IsStep.{by_test, in_top, of_bottom}
+use Rattle.subsumption.specs.HonestLog.IsChain.{none, onward}
 use Rattle.subsumption.proofs.Added.{at_contains}
 use Rattle.realizer.specs.Places.{IsPlaceChain, class_place, left_of}
 use Rattle.realizer.specs.RealizationLogs.{IsTypingQuery, IsTypingTest, AreTypingTests, IsRealizationLog}

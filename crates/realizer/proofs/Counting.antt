@@ -2,7 +2,7 @@
 use Rattle.std.proofs.Common.{◌≡◌, ℕ, ◌+◌, ◌<◌, ◌≤◌, true, List, arith}
 use Rattle.axiom_sets.specs.Sets.{Limited}
 use Rattle.shq_meaning.specs.Below.{count_below}
-use Rattle.shq_oracle.proofs.Counting.{count_more}
+use Rattle.subsumption.proofs.PassingCounts.{count_more}
 use Rattle.realizer.specs.Asked.{is_open, IsCloser}
 
 abbrev pub open_count : ℕ → List Limited → ℕ → Limited → ℕ

@@ -10,3 +10,4 @@ pub mod Counting
 pub mod Pruned
 pub mod Unique
 pub use Rattle.subsumption.proofs.Passing
+pub use Rattle.subsumption.proofs.Named

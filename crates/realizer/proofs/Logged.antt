@@ -10,12 +10,12 @@ use Rattle.shq_terms.specs.Concept.{at_least, at_most, exactly}
 use Rattle.shq_terms.specs.declared.axioms.On.{On}
 use Rattle.shq_terms.specs.declared.axioms.On.TheVariants.{Any, Individual}
 use Rattle.shq_terms.specs.declared.axioms.Query.{Query}
-use Rattle.run_log.specs.declared.entry.Entry.TheVariants.{Test}
-use Rattle.run_log.specs.declared.entry.TestEnd.{TestEnd}
-use Rattle.run_log.specs.declared.entry.TestEnd.TheVariants.{Yes, No, Spent}
-use Rattle.run_log.specs.Entries.{spent_of, ended_spent, IsAnswered}
-use Rattle.run_log.specs.HonestLog.{IsWhole, IsHonestEntry, IsChain}
-use Rattle.shq_oracle.specs.OracleLists.{OracleLists}
+use Rattle.subsumption.specs.Entry.TheVariants.{Test}
+use Rattle.subsumption.specs.TestEnd.{TestEnd}
+use Rattle.subsumption.specs.TestEnd.TheVariants.{Yes, No, Spent}
+use Rattle.subsumption.specs.Entries.{spent_of, ended_spent, IsAnswered}
+use Rattle.subsumption.specs.HonestLog.{IsWhole, IsHonestEntry, IsChain}
+use Rattle.subsumption.specs.OracleLists.{OracleLists}
 use Rattle.subsumption.specs.Rows.{Rows, holds}
 use Rattle.subsumption.specs.Subsumption.{class_at}
 use Rattle.subsumption.proofs.Added.{at_contains, once_more, new_more, within_more}

@@ -6,12 +6,13 @@ use Rattle.shq_terms.specs.Concept.{Concept, top, bottom}
 use Rattle.shq_terms.specs.declared.axioms.On.{On}
 use Rattle.shq_terms.specs.declared.axioms.On.TheVariants.{Any, Individual}
 use Rattle.shq_terms.specs.declared.axioms.Query.{Query}
-use Rattle.run_log.specs.declared.entry.Entry.{Entry}
-use Rattle.run_log.specs.declared.entry.Entry.TheVariants.{Test}
-use Rattle.run_log.specs.declared.entry.TestEnd.TheVariants.{Yes}
-use Rattle.run_log.specs.HonestLog.{IsStep, IsChain}
-use Rattle.run_log.specs.HonestLog.IsStep.{by_test as class_test, in_top as class_in_top, of_bottom as class_of_bottom}
-use Rattle.run_log.specs.HonestLog.IsChain.{none as no_class_step, onward as class_onward}
+use Rattle.subsumption.specs.Entry.{Entry}
+use Rattle.subsumption.specs.Entry.TheVariants.{Test}
+use Rattle.subsumption.specs.TestEnd.TheVariants.{Yes}
+use Rattle.subsumption.specs.HonestLog.{IsStep, IsChain}
+use Rattle.subsumption.specs.HonestLog.IsStep.{by_test as class_test, in_top as class_in_top}
+use Rattle.subsumption.specs.HonestLog.IsStep.{of_bottom as class_of_bottom}
+use Rattle.subsumption.specs.HonestLog.IsChain.{none as no_class_step, onward as class_onward}
 use Rattle.realizer.specs.Places.{Place, class_place, individual_place, left_of, IsPlaceStep, IsPlaceChain}
 use Rattle.realizer.specs.Places.IsPlaceStep.{by_test, in_top, of_bottom}
 use Rattle.realizer.specs.Places.IsPlaceChain.{none, onward}

@@ -10,8 +10,8 @@ use Rattle.shq_terms.specs.Listed.{Listed}
 use Rattle.shq_terms.specs.declared.axioms.On.TheVariants.{Any}
 use Rattle.shq_meaning.specs.Truth.{Entails}
 use Rattle.refutation_truth.specs.Theory.{all_axioms}
-use Rattle.run_log.specs.declared.entry.Entry.{Entry}
-use Rattle.shq_oracle.specs.OracleLists.{OracleLists}
+use Rattle.subsumption.specs.Entry.{Entry}
+use Rattle.subsumption.specs.OracleLists.{OracleLists}
 use Rattle.subsumption.specs.Rows.{Rows, holds}
 use Rattle.subsumption.specs.Subsumption.{class_at}
 use Rattle.subsumption.specs.Settled.{IsSettled}

@@ -11,11 +11,11 @@ use Rattle.shq_terms.specs.declared.axioms.Query.{Query}
 use Rattle.shq_meaning.specs.Truth.{Interpretation, holds, meets_all, refutes_at, Entails}
 use Rattle.finite_model.specs.ModelLists.{ModelLists, meaning}
 use Rattle.refutation_truth.specs.Theory.{all_axioms}
-use Rattle.run_log.specs.declared.entry.Entry.TheVariants.{Test}
-use Rattle.run_log.specs.declared.entry.TestEnd.TheVariants.{Yes}
-use Rattle.run_log.specs.HonestLog.{IsWhole, IsHonestEntry}
-use Rattle.run_log.proofs.Named.{more, whole}
-use Rattle.shq_oracle.specs.Decided.{IsRefuting}
+use Rattle.subsumption.specs.Entry.TheVariants.{Test}
+use Rattle.subsumption.specs.TestEnd.TheVariants.{Yes}
+use Rattle.subsumption.specs.HonestLog.{IsWhole, IsHonestEntry}
+use Rattle.subsumption.proofs.Named.{more, whole}
+use Rattle.subsumption.specs.Decided.{IsRefuting}
 use Rattle.realizer.specs.Instances.{instance_query, IsInstance}
 
 -- a yes says that its query follows from all axioms

@@ -17,16 +17,16 @@ use Rattle.shq_terms.specs.declared.axioms.Query.{Query}
 use Rattle.shq_meaning.specs.Truth.{holds as has_element, Entails}
 use Rattle.finite_model.specs.ModelLists.{ModelLists, meaning}
 use Rattle.refutation_truth.specs.Theory.{all_axioms}
-use Rattle.run_log.specs.declared.entry.Entry.{Entry}
-use Rattle.run_log.specs.declared.entry.Entry.TheVariants.{Test, Node}
-use Rattle.run_log.specs.declared.entry.TestEnd.{TestEnd}
-use Rattle.run_log.specs.declared.entry.TestEnd.TheVariants as E
-use Rattle.run_log.specs.Entries.{spent_of, is_spent, ended_spent}
-use Rattle.run_log.specs.HonestLog.{IsHonestEntry}
-use Rattle.shq_oracle.specs.OracleLists.{OracleLists}
-use Rattle.shq_oracle.specs.Decided.{IsRefuting, AddsTest, EndsAs}
-use Rattle.shq_oracle.specs.declared.answer.Outcome.{Outcome}
-use Rattle.shq_oracle.specs.declared.answer.Outcome.TheVariants.{Yes, No, Undecided}
+use Rattle.subsumption.specs.Entry.{Entry}
+use Rattle.subsumption.specs.Entry.TheVariants.{Test, Node}
+use Rattle.subsumption.specs.TestEnd.{TestEnd}
+use Rattle.subsumption.specs.TestEnd.TheVariants as E
+use Rattle.subsumption.specs.Entries.{spent_of, is_spent, ended_spent}
+use Rattle.subsumption.specs.HonestLog.{IsHonestEntry}
+use Rattle.subsumption.specs.OracleLists.{OracleLists}
+use Rattle.subsumption.specs.Decided.{IsRefuting, AddsTest, EndsAs}
+use Rattle.subsumption.specs.Outcome.{Outcome}
+use Rattle.subsumption.specs.Outcome.TheVariants.{Yes, No, Undecided}
 use Rattle.subsumption.specs.Rows.{Rows, holds}
 use Rattle.subsumption.specs.Subsumption.{class_at}
 use Rattle.subsumption.specs.declared.stop.Stop.TheVariants as stop

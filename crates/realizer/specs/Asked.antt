@@ -7,13 +7,13 @@ use Rattle.shq_terms.specs.Listed.{Listed}
 use Rattle.shq_terms.specs.declared.axioms.On.{On}
 use Rattle.shq_terms.specs.declared.axioms.On.TheVariants.{Any, Individual}
 use Rattle.ontology_limits.specs.Limits.{IsOntologyInLimit, IsInLimit}
-use Rattle.run_log.specs.declared.entry.Entry.{Entry}
-use Rattle.run_log.specs.declared.entry.Entry.TheVariants.{Test, Node}
-use Rattle.run_log.specs.declared.entry.TestEnd.{TestEnd}
-use Rattle.run_log.specs.declared.entry.TestEnd.TheVariants.{Yes, No}
-use Rattle.run_log.specs.Entries.{is_spent}
-use Rattle.run_log.specs.HonestLog.{IsWhole}
-use Rattle.shq_oracle.specs.OracleLists.{OracleLists}
+use Rattle.subsumption.specs.Entry.{Entry}
+use Rattle.subsumption.specs.Entry.TheVariants.{Test, Node}
+use Rattle.subsumption.specs.TestEnd.{TestEnd}
+use Rattle.subsumption.specs.TestEnd.TheVariants.{Yes, No}
+use Rattle.subsumption.specs.Entries.{is_spent}
+use Rattle.subsumption.specs.HonestLog.{IsWhole}
+use Rattle.subsumption.specs.OracleLists.{OracleLists}
 use Rattle.subsumption.specs.Rows.{Rows, holds, IsOrder}
 use Rattle.subsumption.specs.Subsumption.{IsSubsumption}
 use Rattle.subsumption.specs.Stops.{IsStop}

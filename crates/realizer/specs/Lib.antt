@@ -13,3 +13,7 @@ pub mod RealizationLaws
 pub use Rattle.subsumption.specs.Stops
 pub use Rattle.subsumption.specs.ClassNames
 pub use Rattle.subsumption.specs.LogEnds
+pub use Rattle.subsumption.specs.Entries
+pub use Rattle.subsumption.specs.Entry
+pub use Rattle.subsumption.specs.TestEnd
+pub use Rattle.subsumption.specs.HonestLog

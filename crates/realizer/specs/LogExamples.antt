@@ -6,10 +6,10 @@ use Rattle.std.proofs.lemmas.List.Elements.{All-nil, All-cons, All-head}
 use Rattle.shq_terms.specs.Concept.{top, name}
 use Rattle.shq_terms.specs.declared.axioms.On.TheVariants.{Individual}
 use Rattle.shq_terms.specs.declared.axioms.Query.{Query}
-use Rattle.run_log.specs.declared.entry.Entry.{Entry}
-use Rattle.run_log.specs.declared.entry.Entry.TheVariants.{Test, Node}
-use Rattle.run_log.specs.declared.entry.TestEnd.TheVariants.{Yes, No}
-use Rattle.run_log.specs.LogExamples.{bare, no_axioms, no_axioms_are_whole, inclusion, inclusion_at_one}
+use Rattle.subsumption.specs.Entry.{Entry}
+use Rattle.subsumption.specs.Entry.TheVariants.{Test, Node}
+use Rattle.subsumption.specs.TestEnd.TheVariants.{Yes, No}
+use Rattle.subsumption.specs.LogExamples.{bare, no_axioms, no_axioms_are_whole, inclusion, inclusion_at_one}
 use Rattle.realizer.specs.Instances.{instance_query}
 use Rattle.realizer.specs.Places.{Place, class_place, individual_place, left_side, right_side, IsPlaceStep}
 use Rattle.realizer.specs.Places.{IsPlaceChain}

@@ -5,9 +5,9 @@ use Rattle.shq_terms.specs.Concept.{Concept, top, bottom}
 use Rattle.shq_terms.specs.declared.axioms.On.{On}
 use Rattle.shq_terms.specs.declared.axioms.On.TheVariants.{Any, Individual}
 use Rattle.shq_terms.specs.declared.axioms.Query.{Query}
-use Rattle.run_log.specs.declared.entry.Entry.{Entry}
-use Rattle.run_log.specs.declared.entry.Entry.TheVariants.{Test}
-use Rattle.run_log.specs.declared.entry.TestEnd.TheVariants.{Yes}
+use Rattle.subsumption.specs.Entry.{Entry}
+use Rattle.subsumption.specs.Entry.TheVariants.{Test}
+use Rattle.subsumption.specs.TestEnd.TheVariants.{Yes}
 
 -- where a chain stands: at a class expression, or at an individual, where chains only begin
 pub data Place : Type 0 where

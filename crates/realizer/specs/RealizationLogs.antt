@@ -6,10 +6,10 @@ use Rattle.shq_terms.specs.Listed.{Listed}
 use Rattle.shq_terms.specs.declared.axioms.On.{On}
 use Rattle.shq_terms.specs.declared.axioms.On.TheVariants.{Any, Individual}
 use Rattle.shq_terms.specs.declared.axioms.Query.{Query}
-use Rattle.run_log.specs.declared.entry.Entry.{Entry}
-use Rattle.run_log.specs.declared.entry.Entry.TheVariants.{Test, Node}
-use Rattle.run_log.specs.declared.entry.TestEnd.{TestEnd}
-use Rattle.run_log.specs.HonestLog.{IsWhole, IsClass, IsHonestWithin, AsksNothingTwice}
+use Rattle.subsumption.specs.Entry.{Entry}
+use Rattle.subsumption.specs.Entry.TheVariants.{Test, Node}
+use Rattle.subsumption.specs.TestEnd.{TestEnd}
+use Rattle.subsumption.specs.HonestLog.{IsWhole, IsClass, IsHonestWithin, AsksNothingTwice}
 use Rattle.realizer.specs.Instances.{instance_query}
 use Rattle.realizer.specs.Places.{IsPlaceChain, left_side, right_side}
 

@@ -5,18 +5,17 @@ ghost use Rattle.shq_terms.specs.Concept.{name};
 ghost use Rattle.shq_meaning.specs.Truth.{holds};
 ghost use Rattle.finite_model.specs.ModelLists.{meaning};
 ghost use Rattle.ontology_limits.specs.Limits.{IsInLimit};
-ghost use Rattle.run_log.specs.Entries.{spent_of, is_spent, IsAnswered};
-ghost use Rattle.shq_oracle.specs.Decided.{IsAnswer, AppendsTest, LeavesNothing};
+ghost use Rattle.subsumption.specs.Entries.{spent_of, is_spent, IsAnswered};
+ghost use Rattle.subsumption.specs.Decided.{IsAnswer, AppendsTest, LeavesNothing};
 ghost use Rattle.subsumption.specs.ClassSets.{has_class, HoldsClasses};
 ghost use Rattle.realizer.specs.Instances.{instance_query};
 ghost use Rattle.realizer.specs.Candidates.{has_individual, stays_possible};
 
 use axiom_sets::AxiomSet;
 use finite_model::Interp;
-use shq_oracle::{Answer, Oracle};
 use shq_terms::{Concept, NoMemory, Node, On, Query};
 use std::alloc::Global;
-use subsumption::put_if;
+use subsumption::{Answer, Oracle, put_if};
 
 /// Asks whether an individual is in a class, by the axioms of a set. A no comes with a counter-model.
 ///

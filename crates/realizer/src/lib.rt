@@ -29,7 +29,6 @@ pub use instance_lines::instances_text;
 pub use realization_laws::{instance_questions_are_in_limit, instances_are_one, types_are_one};
 pub use realizing::realize;
 pub use retrieval::instances;
-pub use shq_oracle::{Oracle, RunLog};
 pub use shq_terms::{NoMemory, NumberList};
-pub use subsumption::Stop as Halt;
+pub use subsumption::{Oracle, RunLog, Stop as Halt};
 pub use types::{TypeLine, TypeLines, Types};

@@ -2,8 +2,8 @@
 ghost use Rattle.std.specs.Prelude.{◌≡◌, false, [], IsTrue, IfOk, IfErr, OnOk, length};
 ghost use Rattle.std.specs.List.{list_any};
 ghost use Rattle.ontology_limits.specs.Limits.{IsOntologyInLimit};
-ghost use Rattle.run_log.specs.Entries.{is_spent};
-ghost use Rattle.run_log.specs.HonestLog.{IsClassificationLog};
+ghost use Rattle.subsumption.specs.Entries.{is_spent};
+ghost use Rattle.subsumption.specs.HonestLog.{IsClassificationLog};
 ghost use Rattle.subsumption.specs.Rows.{holds};
 ghost use Rattle.subsumption.specs.Settled.{IsSettled};
 ghost use Rattle.subsumption.specs.Stops.{IsStop};
@@ -15,10 +15,9 @@ use crate::Halt;
 use crate::direct_types::type_lines;
 use crate::types::{TypeLines, Types};
 use crate::typing::Typing;
-use shq_oracle::Oracle;
 use shq_terms::Ontology;
 use std::alloc::Global;
-use subsumption::{Relation, settle};
+use subsumption::{Oracle, Relation, settle};
 
 /// The direct types of each individual of the ontology, by all of its axioms (OWL 2 Direct Semantics, section 2.5),
 /// where the oracle is one for this ontology that was asked nothing yet: the groups of equal classes of which it is an

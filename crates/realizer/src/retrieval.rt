@@ -5,8 +5,8 @@ ghost use Rattle.std.specs.List.{list_any};
 ghost use Rattle.shq_terms.specs.Concept.{top};
 ghost use Rattle.lane_sieve.specs.Sets.{passing};
 ghost use Rattle.ontology_limits.specs.Limits.{IsInLimit};
-ghost use Rattle.run_log.specs.Entries.{is_spent};
-ghost use Rattle.run_log.specs.HonestLog.{IsWhole};
+ghost use Rattle.subsumption.specs.Entries.{is_spent};
+ghost use Rattle.subsumption.specs.HonestLog.{IsWhole};
 ghost use Rattle.subsumption.specs.Stops.{IsStop};
 ghost use Rattle.realizer.specs.Instances.{instance_query, IsMembership, AreInstances};
 ghost use Rattle.realizer.specs.RealizationLogs.{IsInstancesLog};
@@ -16,9 +16,9 @@ ghost use Rattle.realizer.specs.Asked.{AreAlike, IsAsking, HasHalted};
 use crate::Halt;
 use crate::asking::keep_members;
 use axiom_sets::AxiomSet;
-use shq_oracle::{Answer, Oracle};
 use shq_terms::{Concept, NoMemory, Node, NumberList, On, Ontology, Query};
 use std::alloc::Global;
+use subsumption::{Answer, Oracle};
 
 /// The listed individuals of the ontology that are in the class expression by all of its axioms (OWL 2 Direct
 /// Semantics, section 2.5), in list order, where the oracle is one for this ontology that was asked nothing yet. Each

@@ -2,7 +2,7 @@
 ghost use Rattle.std.specs.Prelude.{◌≡◌, ◌+◌, ◌<◌, ◌≤◌, ℕ, true, IfOk, IfErr, OnOk, length};
 ghost use Rattle.finite_model.specs.ModelLists.{meaning};
 ghost use Rattle.ontology_limits.specs.Limits.{IsOntologyInLimit};
-ghost use Rattle.run_log.specs.HonestLog.{IsWhole};
+ghost use Rattle.subsumption.specs.HonestLog.{IsWhole};
 ghost use Rattle.subsumption.specs.ClassSets.{HoldsClasses};
 ghost use Rattle.realizer.specs.TypeRows.{AreTypeRows, typed_by};
 ghost use Rattle.realizer.specs.Candidates.{AreCandidateRows, ArePruned};
@@ -12,10 +12,9 @@ use crate::Halt;
 use crate::asking::{ask_class, classes_at};
 use axiom_sets::AxiomSet;
 use finite_model::Interp;
-use shq_oracle::{Answer, Oracle};
 use shq_terms::{MAX_CLASSES, NoMemory, Ontology};
 use std::alloc::Global;
-use subsumption::{Relation, most_specific, put_if};
+use subsumption::{Answer, Oracle, Relation, most_specific, put_if};
 
 /// For each individual the listed classes that are still possible for it, as one row of a set, in which each class has
 /// the number that is greater by one. Beside them is the set of all axioms.

@@ -6,11 +6,11 @@ use Rattle.std.specs.List.{list_all, list_any}
 use Rattle.std.specs.Cmp.{nat_cmp_total}
 use Rattle.std.specs.FinSet as set
 use Rattle.std.proofs.lemmas.Bool.{and_parts, and_from, cases_Bool, lt-ltb, le-leb}
-use Rattle.lane_sieve.specs.Sets.{NumberSet, passing}
-use Rattle.lane_sieve.proofs.Ranges.{any-passing}
-use Rattle.lane_sieve.proofs.Bits.{contains_insert}
+use Rattle.axiom_sets.specs.NumberSets.{NumberSet, passing}
+use Rattle.axiom_sets.proofs.Ranges.{any-passing}
+use Rattle.axiom_sets.proofs.Bits.{contains_insert}
 use Rattle.axiom_sets.specs.Sets.{Limited, IsWithin, member_list}
-use Rattle.calculus_specs.specs.Rows.{is_ascending}
+use Rattle.shq_nnf.specs.TheoryRows.{is_ascending}
 use Rattle.refutation_tree.specs.RefutationText.{are_axiom_numbers, with_numbers, axiom_set, axioms_numbered}
 use Rattle.refutation_tree.specs.RefutationText.{axioms_line}
 use Rattle.refutation_tree.proofs.FieldsBack.{are_small, numbers_back}

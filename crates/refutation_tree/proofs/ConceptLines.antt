@@ -5,9 +5,9 @@ use Rattle.std.specs.List.{list_all}
 use Rattle.std.proofs.Math.Seq.{drop-cons}
 use Rattle.std.proofs.lemmas.Bool.{and_parts}
 use Rattle.certificate_lines.specs.Written.{text_of}
-use Rattle.shq_terms.specs.Listed.{Listed}
-use Rattle.calculus_specs.specs.Shape.{Shape}
-use Rattle.calculus_specs.specs.Shape.Shape.{top}
+use Rattle.certificate_lines.specs.Listed.{Listed}
+use Rattle.shq_nnf.specs.Shape.{Shape}
+use Rattle.shq_nnf.specs.Shape.Shape.{top}
 use Rattle.refutation_tree.specs.Shapes.{shape_at}
 use Rattle.refutation_tree.specs.Written.{concept_line, concept_lines, shape_is_listed}
 

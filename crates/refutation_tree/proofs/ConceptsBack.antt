@@ -7,11 +7,11 @@ use Rattle.std.proofs.lemmas.Bool.{and_parts, and_from, ltb-true, leb-true, lt-l
 use Rattle.std.proofs.Common.{eq-eqb}
 use Rattle.certificate_lines.specs.Lines.{words, number_in}
 use Rattle.certificate_lines.specs.Written.{is_line}
-use Rattle.shq_terms.specs.Listed.{Listed}
+use Rattle.certificate_lines.specs.Listed.{Listed}
 use Rattle.axiom_sets.specs.Sets.{Limited}
-use Rattle.calculus_specs.specs.Shape.{Shape, is_normal}
-use Rattle.calculus_specs.specs.Shape.Shape.{top, bottom, name, not_name, intersection, union, some_of, all_of}
-use Rattle.calculus_specs.specs.Shape.Shape.{at_least, at_most}
+use Rattle.shq_nnf.specs.Shape.{Shape, is_normal}
+use Rattle.shq_nnf.specs.Shape.Shape.{top, bottom, name, not_name, intersection, union, some_of, all_of}
+use Rattle.shq_nnf.specs.Shape.Shape.{at_least, at_most}
 use Rattle.certificate_lines.specs.Names.{is_word_byte, AreNames}
 use Rattle.certificate_lines.proofs.Plain.{plain_words, plain_line, listed_name_back, listed_name_plain}
 use Rattle.refutation_tree.specs.Shapes.{is_concept, part_numbers, fits, is_among_shapes, admits}

@@ -9,7 +9,7 @@ use Rattle.std.proofs.lemmas.Option.{slice_get-get_or}
 use Rattle.std.proofs.lemmas.List.Sums.{AllPass-from_list_all}
 use Rattle.certificate_lines.specs.Lines.{number_in}
 use Rattle.certificate_lines.proofs.ReadBack.{number_read, iri_read}
-use Rattle.shq_terms.proofs.Distinct.{place_is_number}
+use Rattle.certificate_lines.proofs.Distinct.{place_is_number}
 use Rattle.certificate_lines.specs.Names.{is_word_byte}
 use Rattle.certificate_lines.proofs.Plain.{plain_decimal}
 use Rattle.refutation_tree.specs.RefutationText.{numbers_in}

@@ -5,7 +5,7 @@ use Rattle.std.specs.FinSet as set
 use Rattle.certificate_lines.specs.Malformed.{BeginsText, TellsMalformed}
 use Rattle.certificate_lines.specs.Body.{malformed_in_body}
 use Rattle.certificate_lines.proofs.FirstMalformed.{body_tells, line_tells, begins_after}
-use Rattle.shq_terms.specs.Listed.{Listed}
+use Rattle.certificate_lines.specs.Listed.{Listed}
 use Rattle.refutation_tree.specs.RefutationLists.{RefutationLists}
 use Rattle.refutation_tree.specs.RefutationText.{refutation_line_read, refutation_body, begun, axioms_in, axioms_from}
 use Rattle.refutation_tree.specs.RefutationText.{head_in, refutation_of}

@@ -5,9 +5,9 @@ use Rattle.std.specs.Prelude.{option_and_then, if◌then◌else◌}
 use Rattle.std.specs.List.{list_all}
 use Rattle.certificate_lines.specs.Lines.{words}
 use Rattle.certificate_lines.proofs.Body.{body_keeps}
-use Rattle.shq_terms.specs.Listed.{Listed}
-use Rattle.calculus_specs.specs.Shape.{Shape}
-use Rattle.calculus_specs.specs.Line.{Line}
+use Rattle.certificate_lines.specs.Listed.{Listed}
+use Rattle.shq_nnf.specs.Shape.{Shape}
+use Rattle.shq_nnf.specs.Line.{Line}
 use Rattle.refutation_tree.specs.Shapes.{admits}
 use Rattle.refutation_tree.specs.RuleLine.{names_concepts}
 use Rattle.refutation_tree.specs.RefutationLists.{RefutationLists}

@@ -11,3 +11,4 @@ pub mod TextBack
 pub mod Writable
 pub mod Lengths
 pub mod Normal
+pub use Rattle.axiom_sets.proofs.Bits

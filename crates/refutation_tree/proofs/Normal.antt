@@ -5,9 +5,9 @@ use Rattle.std.specs.Prelude.{nat_lt, slice_index_or}
 use Rattle.std.specs.List.{list_all}
 use Rattle.std.proofs.lemmas.Bool.{and_parts, and_from, ltb-true, lt-ltb}
 use Rattle.std.proofs.lemmas.List.{get_or-take, length-take}
-use Rattle.calculus_specs.specs.Shape.{Shape, shape_of, has_parts_below, is_normal}
-use Rattle.calculus_specs.specs.Shape.Shape.{top, bottom, name, not_name, intersection, union, some_of, all_of}
-use Rattle.calculus_specs.specs.Shape.Shape.{at_least, at_most}
+use Rattle.shq_nnf.specs.Shape.{Shape, shape_of, has_parts_below, is_normal}
+use Rattle.shq_nnf.specs.Shape.Shape.{top, bottom, name, not_name, intersection, union, some_of, all_of}
+use Rattle.shq_nnf.specs.Shape.Shape.{at_least, at_most}
 use Rattle.shq_nnf.proofs.Grown.{normal_agree}
 use Rattle.refutation_tree.specs.Shapes.{shape_at, is_concept, part_numbers, AreShapes}
 

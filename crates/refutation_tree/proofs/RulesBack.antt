@@ -8,11 +8,11 @@ use Rattle.std.proofs.lemmas.Bool.{and_parts, and_from}
 use Rattle.certificate_lines.specs.Lines.{words, number_in}
 use Rattle.certificate_lines.specs.Body.{is_end_line}
 use Rattle.certificate_lines.specs.Written.{is_line}
-use Rattle.shq_terms.specs.Listed.{Listed}
-use Rattle.calculus_specs.specs.Line.{Line}
-use Rattle.calculus_specs.specs.Line.Line.{start_line, and_line, or_line, all_line, carry_line, row_line, range_line}
-use Rattle.calculus_specs.specs.Line.Line.{some_line, least_line, choose_line, pair_line, bottom_line, clash_line}
-use Rattle.calculus_specs.specs.Line.Line.{most_line, fact_line, differ_line}
+use Rattle.certificate_lines.specs.Listed.{Listed}
+use Rattle.shq_nnf.specs.Line.{Line}
+use Rattle.shq_nnf.specs.Line.Line.{start_line, and_line, or_line, all_line, carry_line, row_line, range_line}
+use Rattle.shq_nnf.specs.Line.Line.{some_line, least_line, choose_line, pair_line, bottom_line, clash_line}
+use Rattle.shq_nnf.specs.Line.Line.{most_line, fact_line, differ_line}
 use Rattle.certificate_lines.specs.Names.{is_word_byte, AreNames}
 use Rattle.certificate_lines.proofs.Plain.{plain_words, plain_line}
 use Rattle.refutation_tree.specs.RuleLine.{names_concepts}

@@ -10,11 +10,11 @@ use Rattle.std.proofs.Math.Seq.{get_or-append_seam, take-append_seam}
 use Rattle.certificate_lines.specs.Lines.{words, lines}
 use Rattle.certificate_lines.specs.Written.{is_line}
 use Rattle.certificate_lines.proofs.ReadBack.{lines_read}
-use Rattle.shq_terms.specs.Listed.{Listed}
+use Rattle.certificate_lines.specs.Listed.{Listed}
 use Rattle.axiom_sets.specs.Sets.{Limited, member_list}
-use Rattle.calculus_specs.specs.Shape.{Shape}
-use Rattle.calculus_specs.specs.Shape.Shape.{top}
-use Rattle.calculus_specs.specs.Line.{Line}
+use Rattle.shq_nnf.specs.Shape.{Shape}
+use Rattle.shq_nnf.specs.Shape.Shape.{top}
+use Rattle.shq_nnf.specs.Line.{Line}
 use Rattle.certificate_lines.specs.Names.{is_word_byte, AreNames}
 use Rattle.certificate_lines.proofs.Plain.{plain_words, plain_line, lines_both}
 use Rattle.certificate_lines.proofs.Body.{body_line}

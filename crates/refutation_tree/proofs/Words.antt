@@ -7,7 +7,7 @@ use Rattle.std.specs.Str.{IsUtf8, IsAscii, bytes_eq}
 use Rattle.std.proofs.lemmas.Bool.{cases_Bool, ltb-true, and_parts}
 use Rattle.std.proofs.lemmas.Str.{IsUtf8-from_ascii}
 use Rattle.std.proofs.lemmas.Slice.Eq.{bytes_eq-Decides}
-use Rattle.shq_terms.specs.Listed.{Listed}
+use Rattle.certificate_lines.specs.Listed.{Listed}
 use Rattle.refutation_tree.specs.Keywords.{shape_kind, line_kind}
 use Rattle.refutation_tree.specs.RefutationText.{carry_in}
 

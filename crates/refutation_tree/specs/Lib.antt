@@ -6,3 +6,5 @@ pub mod RefutationText
 pub mod Malformed
 pub mod Written
 pub mod ReadBack
+pub use Rattle.axiom_sets.specs.contracts.deps.Deps
+pub use Rattle.axiom_sets.specs.NumberSets

@@ -2,7 +2,7 @@
 use Rattle.std.specs.Prelude.{ℕ, List, Option}
 use Rattle.certificate_lines.specs.Malformed.{TellsMalformed}
 use Rattle.certificate_lines.specs.Body.{malformed_after_line, malformed_in_body}
-use Rattle.shq_terms.specs.Listed.{Listed}
+use Rattle.certificate_lines.specs.Listed.{Listed}
 use Rattle.refutation_tree.specs.RefutationLists.{RefutationLists}
 use Rattle.refutation_tree.specs.RefutationText.{refutation_line_read, begun, axioms_in, head_in, refutation_of}
 

@@ -4,11 +4,11 @@ use Rattle.std.specs.List.{list_all}
 use Rattle.axiom_sets.specs.Sets.{IsWithin}
 use Rattle.certificate_lines.specs.Lines.{lines}
 use Rattle.certificate_lines.specs.Names.{AreNames}
-use Rattle.shq_terms.specs.Listed.{Listed}
-use Rattle.calculus_specs.specs.Line.{Line}
-use Rattle.calculus_specs.specs.Line.Line.{start_line, and_line, or_line, all_line, carry_line, row_line, range_line}
-use Rattle.calculus_specs.specs.Line.Line.{some_line, least_line, choose_line, pair_line, bottom_line, clash_line}
-use Rattle.calculus_specs.specs.Line.Line.{most_line, fact_line, differ_line}
+use Rattle.certificate_lines.specs.Listed.{Listed}
+use Rattle.shq_nnf.specs.Line.{Line}
+use Rattle.shq_nnf.specs.Line.Line.{start_line, and_line, or_line, all_line, carry_line, row_line, range_line}
+use Rattle.shq_nnf.specs.Line.Line.{some_line, least_line, choose_line, pair_line, bottom_line, clash_line}
+use Rattle.shq_nnf.specs.Line.Line.{most_line, fact_line, differ_line}
 use Rattle.refutation_tree.specs.RefutationLists.{RefutationLists, IsKept}
 use Rattle.refutation_tree.specs.RefutationText.{refutation_of}
 use Rattle.refutation_tree.specs.Written.{line_numbers, names_are_listed, refutation_text}

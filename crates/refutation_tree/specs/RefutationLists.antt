@@ -2,11 +2,11 @@
 use Rattle.std.specs.Prelude.{◌≡◌, ℕ, ◌^◌, ◌<◌, true, List, length, Option, MatchOption}
 use Rattle.std.specs.List.{list_all}
 use Rattle.axiom_sets.specs.Sets.{Limited}
-use Rattle.calculus_specs.specs.Shape.{Shape}
-use Rattle.calculus_specs.specs.Shape.Shape.{top}
+use Rattle.shq_nnf.specs.Shape.{Shape}
+use Rattle.shq_nnf.specs.Shape.Shape.{top}
 use Rattle.shq_nnf.specs.declared.shapes.OwnedShape.{OwnedShape}
 use Rattle.shq_nnf.specs.Shapes.{form_of_owned}
-use Rattle.calculus_specs.specs.Line.{Line}
+use Rattle.shq_nnf.specs.Line.{Line}
 use denote.Ref.{Bor}
 use Rattle.refutation_tree.specs.Shapes.{shape_at, AreShapes}
 use Rattle.refutation_tree.specs.RuleLine.{names_concepts}

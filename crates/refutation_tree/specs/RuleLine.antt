@@ -1,11 +1,11 @@
 -- The rule lines that the code keeps, as plain lines.
 use Rattle.std.specs.Prelude.{◌≡◌, ℕ, Bool, List, [], ◌∷◌, Option, Some, None}
 use Rattle.std.specs.List.{list_all}
-use Rattle.calculus_specs.specs.Shape.{Shape}
-use Rattle.calculus_specs.specs.Line.{Line}
-use Rattle.calculus_specs.specs.Line.Line.{start_line, and_line, or_line, all_line, carry_line, row_line, range_line}
-use Rattle.calculus_specs.specs.Line.Line.{some_line, least_line, choose_line, pair_line, bottom_line, clash_line}
-use Rattle.calculus_specs.specs.Line.Line.{most_line, fact_line, differ_line}
+use Rattle.shq_nnf.specs.Shape.{Shape}
+use Rattle.shq_nnf.specs.Line.{Line}
+use Rattle.shq_nnf.specs.Line.Line.{start_line, and_line, or_line, all_line, carry_line, row_line, range_line}
+use Rattle.shq_nnf.specs.Line.Line.{some_line, least_line, choose_line, pair_line, bottom_line, clash_line}
+use Rattle.shq_nnf.specs.Line.Line.{most_line, fact_line, differ_line}
 use Rattle.refutation_tree.specs.Shapes.{is_concept}
 use Rattle.refutation_tree.specs.declared.line.Line.{Line as Kept}
 use Rattle.refutation_tree.specs.declared.line.Line.TheVariants as L

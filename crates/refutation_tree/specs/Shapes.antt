@@ -3,9 +3,9 @@ use Rattle.std.specs.Prelude.{◌==◌, not, false, ◌≡◌, ℕ, ◌+◌, ◌
 use Rattle.std.specs.Prelude.{take, slice_index_or}
 use Rattle.std.specs.List.{list_all, list_any}
 use Rattle.std.specs.Str.{bytes_eq}
-use Rattle.calculus_specs.specs.Shape.{Shape, shape_of, has_parts_below, is_normal}
-use Rattle.calculus_specs.specs.Shape.Shape.{top, bottom, name, not_name, intersection, union, some_of, all_of}
-use Rattle.calculus_specs.specs.Shape.Shape.{at_least, at_most}
+use Rattle.shq_nnf.specs.Shape.{Shape, shape_of, has_parts_below, is_normal}
+use Rattle.shq_nnf.specs.Shape.Shape.{top, bottom, name, not_name, intersection, union, some_of, all_of}
+use Rattle.shq_nnf.specs.Shape.Shape.{at_least, at_most}
 
 -- the shape of a number from 1
 abbrev pub shape_at : List Shape → ℕ → Shape

@@ -5,14 +5,14 @@ use Rattle.std.specs.List.{list_all}
 use Rattle.axiom_sets.specs.Sets.{Limited, member_list}
 use Rattle.certificate_lines.specs.Names.{name_word}
 use Rattle.certificate_lines.specs.Written.{spaced, line_of, fed, text_of}
-use Rattle.shq_terms.specs.Listed.{Listed}
-use Rattle.calculus_specs.specs.Shape.{Shape}
-use Rattle.calculus_specs.specs.Shape.Shape.{top, bottom, name, not_name, intersection, union, some_of, all_of}
-use Rattle.calculus_specs.specs.Shape.Shape.{at_least, at_most}
-use Rattle.calculus_specs.specs.Line.{Line}
-use Rattle.calculus_specs.specs.Line.Line.{start_line, and_line, or_line, all_line, carry_line, row_line, range_line}
-use Rattle.calculus_specs.specs.Line.Line.{some_line, least_line, choose_line, pair_line, bottom_line, clash_line}
-use Rattle.calculus_specs.specs.Line.Line.{most_line, fact_line, differ_line}
+use Rattle.certificate_lines.specs.Listed.{Listed}
+use Rattle.shq_nnf.specs.Shape.{Shape}
+use Rattle.shq_nnf.specs.Shape.Shape.{top, bottom, name, not_name, intersection, union, some_of, all_of}
+use Rattle.shq_nnf.specs.Shape.Shape.{at_least, at_most}
+use Rattle.shq_nnf.specs.Line.{Line}
+use Rattle.shq_nnf.specs.Line.Line.{start_line, and_line, or_line, all_line, carry_line, row_line, range_line}
+use Rattle.shq_nnf.specs.Line.Line.{some_line, least_line, choose_line, pair_line, bottom_line, clash_line}
+use Rattle.shq_nnf.specs.Line.Line.{most_line, fact_line, differ_line}
 use Rattle.refutation_tree.specs.RefutationLists.{RefutationLists}
 
 -- the name of a number between brackets

@@ -1,6 +1,6 @@
 // Concept lines are read.
 ghost use Rattle.std.specs.Prelude.{◌≡◌, IsTrue, ◌+◌, ◌<◌, ◌^◌, map, Some, IfOk, IfErr, length, option_map};
-ghost use Rattle.calculus_specs.specs.Shape.Shape.{top, bottom};
+ghost use Rattle.shq_nnf.specs.Shape.Shape.{top, bottom};
 ghost use Rattle.shq_nnf.specs.Shapes.{form_of_owned};
 ghost use Rattle.certificate_lines.specs.Lines.{bytes_of, number_in};
 ghost use Rattle.refutation_tree.specs.RefutationText.{is_number, when_none, short_shape, shape_in, next_concept_in};
@@ -9,9 +9,8 @@ ghost use Rattle.certificate_lines.specs.Malformed.{IsFaultAt};
 use crate::CertFault;
 use crate::fields::{class_in, counted_in, read_numbers, restriction_in};
 use crate::keywords::{ShapeKind, shape_kind};
-use certificate_lines::number;
+use certificate_lines::{Ontology, number};
 use shq_nnf::OwnedShape;
-use shq_terms::Ontology;
 use std::alloc::Global;
 
 /// The shape that the words of a concept line say, where the line's concept is to have the number after `count`.

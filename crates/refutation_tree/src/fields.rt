@@ -7,8 +7,7 @@ ghost use Rattle.certificate_lines.specs.Names.{name_place};
 ghost use Rattle.certificate_lines.specs.Malformed.{IsFaultAt};
 
 use crate::CertFault;
-use certificate_lines::{iri, number};
-use shq_terms::Ontology;
+use certificate_lines::{Ontology, iri, number};
 use std::alloc::Global;
 
 /// A role and the number of a concept.

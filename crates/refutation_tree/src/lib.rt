@@ -19,7 +19,8 @@ mod rule_lines;
 mod writing;
 
 /// Why lines are not the text of a refutation, whose line `refutation` has the number 2.
-pub use certificate_lines::LineFault as CertFault;
+pub use axiom_sets::Deps;
+pub use certificate_lines::{LineFault as CertFault, NoMemory};
 pub use laws::{
     concepts_are_normal, malformed_line_is_the_first, refutations_are_read_back,
     what_is_read_can_be_written,
@@ -27,4 +28,3 @@ pub use laws::{
 pub use line::Line;
 pub use reading::read_text;
 pub use refutation::Refutation;
-pub use shq_terms::NoMemory;

@@ -1,7 +1,7 @@
 // The lines of a refutation.
 ghost use Rattle.refutation_tree.specs.RuleLine.{line_of, NamesConcept};
 
-use shq_terms::NumberList;
+use certificate_lines::NumberList;
 
 /// A line of a refutation. Lines stand in preorder of the tree of branches.
 ///

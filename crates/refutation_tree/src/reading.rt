@@ -4,7 +4,7 @@ ghost use Rattle.std.specs.Prelude.{IfOk, IfErr, OnOk, IfSome, codes, option_map
 ghost use Rattle.std.specs.List.{list_all};
 ghost use Rattle.certificate_lines.specs.Lines.{bytes_of, words};
 ghost use Rattle.certificate_lines.specs.Malformed.{IsFaultOf, IsFaultAt, IsFaultOfLine};
-ghost use Rattle.calculus_specs.specs.Rows.{is_ascending};
+ghost use Rattle.shq_nnf.specs.TheoryRows.{is_ascending};
 ghost use Rattle.shq_nnf.specs.Shapes.{form_of_owned};
 ghost use Rattle.refutation_tree.specs.RuleLine.{line_of};
 ghost use Rattle.refutation_tree.specs.RefutationText.{are_axiom_numbers, axiom_set, axioms_numbered, axioms_line};
@@ -19,9 +19,8 @@ use crate::fields::read_numbers;
 use crate::rule_lines::read_rule_line;
 use crate::{CertFault, Line, NoMemory, Refutation};
 use axiom_sets::AxiomSet;
-use certificate_lines::{clamped_line, first_unblank, words};
+use certificate_lines::{Ontology, clamped_line, first_unblank, words};
 use shq_nnf::OwnedShape;
-use shq_terms::Ontology;
 use std::alloc::Global;
 
 /// The refutation whose text these lines are: `refutation`, `axioms K ..`, concept lines, rule lines, the line `end`,

@@ -1,8 +1,8 @@
 // Refutations as they are kept.
 ghost use Rattle.std.specs.Prelude.{◌≡◌, ◌+◌, ◌^◌, ◌<◌, ◌≤◌, [], ◌∷◌, ◌++◌, IsTrue, OnOk, OnErr, length, map};
 ghost use Rattle.std.specs.List.{list_all};
-ghost use Rattle.calculus_specs.specs.Shape.{is_conjunct, is_disjunct, is_normal};
-ghost use Rattle.calculus_specs.specs.Shape.Shape.{top as plain_top};
+ghost use Rattle.shq_nnf.specs.Shape.{is_conjunct, is_disjunct, is_normal};
+ghost use Rattle.shq_nnf.specs.Shape.Shape.{top as plain_top};
 ghost use Rattle.shq_nnf.specs.Shapes.{form_of, form_of_owned};
 ghost use Rattle.refutation_tree.specs.Shapes.{shape_at, is_concept, part_numbers, fits, admits};
 ghost use Rattle.refutation_tree.specs.RuleLine.{line_of, names_concepts};

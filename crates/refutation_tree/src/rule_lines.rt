@@ -9,8 +9,7 @@ ghost use Rattle.certificate_lines.specs.Malformed.{IsFaultAt};
 use crate::fields::{one_of, read_numbers, restriction_in, three_of, two_of};
 use crate::keywords::{LineKind, line_kind};
 use crate::{CertFault, Line, NoMemory};
-use certificate_lines::number;
-use shq_terms::{NumberList, Ontology};
+use certificate_lines::{NumberList, Ontology, number};
 use std::alloc::Global;
 
 /// The rule line that words are, on the line whose number is given.

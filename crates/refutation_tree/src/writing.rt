@@ -12,8 +12,8 @@ ghost use Rattle.refutation_tree.specs.Written.{names_are_listed};
 
 use crate::{Line, NoMemory, Refutation};
 use axiom_sets::AxiomSet;
+use certificate_lines::Ontology;
 use shq_nnf::Shape;
-use shq_terms::Ontology;
 use std::alloc::Global;
 
 impl Refutation {

@@ -16,9 +16,9 @@ use Rattle.role_box.specs.On.{On}
 use Rattle.role_box.specs.On.TheVariants.{Any, Individual}
 use Rattle.role_box.specs.Query.{Query}
 use Rattle.role_box.specs.Uses.{uses_listed, axiom_uses_listed, all_use_listed}
-use Rattle.calculus_specs.specs.declared.facts.Fact.{Fact}
-use Rattle.calculus_specs.specs.declared.facts.Fact.TheVariants.{Apart}
-use Rattle.calculus_specs.specs.Rows.{is_among}
+use Rattle.role_box.specs.Fact.{Fact}
+use Rattle.role_box.specs.Fact.TheVariants.{Apart}
+use Rattle.role_box.specs.TheoryRows.{is_among}
 use Rattle.shq_nnf.specs.Truth.{Interpretation, holds, meets, meets_all, is_asked_at, refutes_at}
 use Rattle.shq_nnf.specs.Meeting.{is_true}
 use Rattle.shq_nnf.specs.Facts.{same_facts, apart_facts, facts_of, fact_at}

@@ -6,10 +6,10 @@ use Rattle.shq_nnf.specs.Concept.{Concept}
 use Rattle.shq_nnf.specs.Numbered.{Numbered}
 use Rattle.role_box.specs.Query.{Query}
 use Rattle.shq_nnf.specs.Truth.{Interpretation, PlacesIndividuals, holds, meets_all, is_asked_at, refutes_at}
-use Rattle.calculus_specs.specs.Shape.{Shape}
-use Rattle.calculus_specs.specs.Line.{Line, Tree, node, Trees, no_trees, tree}
-use Rattle.calculus_specs.specs.Rules.{Question, on_any, Known, children_of, nothing_known}
-use Rattle.calculus_specs.specs.Valid.{concept_at, IsShut, AreShut, IsRefutation}
+use Rattle.role_box.specs.Shape.{Shape}
+use Rattle.role_box.specs.Line.{Line, Tree, node, Trees, no_trees, tree}
+use Rattle.role_box.specs.Rules.{Question, on_any, Known, children_of, nothing_known}
+use Rattle.role_box.specs.Valid.{concept_at, IsShut, AreShut, IsRefutation}
 use Rattle.refutation_truth.specs.Theory.{named_axioms, theory_of, question_of}
 use Rattle.refutation_truth.specs.Laws.{RefutationsEntail, RefutationsEntailByAll, RefutationsOnAnyEntail}
 use Rattle.refutation_truth.proofs.Models.{Model}

@@ -8,10 +8,10 @@ use Rattle.std.proofs.lemmas.List.Folds.{list_any-append}
 use Rattle.shq_nnf.specs.Concept.{Concept}
 use Rattle.shq_nnf.specs.Truth.{Interpretation, holds}
 use Rattle.shq_nnf.specs.Meeting.{is_true}
-use Rattle.calculus_specs.specs.declared.facts.Fact.{Fact}
-use Rattle.calculus_specs.specs.declared.facts.Fact.TheVariants.{Has, Edge, Apart}
-use Rattle.calculus_specs.specs.State.{new_nodes, apart_from, pairwise_apart, fresh_facts}
-use Rattle.calculus_specs.specs.Rules.{Known, knows, with_nodes}
+use Rattle.role_box.specs.Fact.{Fact}
+use Rattle.role_box.specs.Fact.TheVariants.{Has, Edge, Apart}
+use Rattle.role_box.specs.State.{new_nodes, apart_from, pairwise_apart, fresh_facts}
+use Rattle.role_box.specs.Rules.{Known, knows, with_nodes}
 use Rattle.refutation_truth.proofs.Below.{Picks}
 use Rattle.refutation_truth.proofs.Models.{all_with, all_of_both, is_on, still_pass, Model, all_agree}
 

@@ -9,3 +9,8 @@ pub mod Asserted
 pub mod Entailed
 pub mod Unlisted
 pub mod Old
+pub use Rattle.shq_nnf.proofs.Implied
+pub use Rattle.shq_nnf.proofs.Numbers
+pub use Rattle.shq_nnf.proofs.Stable
+pub use Rattle.shq_nnf.proofs.Truth
+pub use Rattle.shq_nnf.proofs.Meeting

@@ -7,27 +7,27 @@ use Rattle.std.proofs.lemmas.Bool.{cases_Bool, and_parts, and_from, or_cases, eq
 use Rattle.std.proofs.lemmas.Bool.{lt-ltb, not-true, true≢false}
 use Rattle.shq_nnf.specs.Concept.{Concept, top, bottom, name, complement, intersection, union, some_of, all_of}
 use Rattle.shq_nnf.specs.Concept.{at_least, at_most, Parts, no_parts, part, part_list}
-use Rattle.calculus_specs.specs.Normal.{normal_form, negated_form}
-use Rattle.calculus_specs.specs.Rows.{Part, inclusion, range, Theory, part_at, is_among, conjunct_at}
-use Rattle.calculus_specs.specs.Rows.{are_name_positions, row_concept}
+use Rattle.role_box.specs.Normal.{normal_form, negated_form}
+use Rattle.role_box.specs.TheoryRows.{Part, inclusion, range, Theory, part_at, is_among, conjunct_at}
+use Rattle.role_box.specs.TheoryRows.{are_name_positions, row_concept}
 use Rattle.shq_nnf.specs.Below.{all_below, count_below}
 use Rattle.shq_nnf.specs.Truth.{Interpretation, PlacesIndividuals, implies, each_successor, holds, hold_all, hold_any}
 use Rattle.shq_nnf.proofs.Implied.{implied, implies_from}
 use Rattle.shq_nnf.specs.Meeting.{meets_part, is_true}
 use Rattle.shq_nnf.proofs.Truth.{normal_truth, negated_truth}
-use Rattle.calculus_specs.specs.declared.facts.Fact.{Fact}
-use Rattle.calculus_specs.specs.declared.facts.Fact.TheVariants.{Has, Apart, Same}
-use Rattle.calculus_specs.specs.Joins.{rep}
-use Rattle.calculus_specs.specs.State.{has_tree, has_edge, are_apart, all_apart}
-use Rattle.calculus_specs.specs.Line.{Line}
-use Rattle.calculus_specs.specs.Line.Line.{start_line, and_line, or_line, all_line, carry_line, row_line, range_line}
-use Rattle.calculus_specs.specs.Line.Line.{some_line, least_line, choose_line, pair_line, bottom_line, clash_line}
-use Rattle.calculus_specs.specs.Line.Line.{most_line, fact_line, differ_line}
-use Rattle.calculus_specs.specs.Rules.{Question, Known, nothing_known, knows, knows_some_from, with_facts, with_nodes}
-use Rattle.calculus_specs.specs.Rules.{when, at_concept, and_children, or_children, all_children, carry_children}
-use Rattle.calculus_specs.specs.Rules.{row_children, range_children, some_children, least_children, choose_children}
-use Rattle.calculus_specs.specs.Rules.{clash_children, are_fillers, most_children, fact_children, differ_children}
-use Rattle.calculus_specs.specs.Rules.{started, start_children, children_of}
+use Rattle.role_box.specs.Fact.{Fact}
+use Rattle.role_box.specs.Fact.TheVariants.{Has, Apart, Same}
+use Rattle.role_box.specs.Joins.{rep}
+use Rattle.role_box.specs.State.{has_tree, has_edge, are_apart, all_apart}
+use Rattle.role_box.specs.Line.{Line}
+use Rattle.role_box.specs.Line.Line.{start_line, and_line, or_line, all_line, carry_line, row_line, range_line}
+use Rattle.role_box.specs.Line.Line.{some_line, least_line, choose_line, pair_line, bottom_line, clash_line}
+use Rattle.role_box.specs.Line.Line.{most_line, fact_line, differ_line}
+use Rattle.role_box.specs.Rules.{Question, Known, nothing_known, knows, knows_some_from, with_facts, with_nodes}
+use Rattle.role_box.specs.Rules.{when, at_concept, and_children, or_children, all_children, carry_children}
+use Rattle.role_box.specs.Rules.{row_children, range_children, some_children, least_children, choose_children}
+use Rattle.role_box.specs.Rules.{clash_children, are_fillers, most_children, fact_children, differ_children}
+use Rattle.role_box.specs.Rules.{started, start_children, children_of}
 use Rattle.refutation_truth.proofs.Below.{all_at, all_from, picks}
 use Rattle.refutation_truth.specs.Theory.{nodes_pass}
 use Rattle.refutation_truth.proofs.Models.{found, all_with, is_on, still_pass, same_place, has_place, led, differ_place}

@@ -5,20 +5,20 @@ use Rattle.std.specs.List.{list_any, list_all}
 use Rattle.std.proofs.lemmas.Bool.{and_parts, and_from, or_cases, eqb-true, eqb-false, ltb-true, ne_eqb, not-true}
 use Rattle.std.proofs.lemmas.List.Folds.{list_all-append}
 use Rattle.shq_nnf.specs.Concept.{Concept, top}
-use Rattle.calculus_specs.specs.Normal.{is_top}
-use Rattle.calculus_specs.specs.Same.{is_same}
-use Rattle.calculus_specs.proofs.Same.{same_to_eq}
+use Rattle.role_box.specs.Normal.{is_top}
+use Rattle.role_box.specs.Same.{is_same}
+use Rattle.role_box.proofs.Same.{same_to_eq}
 use Rattle.shq_nnf.specs.Below.{count_below}
 use Rattle.shq_nnf.specs.Truth.{Interpretation, holds}
 use Rattle.shq_nnf.specs.Meeting.{is_true}
-use Rattle.calculus_specs.specs.declared.facts.Fact.{Fact}
-use Rattle.calculus_specs.specs.declared.facts.Fact.TheVariants.{Has, Edge, Apart, Same}
-use Rattle.calculus_specs.specs.Joins.{rep, joins, IsJoined}
-use Rattle.calculus_specs.specs.Joins.IsJoined.{itself, by_fact}
-use Rattle.calculus_specs.specs.State.{gives_concept, is_given, has_tree, gives_edge, has_edge, gives_apart, are_apart}
-use Rattle.calculus_specs.specs.State.{all_apart}
-use Rattle.calculus_specs.proofs.Joined.{joined-rep}
-use Rattle.calculus_specs.specs.Rules.{Known, knows, with_facts}
+use Rattle.role_box.specs.Fact.{Fact}
+use Rattle.role_box.specs.Fact.TheVariants.{Has, Edge, Apart, Same}
+use Rattle.role_box.specs.Joins.{rep, joins, IsJoined}
+use Rattle.role_box.specs.Joins.IsJoined.{itself, by_fact}
+use Rattle.role_box.specs.State.{gives_concept, is_given, has_tree, gives_edge, has_edge, gives_apart, are_apart}
+use Rattle.role_box.specs.State.{all_apart}
+use Rattle.role_box.proofs.Joined.{joined-rep}
+use Rattle.role_box.specs.Rules.{Known, knows, with_facts}
 use Rattle.refutation_truth.specs.Theory.{nodes_pass}
 use Rattle.refutation_truth.proofs.Below.{but, count_but}
 

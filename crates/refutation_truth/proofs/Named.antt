@@ -12,8 +12,8 @@ use Rattle.shq_nnf.specs.Axiom.TheVariants.{SubClassOf, EquivalentClasses, Disjo
 use Rattle.shq_nnf.specs.Axiom.TheVariants.{EquivalentRoles, Domain, Range, Functional, Transitive, Member, Pair}
 use Rattle.shq_nnf.specs.Axiom.TheVariants.{SameAll, Different}
 use Rattle.shq_nnf.specs.Numbered.{Numbered}
-use Rattle.calculus_specs.specs.Rows.{Part, NumberedPart, is_numbered}
-use Rattle.calculus_specs.specs.Roles.{IsBelow, itself, by_step}
+use Rattle.role_box.specs.TheoryRows.{Part, NumberedPart, is_numbered}
+use Rattle.role_box.specs.Roles.{IsBelow, itself, by_step}
 use Rattle.shq_nnf.specs.Below.{all_below}
 use Rattle.shq_nnf.specs.Truth.{Interpretation, implies, included, roles_equal, meets, meets_all}
 use Rattle.shq_nnf.proofs.Implied.{implied}

@@ -6,7 +6,7 @@ use Rattle.std.specs.Option.{option_map, option_or}
 use Rattle.std.proofs.lemmas.Bool.{cases_lt, cases_eq, eq-eqb, ne_eqb, le-leb, lt-leb, and_left, and_right}
 use Rattle.std.proofs.lemmas.List.Folds.{find-append}
 use Rattle.shq_nnf.specs.Numbered.{Numbered}
-use Rattle.calculus_specs.specs.Rows.{Part, NumberedPart, is_numbered, is_among}
+use Rattle.role_box.specs.TheoryRows.{Part, NumberedPart, is_numbered, is_among}
 use Rattle.shq_nnf.specs.Parts.{part_in}
 use Rattle.refutation_truth.specs.Theory.{parts_at, numbered_parts, named_parts, part_of_axiom}
 use Rattle.refutation_truth.specs.Laws.{PartsAreNumbered}

@@ -12,12 +12,12 @@ use Rattle.shq_nnf.specs.Axiom.TheVariants.{SameAll, Different}
 use Rattle.shq_nnf.specs.Numbered.{Numbered}
 use Rattle.role_box.specs.On.TheVariants.{Any}
 use Rattle.role_box.specs.Query.{Query}
-use Rattle.calculus_specs.specs.Shape.{Shape}
-use Rattle.calculus_specs.specs.declared.facts.Fact.{Fact}
-use Rattle.calculus_specs.specs.Rows.{is_among}
-use Rattle.calculus_specs.specs.Line.{Line}
-use Rattle.calculus_specs.specs.Rules.{Question, on_any}
-use Rattle.calculus_specs.specs.Valid.{concept_at, open_after_all, IsBrokenAt, IsRefutation}
+use Rattle.role_box.specs.Shape.{Shape}
+use Rattle.role_box.specs.Fact.{Fact}
+use Rattle.role_box.specs.TheoryRows.{is_among}
+use Rattle.role_box.specs.Line.{Line}
+use Rattle.role_box.specs.Rules.{Question, on_any}
+use Rattle.role_box.specs.Valid.{concept_at, open_after_all, IsBrokenAt, IsRefutation}
 use Rattle.shq_nnf.specs.Meeting.{is_assertion}
 use Rattle.shq_nnf.specs.Facts.{facts_of, fact_at}
 use Rattle.refutation_truth.specs.Theory.{theory_of, listed_fact, fact_in, fact_of_axiom, node_in_question, question_of}

@@ -4,8 +4,8 @@ use Rattle.std.proofs.Common.{length, get_or, refl, ap, ◌∙◌, subst, arith,
 use Rattle.std.specs.List.{list_all}
 use Rattle.std.proofs.lemmas.Bool.{cases_Bool, and_from, or_left, or_right}
 use Rattle.shq_nnf.specs.Concept.{Concept, top, parts_of}
-use Rattle.calculus_specs.specs.Normal.{negated_form}
-use Rattle.calculus_specs.specs.Rows.{is_among, others_from, row_concept}
+use Rattle.role_box.specs.Normal.{negated_form}
+use Rattle.role_box.specs.TheoryRows.{is_among, others_from, row_concept}
 use Rattle.shq_nnf.specs.Truth.{Interpretation, holds, hold_any}
 use Rattle.shq_nnf.proofs.Truth.{or_holds, negated_truth}
 

@@ -7,20 +7,20 @@ use Rattle.std.proofs.lemmas.Bool.{le-ltb}
 use Rattle.std.proofs.Math.Bool.{and-false}
 use Rattle.shq_nnf.specs.Concept.{Concept}
 use Rattle.role_box.specs.On.TheVariants.{Individual}
-use Rattle.calculus_specs.specs.Rows.{Part, Theory, part_at, conjunct_at, are_name_positions, row_concept}
-use Rattle.calculus_specs.specs.Rows.Part.{inclusion, range}
-use Rattle.calculus_specs.specs.declared.facts.Fact.{Fact}
-use Rattle.calculus_specs.specs.declared.facts.Fact.TheVariants.{Has}
-use Rattle.calculus_specs.specs.State.{has_tree}
-use Rattle.calculus_specs.specs.Line.{Line, Tree, node}
-use Rattle.calculus_specs.specs.Line.Line.{start_line, and_line, or_line, all_line, carry_line, row_line, range_line}
-use Rattle.calculus_specs.specs.Line.Line.{some_line, least_line, choose_line, pair_line, bottom_line, clash_line}
-use Rattle.calculus_specs.specs.Line.Line.{most_line, fact_line, differ_line}
-use Rattle.calculus_specs.specs.Rules.{Question, Known, nothing_known, when, with_facts, at_concept, and_children}
-use Rattle.calculus_specs.specs.Rules.{or_children, all_children, carry_children, row_children, range_children}
-use Rattle.calculus_specs.specs.Rules.{some_children, least_children, choose_children, clash_children, most_children}
-use Rattle.calculus_specs.specs.Rules.{fact_children, started, children_of}
-use Rattle.calculus_specs.specs.Valid.{concept_at, AreShut, IsShut}
+use Rattle.role_box.specs.TheoryRows.{Part, Theory, part_at, conjunct_at, are_name_positions, row_concept}
+use Rattle.role_box.specs.TheoryRows.Part.{inclusion, range}
+use Rattle.role_box.specs.Fact.{Fact}
+use Rattle.role_box.specs.Fact.TheVariants.{Has}
+use Rattle.role_box.specs.State.{has_tree}
+use Rattle.role_box.specs.Line.{Line, Tree, node}
+use Rattle.role_box.specs.Line.Line.{start_line, and_line, or_line, all_line, carry_line, row_line, range_line}
+use Rattle.role_box.specs.Line.Line.{some_line, least_line, choose_line, pair_line, bottom_line, clash_line}
+use Rattle.role_box.specs.Line.Line.{most_line, fact_line, differ_line}
+use Rattle.role_box.specs.Rules.{Question, Known, nothing_known, when, with_facts, at_concept, and_children}
+use Rattle.role_box.specs.Rules.{or_children, all_children, carry_children, row_children, range_children}
+use Rattle.role_box.specs.Rules.{some_children, least_children, choose_children, clash_children, most_children}
+use Rattle.role_box.specs.Rules.{fact_children, started, children_of}
+use Rattle.role_box.specs.Valid.{concept_at, AreShut, IsShut}
 use Rattle.refutation_truth.specs.Theory.{node_in_question, question_of}
 use Rattle.refutation_truth.specs.Laws.{UnlistedAreNotRefuted}
 

@@ -8,16 +8,16 @@ use Rattle.shq_nnf.specs.Numbered.{Numbered}
 use Rattle.role_box.specs.On.{On}
 use Rattle.role_box.specs.On.TheVariants.{Any, Individual}
 use Rattle.role_box.specs.Query.{Query}
-use Rattle.calculus_specs.specs.Normal.{normal_form, negated_form}
-use Rattle.calculus_specs.specs.declared.facts.Fact.TheVariants.{Has}
-use Rattle.calculus_specs.specs.Shape.{Shape}
-use Rattle.calculus_specs.specs.Shape.Shape.{name as name_shape}
-use Rattle.calculus_specs.specs.Rows.{Theory, part_at, inclusion, range}
+use Rattle.role_box.specs.Normal.{normal_form, negated_form}
+use Rattle.role_box.specs.Fact.TheVariants.{Has}
+use Rattle.role_box.specs.Shape.{Shape}
+use Rattle.role_box.specs.Shape.Shape.{name as name_shape}
+use Rattle.role_box.specs.TheoryRows.{Theory, part_at, inclusion, range}
 use Rattle.role_box.specs.Paths.{is_below}
-use Rattle.calculus_specs.specs.Line.{Line, node, no_trees, tree}
-use Rattle.calculus_specs.specs.Line.Line.{start_line, row_line, clash_line, fact_line, differ_line}
-use Rattle.calculus_specs.specs.Rules.{Question, on_any, Known, nothing_known, children_of}
-use Rattle.calculus_specs.specs.Valid.{concept_at, open_after_all, IsRefutation}
+use Rattle.role_box.specs.Line.{Line, node, no_trees, tree}
+use Rattle.role_box.specs.Line.Line.{start_line, row_line, clash_line, fact_line, differ_line}
+use Rattle.role_box.specs.Rules.{Question, on_any, Known, nothing_known, children_of}
+use Rattle.role_box.specs.Valid.{concept_at, open_after_all, IsRefutation}
 use Rattle.refutation_truth.specs.Theory.{named_axioms, theory_of, question_of}
 
 abbrev a : Concept

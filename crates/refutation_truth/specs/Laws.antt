@@ -9,14 +9,14 @@ use Rattle.role_box.specs.Query.{Query}
 use Rattle.role_box.specs.Uses.{all_use_listed}
 use Rattle.shq_nnf.specs.Truth.{Entails}
 use Rattle.shq_nnf.specs.Meeting.{is_assertion}
-use Rattle.calculus_specs.specs.Shape.{Shape}
-use Rattle.calculus_specs.specs.Rows.{part_at, is_among}
-use Rattle.calculus_specs.specs.Roles.{HasRoles}
+use Rattle.role_box.specs.Shape.{Shape}
+use Rattle.role_box.specs.TheoryRows.{part_at, is_among}
+use Rattle.role_box.specs.Roles.{HasRoles}
 use Rattle.role_box.specs.RoleAxioms.{role_axioms}
 use Rattle.role_box.specs.Steps.{Leads, IsTransitive}
-use Rattle.calculus_specs.specs.Line.{Line}
-use Rattle.calculus_specs.specs.Rules.{Question, on_any, Known}
-use Rattle.calculus_specs.specs.Valid.{concept_at, open_after_all, IsBrokenAt, IsRefutation}
+use Rattle.role_box.specs.Line.{Line}
+use Rattle.role_box.specs.Rules.{Question, on_any, Known}
+use Rattle.role_box.specs.Valid.{concept_at, open_after_all, IsBrokenAt, IsRefutation}
 use Rattle.refutation_truth.specs.Theory.{named_axioms, all_axioms, theory_of, part_of_axiom, fact_in, fact_of_axiom}
 use Rattle.refutation_truth.specs.Theory.{question_of}
 

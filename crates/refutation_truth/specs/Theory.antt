@@ -8,10 +8,10 @@ use Rattle.role_box.specs.On.{On}
 use Rattle.role_box.specs.On.TheVariants.{Any, Individual}
 use Rattle.role_box.specs.Query.{Query}
 use Rattle.role_box.specs.Listed.{Listed}
-use Rattle.calculus_specs.specs.Rows.{Part, NumberedPart, Theory, is_among}
-use Rattle.calculus_specs.specs.declared.facts.Fact.{Fact}
-use Rattle.calculus_specs.specs.declared.facts.Fact.TheVariants.{Has, Edge, Apart, Same}
-use Rattle.calculus_specs.specs.Rules.{Question}
+use Rattle.role_box.specs.TheoryRows.{Part, NumberedPart, Theory, is_among}
+use Rattle.role_box.specs.Fact.{Fact}
+use Rattle.role_box.specs.Fact.TheVariants.{Has, Edge, Apart, Same}
+use Rattle.role_box.specs.Rules.{Question}
 use Rattle.shq_nnf.specs.Parts.{axiom_parts, part_in}
 use Rattle.shq_nnf.specs.Facts.{fact_at}
 use Rattle.role_box.specs.RoleAxioms.{role_axioms}

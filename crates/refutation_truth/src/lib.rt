@@ -11,7 +11,8 @@ ghost use Rattle.refutation_truth.specs.Laws.{PartsAreNumbered, TheoriesHaveRole
 ghost use Rattle.refutation_truth.specs.Laws.{RefutationsEntail, RefutationsEntailByAll, RefutationsOnAnyEntail};
 ghost use Rattle.refutation_truth.specs.Laws.{UnlistedAreNotRefuted, OldRefutationsStand};
 
-pub use shq_nnf::{Concepts, OwnedShape, Shape};
+pub use role_box::{Axiom, Concept, NoMemory, NumberList, Numbered, Ontology, RoleBox};
+pub use shq_nnf::{Concepts, OwnedShape, Part, Shape, part_count};
 
 /// A number of an axiom and one of a part find that part of the axiom, if it is named, and nothing else.
 pub fn parts_are_numbered()

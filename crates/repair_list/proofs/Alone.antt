@@ -10,7 +10,7 @@ use Rattle.lane_sieve.specs.Sets.{NumberSet}
 use Rattle.axiom_sets.specs.Sets.{Limited, IsWithin}
 use Rattle.pinpointing_specs.specs.Smallest.{IsHitAlone}
 use Rattle.pinpointing_specs.proofs.Choices.{in_without, to_without}
-use Rattle.set_questions.specs.InOrder.{HaveOneLimit, HasMore}
+use Rattle.hitting_set_tree.specs.InOrder.{HaveOneLimit, HasMore}
 use Rattle.repair_list.specs.Alone.{HitsAlone, HitsBeside, IsRepairAdded}
 
 -- ---- the other members

@@ -5,7 +5,7 @@ use Rattle.std.specs.List.{Contains}
 use Rattle.lane_sieve.specs.Sets.{NumberSet, DoMeet}
 use Rattle.axiom_sets.specs.Sets.{Limited}
 use Rattle.pinpointing_specs.specs.Smallest.{IsHitAlone, IsMinimalRemoval}
-use Rattle.set_questions.specs.Meaning.{Meaning}
+use Rattle.hitting_set_tree.specs.Meaning.{Meaning}
 use Rattle.hitting_set_tree.specs.declared.tree.Found.{Found}
 use Rattle.hitting_set_tree.specs.Found.{IsFound}
 

@@ -10,14 +10,14 @@ ghost use Rattle.std.specs.Prelude.{◌≡◌, ◌≤◌, ◌↔◌, ◌++◌, I
 ghost use Rattle.std.specs.List.{All};
 ghost use Rattle.pinpointing_specs.specs.Smallest.{IsHitAlone};
 ghost use Rattle.pinpointing_specs.specs.Order.{IsAscending};
-ghost use Rattle.set_questions.specs.InOrder.{HaveOneLimit};
+ghost use Rattle.hitting_set_tree.specs.InOrder.{HaveOneLimit};
 ghost use Rattle.repair_list.specs.Alone.{AreRepairs, FinishedRepairsAreAll, IsRepairAdded, NeedsAlone, HasAlone};
 ghost use Rattle.repair_list.specs.Alone.{HitsBeside};
 
 use axiom_sets::AxiomSet;
 pub use hitting_set_tree::{Found, enumerate};
+use hitting_set_tree::{Entail, put_in_order};
 use lane_sieve::NoMemory;
-use set_questions::{Entail, put_in_order};
 use std::alloc::Global;
 
 /// The leaves in which each member is hit alone, in the order of sets, each once. Where the lists were finished, these

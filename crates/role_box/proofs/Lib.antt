@@ -9,3 +9,5 @@ pub mod Lists
 pub mod Tested
 pub mod Numbers
 pub mod Plain
+pub use Rattle.calculus_specs.proofs.Same
+pub use Rattle.calculus_specs.proofs.Joined

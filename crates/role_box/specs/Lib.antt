@@ -13,3 +13,16 @@ pub use Rattle.shq_terms.specs.declared.axioms.Axiom
 pub use Rattle.shq_terms.specs.declared.axioms.Numbered
 pub use Rattle.shq_terms.specs.declared.axioms.On
 pub use Rattle.shq_terms.specs.declared.axioms.Query
+pub use Rattle.calculus_specs.specs.Roles
+pub use Rattle.calculus_specs.specs.Rows as TheoryRows
+pub use Rattle.calculus_specs.specs.declared.facts.Fact
+pub use Rattle.calculus_specs.specs.Rules
+pub use Rattle.calculus_specs.specs.Normal
+pub use Rattle.calculus_specs.specs.Shape
+pub use Rattle.calculus_specs.specs.Line
+pub use Rattle.calculus_specs.specs.Valid
+pub use Rattle.calculus_specs.specs.Same
+pub use Rattle.calculus_specs.specs.Joins
+pub use Rattle.calculus_specs.specs.State
+pub use Rattle.shq_terms.specs.Code
+pub use Rattle.calculus_specs.specs.Tree

@@ -20,7 +20,7 @@ ghost use Rattle.role_box.specs.Laws.{TestIsBelow, TestIsSimple};
 
 pub use role_axiom::RoleAxiom;
 pub use role_box::{Between, RoleBox};
-pub use shq_terms::NoMemory;
+pub use shq_terms::{Axiom, Concept, NoMemory, NumberList, Numbered, Ontology};
 pub use simple_roles::{class_is_simple, first_not_simple, query_is_simple};
 
 /// The test by paths over bounded inner roles is that of chains.

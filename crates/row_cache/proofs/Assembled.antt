@@ -3,14 +3,14 @@ use Rattle.std.proofs.Common.{◌≡◌, ℕ, ◌<◌, Bool, true, cond, ltb, Li
 use Rattle.std.proofs.Common.{refl, ap, subst, sym, ◌∙◌}
 use Rattle.std.specs.List.{list_all}
 use Rattle.std.proofs.lemmas.Bool.{lt-ltb, and_from}
-use Rattle.shq_terms.specs.Concept.{Concept}
-use Rattle.calculus_specs.specs.Normal.{negated_form, or_of}
-use Rattle.calculus_specs.specs.Shape.{Shape, IsTable}
-use Rattle.calculus_specs.specs.Tree.{tree_of}
-use Rattle.calculus_specs.specs.Rows.{Part, inclusion, range, conjunct_at, are_name_positions, row_concept}
-use Rattle.shq_nnf.specs.declared.parts.Part.TheVariants as K
-use Rattle.shq_nnf.specs.Numbers.{Extends, IsNumber, AreNumbers}
-use Rattle.shq_nnf.proofs.Numbers.{number_stays, numbers_stay, numbers_push}
+use Rattle.refutation_truth.specs.Concept.{Concept}
+use Rattle.refutation_truth.specs.Normal.{negated_form, or_of}
+use Rattle.refutation_truth.specs.Shape.{Shape, IsTable}
+use Rattle.refutation_truth.specs.Tree.{tree_of}
+use Rattle.refutation_truth.specs.TheoryRows.{Part, inclusion, range, conjunct_at, are_name_positions, row_concept}
+use Rattle.refutation_truth.specs.Part.TheVariants as K
+use Rattle.refutation_truth.specs.Numbers.{Extends, IsNumber, AreNumbers}
+use Rattle.refutation_truth.proofs.Numbers.{number_stays, numbers_stay, numbers_push}
 use Rattle.row_cache.specs.declared.cached_row.CachedRow.{CachedRow}
 use Rattle.row_cache.specs.Rows.{PlainRow, row_for, IsRow, IsPartFound, conjunct_number_at, other_numbers}
 use Rattle.row_cache.proofs.Places.{tree_at, number_listed, other_trees}

@@ -4,13 +4,13 @@ use Rattle.std.proofs.Common.{subst, sym, ◌∙◌}
 use Rattle.std.specs.Prelude.{nat_eq, OnOk, OnErr}
 use Rattle.std.proofs.lemmas.Bool.{and_parts, eqb-true}
 use Rattle.indexmap.specs.IndexMap.{IndexMap, IsUnchanged, Updates}
-use Rattle.shq_terms.specs.declared.axioms.Numbered.{Numbered}
-use Rattle.calculus_specs.specs.Rows.{part_at}
+use Rattle.refutation_truth.specs.Numbered.{Numbered}
+use Rattle.refutation_truth.specs.TheoryRows.{part_at}
 use Rattle.axiom_sets.specs.Sets.{Limited, member_list}
 use Rattle.refutation_truth.specs.Theory.{theory_of}
-use Rattle.calculus_specs.specs.Shape.{Shape}
-use Rattle.shq_nnf.specs.Numbers.{Extends}
-use Rattle.shq_nnf.proofs.Numbers.{number_stays, numbers_stay}
+use Rattle.refutation_truth.specs.Shape.{Shape}
+use Rattle.refutation_truth.specs.Numbers.{Extends}
+use Rattle.refutation_truth.proofs.Numbers.{number_stays, numbers_stay}
 use Rattle.row_cache.specs.declared.cached_row.CachedRow.{CachedRow}
 use Rattle.row_cache.specs.declared.cached_row.CachedRange.{CachedRange}
 use Rattle.row_cache.specs.declared.cache_entry.CacheEntry.{CacheEntry}

@@ -7,3 +7,8 @@ pub use Rattle.refutation_truth.proofs.Models
 pub use Rattle.refutation_truth.proofs.Numbered
 pub use Rattle.refutation_truth.proofs.Rows
 pub use Rattle.refutation_truth.proofs.Entailed
+pub use Rattle.refutation_truth.proofs.Implied
+pub use Rattle.axiom_sets.proofs.Listed
+pub use Rattle.refutation_truth.proofs.Truth
+pub use Rattle.refutation_truth.proofs.Meeting
+pub use Rattle.refutation_truth.proofs.Numbers

@@ -7,13 +7,13 @@ use Rattle.std.proofs.lemmas.Bool.{le-leb, lt-leb, lt-ltb, cases_Bool, and_left,
 use Rattle.std.proofs.lemmas.List.Elements.{All-get_or}
 use Rattle.std.proofs.lemmas.Option.{slice_get_within, get_or_from_slice_get}
 use Rattle.std.proofs.Math.Bool.{and-true}
-use Rattle.lane_sieve.proofs.Ranges.{any-passing}
+use Rattle.axiom_sets.proofs.Ranges.{any-passing}
 use Rattle.axiom_sets.specs.Sets.{Limited, IsWithin, member_list}
-use Rattle.shq_terms.specs.declared.axioms.Numbered.{Numbered}
-use Rattle.calculus_specs.specs.Shape.{Shape}
-use Rattle.calculus_specs.specs.Rows.{Part, is_among, part_at}
-use Rattle.shq_nnf.specs.declared.parts.Part.{Part as Kept}
-use Rattle.shq_nnf.specs.Parts.{StandsForPart, axiom_parts, axiom_has_counts_within, part_in}
+use Rattle.refutation_truth.specs.Numbered.{Numbered}
+use Rattle.refutation_truth.specs.Shape.{Shape}
+use Rattle.refutation_truth.specs.TheoryRows.{Part, is_among, part_at}
+use Rattle.refutation_truth.specs.Part.{Part as Kept}
+use Rattle.refutation_truth.specs.Parts.{StandsForPart, axiom_parts, axiom_has_counts_within, part_in}
 use Rattle.refutation_truth.specs.Theory.{theory_of, parts_in, parts_at}
 use Rattle.refutation_truth.proofs.Numbered.{numbered}
 use Rattle.row_cache.specs.Rows.{AreInLimit, IsPartFound}

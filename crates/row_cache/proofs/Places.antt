@@ -5,16 +5,16 @@ use Rattle.std.specs.List.{list_all}
 use Rattle.std.proofs.lemmas.Bool.{ltb-true, leb-true, le-leb, ne_eqb, eq-eqb, cases_Bool, cases_eq, and_parts}
 use Rattle.std.proofs.lemmas.Bool.{and_from, false≢true}
 use Rattle.std.proofs.lemmas.List.{append_assoc, drop_more}
-use Rattle.shq_terms.specs.Concept.{Concept, top}
-use Rattle.calculus_specs.specs.Normal.{negated_form}
-use Rattle.calculus_specs.specs.Shape.{Shape, shape_of, IsTable}
-use Rattle.calculus_specs.specs.Shape.Shape.{top as top_shape, bottom as bottom_shape, name as name_shape, not_name}
-use Rattle.calculus_specs.specs.Shape.Shape.{intersection as intersection_shape, union as union_shape}
-use Rattle.calculus_specs.specs.Shape.Shape.{some_of as some_shape, all_of as all_shape, at_least as least_shape}
-use Rattle.calculus_specs.specs.Shape.Shape.{at_most as most_shape}
-use Rattle.calculus_specs.specs.Tree.{tree_over, trees_of, tree_of}
-use Rattle.calculus_specs.specs.Rows.{is_among, is_ascending, is_name, conjunct_at, others_from}
-use Rattle.shq_nnf.proofs.Numbers.{shape_tree, top_number}
+use Rattle.refutation_truth.specs.Concept.{Concept, top}
+use Rattle.refutation_truth.specs.Normal.{negated_form}
+use Rattle.refutation_truth.specs.Shape.{Shape, shape_of, IsTable}
+use Rattle.refutation_truth.specs.Shape.Shape.{top as top_shape, bottom as bottom_shape, name as name_shape, not_name}
+use Rattle.refutation_truth.specs.Shape.Shape.{intersection as intersection_shape, union as union_shape}
+use Rattle.refutation_truth.specs.Shape.Shape.{some_of as some_shape, all_of as all_shape, at_least as least_shape}
+use Rattle.refutation_truth.specs.Shape.Shape.{at_most as most_shape}
+use Rattle.refutation_truth.specs.Tree.{tree_over, trees_of, tree_of}
+use Rattle.refutation_truth.specs.TheoryRows.{is_among, is_ascending, is_name, conjunct_at, others_from}
+use Rattle.refutation_truth.proofs.Numbers.{shape_tree, top_number}
 use Rattle.row_cache.specs.Rows.{is_name_shape, conjunct_number_at, other_numbers}
 
 -- ---- the conjunct at a position

@@ -5,12 +5,12 @@ use Rattle.std.specs.Cmp.Lexicographic.{pointwise}
 use Rattle.std.specs.Map.{lookup}
 use denote.Ref.{Bor}
 use Rattle.indexmap.specs.IndexMap.{IndexMap, Updates}
-use Rattle.shq_terms.specs.declared.axioms.Numbered.{Numbered}
-use Rattle.calculus_specs.specs.Shape.{Shape}
-use Rattle.calculus_specs.specs.Rows.{Part, part_at, is_among}
+use Rattle.refutation_truth.specs.Numbered.{Numbered}
+use Rattle.refutation_truth.specs.Shape.{Shape}
+use Rattle.refutation_truth.specs.TheoryRows.{Part, part_at, is_among}
 use Rattle.axiom_sets.specs.Sets.{Limited, IsWithin, member_list}
 use Rattle.refutation_truth.specs.Theory.{theory_of}
-use Rattle.shq_nnf.specs.Parts.{axiom_has_counts_within}
+use Rattle.refutation_truth.specs.Parts.{axiom_has_counts_within}
 use Rattle.row_cache.specs.Rows.{AreInLimit, row_for, IsRow, range_for, IsRange}
 use Rattle.row_cache.specs.declared.cached_row.CachedRow.{CachedRow}
 use Rattle.row_cache.specs.declared.cached_row.CachedRange.{CachedRange}

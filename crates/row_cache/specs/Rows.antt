@@ -2,18 +2,18 @@
 use Rattle.std.specs.Prelude.{◌≡◌, ℕ, Bool, true, false, zero, suc, ◌+◌, ◌≤◌, List, [], ◌∷◌, map, length}
 use Rattle.std.specs.Prelude.{slice_index_or, Option, Some, None, IsTrue, All, if◌then◌else◌}
 use Rattle.std.specs.List.{list_all}
-use Rattle.shq_terms.specs.Concept.{Concept}
-use Rattle.shq_terms.specs.declared.axioms.Numbered.{Numbered}
-use Rattle.calculus_specs.specs.Shape.{Shape}
-use Rattle.calculus_specs.specs.Shape.Shape.{name}
-use Rattle.calculus_specs.specs.Rows.{Part, inclusion, range, part_at, is_among, is_name, conjunct_at}
-use Rattle.calculus_specs.specs.Rows.{are_name_positions, row_concept}
-use Rattle.calculus_specs.specs.Tree.{tree_of}
+use Rattle.refutation_truth.specs.Concept.{Concept}
+use Rattle.refutation_truth.specs.Numbered.{Numbered}
+use Rattle.refutation_truth.specs.Shape.{Shape}
+use Rattle.refutation_truth.specs.Shape.Shape.{name}
+use Rattle.refutation_truth.specs.TheoryRows.{Part, inclusion, range, part_at, is_among, is_name, conjunct_at}
+use Rattle.refutation_truth.specs.TheoryRows.{are_name_positions, row_concept}
+use Rattle.refutation_truth.specs.Tree.{tree_of}
 use Rattle.axiom_sets.specs.Sets.{Limited, member_list}
 use Rattle.refutation_truth.specs.Theory.{theory_of}
-use Rattle.shq_nnf.specs.declared.parts.Part.{Part as PartByNumber}
-use Rattle.shq_nnf.specs.Parts.{StandsForPart, axiom_parts, axiom_has_counts_within}
-use Rattle.shq_nnf.specs.Numbers.{IsNumber, AreNumbers, trees_at}
+use Rattle.refutation_truth.specs.Part.{Part as PartByNumber}
+use Rattle.refutation_truth.specs.Parts.{StandsForPart, axiom_parts, axiom_has_counts_within}
+use Rattle.refutation_truth.specs.Numbers.{IsNumber, AreNumbers, trees_at}
 use Rattle.row_cache.specs.declared.cached_row.CachedRow.{CachedRow}
 use Rattle.row_cache.specs.declared.cached_row.CachedRange.{CachedRange}
 

@@ -7,7 +7,7 @@ ghost use Rattle.row_cache.specs.Cache.{entry_for, cached_range_for, serving, St
 use crate::NoMemory;
 use crate::cached_row::{CachedRange, CachedRow, number_list};
 use indexmap::IndexMap;
-use shq_terms::NumberList;
+use refutation_truth::NumberList;
 use std::alloc::Global;
 
 // The row of a part, with the positions for which it was made.

@@ -1,12 +1,12 @@
 // Rows of the axioms that are named, in numbers of a table of concepts.
 ghost use Rattle.std.specs.Prelude.{◌≡◌, ◌≤◌, ◌<◌, nat_le, nat_lt, true, IsTrue, IfOk, OnOk, length, map};
 ghost use Rattle.std.specs.List.{list_all};
-ghost use Rattle.calculus_specs.specs.Rows.{is_among, is_ascending, is_name, are_name_positions};
-ghost use Rattle.calculus_specs.specs.Shape.{IsTable};
-ghost use Rattle.calculus_specs.specs.Tree.{tree_of};
-ghost use Rattle.shq_nnf.specs.Shapes.{form_of};
-ghost use Rattle.shq_nnf.specs.Bounds.{negated_trees};
-ghost use Rattle.shq_nnf.specs.Numbers.{Extends, AreNumbers, trees_at};
+ghost use Rattle.refutation_truth.specs.TheoryRows.{is_among, is_ascending, is_name, are_name_positions};
+ghost use Rattle.refutation_truth.specs.Shape.{IsTable};
+ghost use Rattle.refutation_truth.specs.Tree.{tree_of};
+ghost use Rattle.refutation_truth.specs.Shapes.{form_of};
+ghost use Rattle.refutation_truth.specs.Bounds.{negated_trees};
+ghost use Rattle.refutation_truth.specs.Numbers.{Extends, AreNumbers, trees_at};
 ghost use Rattle.std.specs.FinSet as set;
 ghost use Rattle.axiom_sets.specs.Sets.{IsWithin, member_list};
 ghost use Rattle.row_cache.specs.Rows.{AreInLimit, IsRow, IsRowIn, IsRangeIn, IsPartIn, row_at, IsRowConcept};
@@ -14,8 +14,7 @@ ghost use Rattle.row_cache.specs.Rows.{is_name_at, are_names_at, is_name_shape, 
 
 use crate::NoMemory;
 use axiom_sets::AxiomSet;
-use shq_nnf::{Concepts, Part, Shape, part_count};
-use shq_terms::{NumberList, Ontology};
+use refutation_truth::{Concepts, NumberList, Ontology, Part, Shape, part_count};
 use std::alloc::Global;
 
 /// A row of a part of an axiom: what is in all the premises is in the concept.

@@ -14,6 +14,7 @@ mod cache_entry;
 mod cached_row;
 mod row_cache;
 
+pub use axiom_sets::AxiomSet;
 pub use cached_row::{CachedRange, CachedRow, is_name, part_row};
+pub use refutation_truth::{Concepts, NoMemory, Part, RoleBox, Shape, part_count};
 pub use row_cache::RowCache;
-pub use shq_terms::NoMemory;

@@ -1,11 +1,11 @@
 // A table of concepts with the rows that were made of its numbers.
 ghost use Rattle.std.specs.Prelude.{◌≡◌, ◌<◌, IsTrue, IfOk, OnOk, OnErr, Some, length};
-ghost use Rattle.calculus_specs.specs.Normal.{normal_form, negated_form};
-ghost use Rattle.calculus_specs.specs.Shape.{IsTable, has_parts_below, is_normal};
-ghost use Rattle.calculus_specs.specs.Tree.{tree_of};
-ghost use Rattle.shq_nnf.specs.Counts.{has_counts_within};
-ghost use Rattle.shq_nnf.specs.Shapes.{form_of, concept_of};
-ghost use Rattle.shq_nnf.specs.Numbers.{Extends, IsNumber};
+ghost use Rattle.refutation_truth.specs.Normal.{normal_form, negated_form};
+ghost use Rattle.refutation_truth.specs.Shape.{IsTable, has_parts_below, is_normal};
+ghost use Rattle.refutation_truth.specs.Tree.{tree_of};
+ghost use Rattle.refutation_truth.specs.Counts.{has_counts_within};
+ghost use Rattle.refutation_truth.specs.Shapes.{form_of, concept_of};
+ghost use Rattle.refutation_truth.specs.Numbers.{Extends, IsNumber};
 ghost use Rattle.axiom_sets.specs.Sets.{IsWithin, member_list};
 ghost use Rattle.row_cache.specs.Rows.{AreInLimit};
 ghost use Rattle.row_cache.specs.Cache.{empty_cache, IsNamedAxiom, IsRowOf, IsRangeOf, HasSameAxioms, KeepsEntries};
@@ -16,8 +16,7 @@ use crate::cache_entry::{CacheEntry, find_range, find_row, store_range, store_ro
 use crate::cached_row::{CachedRange, CachedRow, inclusion_row, is_named, range_row};
 use axiom_sets::AxiomSet;
 use indexmap::IndexMap;
-use shq_nnf::{Concepts, Shape};
-use shq_terms::{Concept, Numbered, Ontology};
+use refutation_truth::{Concept, Concepts, Numbered, Ontology, Shape};
 use std::alloc::Global;
 use std::marker::Model;
 
@@ -35,7 +34,7 @@ pub struct RowCache<'a> {
 
 impl<'a> Model for RowCache<'a> {
     ghost use Rattle.std.specs.Coded.{codes};
-    ghost use Rattle.shq_terms.specs.Code.{concept_code};
+    ghost use Rattle.refutation_truth.specs.Code.{concept_code};
     ghost use Rattle.axiom_sets.specs.Sets.{member_list};
     ghost use Rattle.row_cache.specs.Cache.{CacheState, IsRowCache};
 

@@ -4,13 +4,13 @@ use Rattle.std.proofs.Common.{length, drop, Option, Some, refl, ap, sym, subst, 
 use Rattle.std.specs.Prelude.{slice_get, if◌then◌else◌, nat_le, ◌&&◌}
 use Rattle.std.specs.FinSet as set
 use Rattle.std.proofs.lemmas.Bool.Decides.{nat_tests}
-use Rattle.lane_sieve.specs.Sets.{NumberSet, passing}
-use Rattle.lane_sieve.proofs.Ranges.{passing_none, passing_take, passing_skip}
-use Rattle.axiom_sets.specs.Sets.{Limited, IsWithin, member_list}
+use Rattle.pinpointing_specs.specs.NumberSets.{NumberSet, passing}
+use Rattle.pinpointing_specs.proofs.Ranges.{passing_none, passing_take, passing_skip}
+use Rattle.pinpointing_specs.specs.Sets.{Limited, IsWithin, member_list}
 use Rattle.shq_terms.specs.Listed.{Listed}
 use Rattle.shq_terms.specs.declared.axioms.Axiom.{Axiom}
 use Rattle.shq_terms.specs.declared.axioms.Numbered.{Numbered}
-use Rattle.shq_meaning.specs.Truth.{Entails}
+use Rattle.pinpointing_specs.specs.Truth.{Entails}
 use Rattle.pinpointing_specs.specs.LocalModule.{axioms_from, axioms_in_set}
 use Rattle.pinpointing_specs.proofs.Kept.{grows}
 use Rattle.refutation_truth.specs.Theory.{axioms_in, named_axioms}

@@ -8,7 +8,7 @@ use Rattle.shq_terms.specs.Listed.{Listed}
 use Rattle.shq_terms.specs.declared.axioms.Axiom.{Axiom}
 use Rattle.shq_terms.specs.declared.axioms.On.{On}
 use Rattle.shq_terms.specs.declared.axioms.On.TheVariants.{Any}
-use Rattle.shq_meaning.specs.Truth.{holds, Entails}
+use Rattle.pinpointing_specs.specs.Truth.{holds, Entails}
 use Rattle.refutation_truth.specs.Theory.{all_axioms}
 use Rattle.run_log.specs.declared.entry.Entry.{Entry}
 use Rattle.run_log.specs.declared.entry.Entry.TheVariants.{Test}

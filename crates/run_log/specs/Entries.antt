@@ -1,7 +1,7 @@
 -- The entries of a log: what they spend, and which questions they answer.
 use Rattle.std.specs.Prelude.{◌≡◌, ℕ, Bool, true, false, List, [], ◌∷◌, Contains, sum_by, count_by}
-use Rattle.lane_sieve.specs.Sets.{IsPart}
-use Rattle.axiom_sets.specs.Sets.{Limited}
+use Rattle.pinpointing_specs.specs.NumberSets.{IsPart}
+use Rattle.pinpointing_specs.specs.Sets.{Limited}
 use Rattle.shq_terms.specs.declared.axioms.Query.{Query}
 use Rattle.run_log.specs.declared.entry.Entry.{Entry}
 use Rattle.run_log.specs.declared.entry.Entry.TheVariants.{Test, Node}

@@ -2,15 +2,15 @@
 use Rattle.std.specs.Prelude.{◌≡◌, ℕ, ◌+◌, ◌*◌, ◌<◌, ◌≤◌, true, List, [], ◌∷◌, length, take, Some, slice_get, All}
 use Rattle.std.specs.Prelude.{Contains}
 use Rattle.std.specs.List.{list_any}
-use Rattle.lane_sieve.specs.Sets.{NumberSet, IsPart}
-use Rattle.axiom_sets.specs.Sets.{Limited, IsFull, IsWithin, member_list}
+use Rattle.pinpointing_specs.specs.NumberSets.{NumberSet, IsPart}
+use Rattle.pinpointing_specs.specs.Sets.{Limited, IsFull, IsWithin, member_list}
 use Rattle.pinpointing_specs.specs.Nodes.{AreNodes}
 use Rattle.shq_terms.specs.Concept.{Concept, top, bottom, name}
 use Rattle.shq_terms.specs.Listed.{Listed}
 use Rattle.shq_terms.specs.declared.axioms.Axiom.{Axiom}
 use Rattle.shq_terms.specs.declared.axioms.On.TheVariants.{Any}
 use Rattle.shq_terms.specs.declared.axioms.Query.{Query}
-use Rattle.shq_meaning.specs.Truth.{Entails}
+use Rattle.pinpointing_specs.specs.Truth.{Entails}
 use Rattle.pinpointing_specs.specs.LocalModule.{IsLocalModule, IsJustification}
 use Rattle.calculus_specs.specs.Rows.{Row}
 use Rattle.calculus_specs.specs.Rules.{Question}

@@ -1,12 +1,12 @@
 -- What follows from honest logs.
 use Rattle.std.specs.Prelude.{◌≡◌, ◌↔◌, ℕ, List, Contains}
-use Rattle.lane_sieve.specs.Sets.{IsPart}
-use Rattle.axiom_sets.specs.Sets.{Limited}
+use Rattle.pinpointing_specs.specs.NumberSets.{IsPart}
+use Rattle.pinpointing_specs.specs.Sets.{Limited}
 use Rattle.shq_terms.specs.Concept.{Concept}
 use Rattle.shq_terms.specs.Listed.{Listed}
 use Rattle.shq_terms.specs.declared.axioms.On.TheVariants.{Any}
 use Rattle.shq_terms.specs.declared.axioms.Query.{Query}
-use Rattle.shq_meaning.specs.Truth.{Entails}
+use Rattle.pinpointing_specs.specs.Truth.{Entails}
 use Rattle.pinpointing_specs.specs.LocalModule.{FollowsFrom}
 use Rattle.refutation_truth.specs.Theory.{all_axioms}
 use Rattle.run_log.specs.declared.entry.Entry.{Entry}

@@ -6,7 +6,7 @@ use Rattle.std.proofs.lemmas.Bool.Decides.{nat_tests}
 use Rattle.std.proofs.lemmas.List.Elements.{All-nil, All-cons, All-head}
 use Rattle.std.specs.FinSet as set
 use Rattle.std.specs.Ordering.{nat_cmp}
-use Rattle.axiom_sets.specs.Sets.{Limited, IsFull}
+use Rattle.pinpointing_specs.specs.Sets.{Limited, IsFull}
 use Rattle.shq_terms.specs.Concept.{Concept, top, name}
 use Rattle.shq_terms.specs.Listed.{Listed}
 use Rattle.shq_terms.specs.declared.axioms.On.{On}

@@ -9,8 +9,8 @@ use Rattle.std.specs.FinSet as set
 use Rattle.std.specs.Ordering.{nat_cmp}
 use Rattle.std.specs.Cmp.{nat_cmp_total}
 use Rattle.std.specs.List.{list_any, flat_map}
-use Rattle.lane_sieve.specs.Sets.{NumberSet, IsPart}
-use Rattle.axiom_sets.specs.Sets.{Limited}
+use Rattle.pinpointing_specs.specs.NumberSets.{NumberSet, IsPart}
+use Rattle.pinpointing_specs.specs.Sets.{Limited}
 use Rattle.pinpointing_specs.specs.Nodes.{IsChild}
 use Rattle.shq_terms.specs.Concept.{name}
 use Rattle.shq_terms.specs.Listed.{Listed}
@@ -18,9 +18,9 @@ use Rattle.shq_terms.specs.declared.axioms.Axiom.{Axiom}
 use Rattle.shq_terms.specs.declared.axioms.Axiom.TheVariants.{SubClassOf, Transitive, Member}
 use Rattle.shq_terms.specs.declared.axioms.Numbered.{Numbered}
 use Rattle.shq_terms.specs.declared.axioms.Query.{Query}
-use Rattle.shq_meaning.specs.Below.{all_below}
-use Rattle.shq_meaning.specs.Truth.{Interpretation, implies, Entails}
-use Rattle.shq_meaning.proofs.Below.{all_below-false}
+use Rattle.pinpointing_specs.specs.Below.{all_below}
+use Rattle.pinpointing_specs.specs.Truth.{Interpretation, implies, Entails}
+use Rattle.pinpointing_specs.proofs.Below.{all_below-false}
 use Rattle.pinpointing_specs.specs.LocalModule.{axioms_in_set, module_names, IsClosed, IsLocalModule, FollowsFrom}
 use Rattle.pinpointing_specs.specs.Signature.{is_among, axiom_names, query_names}
 use Rattle.pinpointing_specs.specs.Local.{is_local}

@@ -4,8 +4,8 @@ use Rattle.std.proofs.Common.{lit<, sym, ◌∙◌, arith, inl, inr}
 use Rattle.std.specs.FinSet as set
 use Rattle.std.specs.Ordering.{nat_cmp}
 use Rattle.std.specs.Cmp.{nat_cmp_total}
-use Rattle.lane_sieve.specs.Sets.{NumberSet}
-use Rattle.axiom_sets.specs.Sets.{IsWithin}
+use Rattle.pinpointing_specs.specs.NumberSets.{NumberSet}
+use Rattle.pinpointing_specs.specs.Sets.{IsWithin}
 use Rattle.pinpointing_specs.specs.Smallest.{rest}
 use Rattle.shq_terms.specs.Concept.{Concept, top, bottom, name}
 use Rattle.shq_terms.specs.Listed.{Listed}

@@ -9,12 +9,12 @@ use Rattle.std.specs.Option.{option_map}
 use Rattle.std.specs.FinSet as set
 use Rattle.std.specs.Ordering.{nat_cmp}
 use Rattle.std.proofs.Math.Bool.{and-not_self}
-use Rattle.axiom_sets.specs.Sets.{Limited, member_list}
+use Rattle.pinpointing_specs.specs.Sets.{Limited, member_list}
 use Rattle.shq_terms.specs.Concept.{top, bottom, name, intersection, parts_of}
 use Rattle.shq_terms.specs.declared.axioms.Axiom.{Axiom}
 use Rattle.shq_terms.specs.declared.axioms.On.TheVariants.{Any, Individual}
 use Rattle.shq_terms.specs.declared.axioms.Query.{Query}
-use Rattle.shq_meaning.specs.Truth.{Interpretation, Entails}
+use Rattle.pinpointing_specs.specs.Truth.{Interpretation, Entails}
 use Rattle.calculus_specs.specs.Shape.{Shape, shape_of, has_parts_below, is_normal, IsTable}
 use Rattle.calculus_specs.specs.Shape.Shape.{top as top_shape, bottom as bottom_shape, name as name_shape, not_name}
 use Rattle.calculus_specs.specs.Shape.Shape.{intersection as intersection_shape, at_most}

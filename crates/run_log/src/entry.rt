@@ -1,7 +1,7 @@
 // The entries of a log.
 
 use crate::KeptTrail;
-use axiom_sets::AxiomSet;
+use pinpointing_specs::AxiomSet;
 use shq_terms::Query;
 
 /// How a test ended.

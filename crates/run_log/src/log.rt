@@ -17,7 +17,7 @@ impl Model for RunLog {
     ghost use Rattle.std.specs.Prelude.{List, ◌≡◌};
     ghost use Rattle.std.specs.Coded.{codes};
     ghost use Rattle.shq_terms.specs.Code.{concept_code};
-    ghost use Rattle.axiom_sets.specs.Sets.{limited_code};
+    ghost use Rattle.pinpointing_specs.specs.Sets.{limited_code};
     ghost use Rattle.run_log.specs.declared.entry.Entry.{Entry as PlainEntry};
     ghost use Rattle.run_log.specs.Entries.{spent_of};
 

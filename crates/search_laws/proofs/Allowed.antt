@@ -12,7 +12,7 @@ use Rattle.calculus_specs.specs.Normal.{is_top, is_bottom, conjuncts_of, conjunc
 use Rattle.calculus_specs.specs.Normal.{disjuncts, united, or_of, least_form, fewer_form, most_form, more_form}
 use Rattle.calculus_specs.specs.Normal.{normal_form, negated_form, normal_forms, negated_forms}
 use Rattle.calculus_specs.specs.Rows.{conjuncts_in}
-use Rattle.role_box.specs.Counted.{counted_roles, counted_in}
+use Rattle.ontology_limits.specs.Counted.{counted_roles, counted_in}
 
 module _ (classes roles : ℕ) (p : ℕ → Bool) where
   abbrev pub IsAllowed : Concept → Type 0

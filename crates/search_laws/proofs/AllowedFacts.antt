@@ -14,8 +14,8 @@ use Rattle.shq_terms.specs.declared.axioms.Axiom.TheVariants.{Functional, Transi
 use Rattle.shq_terms.specs.declared.axioms.Numbered.{Numbered}
 use Rattle.calculus_specs.specs.declared.facts.Fact.{Fact}
 use Rattle.calculus_specs.specs.declared.facts.Fact.TheVariants.{Has, Edge, Apart, Same}
-use Rattle.shq_nnf.specs.Facts.{same_facts, apart_facts, nth_fact, facts_of}
-use Rattle.role_box.specs.Counted.{counted_by}
+use Rattle.ontology_limits.specs.Facts.{same_facts, apart_facts, nth_fact, facts_of}
+use Rattle.ontology_limits.specs.Counted.{counted_by}
 use Rattle.refutation_truth.specs.Theory.{nodes_pass, fact_in, fact_of_axiom}
 use Rattle.search_laws.proofs.GivenFacts.{listed_split, given_split}
 use Rattle.search_laws.proofs.Allowed.{IsAllowed, allowed_normal}

@@ -21,12 +21,12 @@ use Rattle.calculus_specs.specs.Rows.Part.{inclusion, range}
 use Rattle.calculus_specs.specs.Rows.Trigger.{always, names, edge, end_of}
 use Rattle.calculus_specs.specs.Roles.{IsBelow, itself, by_step}
 use Rattle.calculus_specs.specs.declared.facts.Fact.TheVariants.{Has, Edge}
-use Rattle.shq_nnf.specs.Parts.{disjoint_parts, chain_parts, equivalent_parts, union_parts, axiom_parts}
-use Rattle.role_box.specs.Counted.{counted_roles, counted_in, counted_by}
-use Rattle.role_box.specs.declared.role_axiom.RoleAxiom.{RoleAxiom}
-use Rattle.role_box.specs.RoleAxioms.{role_part, role_part_at, role_axioms}
-use Rattle.role_box.specs.Steps.{is_among as among, leads_by, leads, Leads, is_transitive_by, is_transitive}
-use Rattle.role_box.proofs.Limits.{test_is_below}
+use Rattle.ontology_limits.specs.Parts.{disjoint_parts, chain_parts, equivalent_parts, union_parts, axiom_parts}
+use Rattle.ontology_limits.specs.Counted.{counted_roles, counted_in, counted_by}
+use Rattle.ontology_limits.specs.RoleAxiom.{RoleAxiom}
+use Rattle.ontology_limits.specs.RoleAxioms.{role_part, role_part_at, role_axioms}
+use Rattle.ontology_limits.specs.Steps.{is_among as among, leads_by, leads, Leads, is_transitive_by, is_transitive}
+use Rattle.ontology_limits.proofs.Limits.{test_is_below}
 use Rattle.refutation_truth.specs.Theory.{parts_in, parts_at, numbered_parts, named_parts, theory_of, fact_of_axiom}
 use Rattle.tableau_specs.specs.KeptKinds.{IsKept}
 use Rattle.search_laws.proofs.CounterModelNodes.{all_in}

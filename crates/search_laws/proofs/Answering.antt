@@ -12,8 +12,8 @@ use Rattle.calculus_specs.specs.Shape.Shape.{top, not_name}
 use Rattle.calculus_specs.specs.Tree.{tree_of, trees_of, tree_over}
 use Rattle.calculus_specs.specs.Rows.{Theory, Row, IsRowOf, IsChoice}
 use Rattle.calculus_specs.proofs.Tree.{tree_of-append}
-use Rattle.shq_nnf.proofs.Grown.{table_with_new}
-use Rattle.shq_nnf.proofs.Numbers.{shape_tree}
+use Rattle.ontology_limits.proofs.Grown.{table_with_new}
+use Rattle.ontology_limits.proofs.Numbers.{shape_tree}
 use Rattle.tableau_specs.specs.declared.Item.{Item}
 use Rattle.tableau_specs.specs.Steps.{IsSaturated}
 use Rattle.tableau_specs.specs.Reached.{FactsHaveNumbers, start, context_of}

@@ -16,8 +16,8 @@ use Rattle.calculus_specs.specs.Joins.{rep}
 use Rattle.calculus_specs.specs.State.{node_count_from, has, gives_concept, gives_edge, has_edge, is_successor}
 use Rattle.calculus_specs.specs.State.{are_apart, is_so}
 use Rattle.calculus_specs.specs.Reading.{read_fact, is_fact_listed}
-use Rattle.shq_meaning.specs.Truth.{Interpretation, holds, is_asked_at}
-use Rattle.shq_nnf.specs.Meeting.{is_true}
+use Rattle.ontology_limits.specs.Truth.{Interpretation, holds, is_asked_at}
+use Rattle.ontology_limits.specs.Meeting.{is_true}
 use Rattle.refutation_truth.specs.Theory.{nodes_pass, fact_of_axiom, node_in_question}
 use Rattle.tableau_specs.specs.declared.Item.{Item}
 use Rattle.tableau_specs.specs.Items.{facts_of}

@@ -17,19 +17,19 @@ use Rattle.shq_terms.specs.declared.axioms.Numbered.{Numbered}
 use Rattle.calculus_specs.specs.Rows.{Part, is_among, part_at}
 use Rattle.calculus_specs.specs.Rows.Part.{inclusion}
 use Rattle.calculus_specs.specs.Roles.{itself, by_step}
-use Rattle.shq_meaning.specs.Below.{all_below}
-use Rattle.shq_meaning.specs.Truth.{Interpretation, implies, included, roles_equal, meets, meets_all}
-use Rattle.shq_meaning.proofs.Members.{all_pass}
-use Rattle.shq_meaning.proofs.Implied.{implies_from}
-use Rattle.shq_nnf.specs.Parts.{axiom_parts, part_in}
-use Rattle.shq_nnf.specs.Meeting.{meets_part, meets_parts, is_true}
-use Rattle.shq_nnf.specs.Facts.{facts_of, fact_at}
-use Rattle.shq_nnf.proofs.Meeting.{axiom_is_parts}
-use Rattle.shq_nnf.proofs.Facts.{assertion_is_facts}
-use Rattle.role_box.specs.declared.role_axiom.RoleAxiom.{RoleAxiom}
-use Rattle.role_box.specs.RoleAxioms.{role_part, role_part_at, role_axioms}
-use Rattle.role_box.specs.Steps.{leads_by, leads, is_transitive_by, is_transitive, is_among as among}
-use Rattle.role_box.proofs.Limits.{test_is_below}
+use Rattle.ontology_limits.specs.Below.{all_below}
+use Rattle.ontology_limits.specs.Truth.{Interpretation, implies, included, roles_equal, meets, meets_all}
+use Rattle.ontology_limits.proofs.Members.{all_pass}
+use Rattle.ontology_limits.proofs.Implied.{implies_from}
+use Rattle.ontology_limits.specs.Parts.{axiom_parts, part_in}
+use Rattle.ontology_limits.specs.Meeting.{meets_part, meets_parts, is_true}
+use Rattle.ontology_limits.specs.Facts.{facts_of, fact_at}
+use Rattle.ontology_limits.proofs.Meeting.{axiom_is_parts}
+use Rattle.ontology_limits.proofs.Facts.{assertion_is_facts}
+use Rattle.ontology_limits.specs.RoleAxiom.{RoleAxiom}
+use Rattle.ontology_limits.specs.RoleAxioms.{role_part, role_part_at, role_axioms}
+use Rattle.ontology_limits.specs.Steps.{leads_by, leads, is_transitive_by, is_transitive, is_among as among}
+use Rattle.ontology_limits.proofs.Limits.{test_is_below}
 use Rattle.refutation_truth.specs.Theory.{axioms_in, named_axioms, parts_in, parts_at, theory_of, fact_in}
 use Rattle.refutation_truth.specs.Theory.{fact_of_axiom}
 use Rattle.refutation_truth.proofs.Below.{all_from}

@@ -56,15 +56,15 @@ use Rattle.search_laws.proofs.Children.{born}
 use Rattle.search_laws.proofs.BoundComputed.{closure_is_computed}
 use Rattle.search_laws.specs.ComputedClosure.{given_concept, transitive_roles, given_facts, closure_of, IsComputed}
 use Rattle.search_laws.specs.ComputedClosure.{ClosureOfAxiomsIsComputed}
-use Rattle.role_box.specs.declared.role_axiom.RoleAxiom.{RoleAxiom}
-use Rattle.role_box.specs.declared.role_axiom.RoleAxiom.TheVariants.{Inclusion, Equivalence, Transitivity}
-use Rattle.role_box.specs.RoleAxioms.{role_axioms}
-use Rattle.role_box.specs.Steps.{is_transitive}
+use Rattle.ontology_limits.specs.RoleAxiom.{RoleAxiom}
+use Rattle.ontology_limits.specs.RoleAxiom.TheVariants.{Inclusion, Equivalence, Transitivity}
+use Rattle.ontology_limits.specs.RoleAxioms.{role_axioms}
+use Rattle.ontology_limits.specs.Steps.{is_transitive}
 use Rattle.shq_terms.specs.declared.axioms.Query.{Query}
 use Rattle.refutation_truth.specs.Theory.{theory_of, question_of}
 use Rattle.calculus_specs.proofs.State.{eqb-comm}
 use Rattle.calculus_specs.specs.Roles.{itself as chain_of_one}
-use Rattle.role_box.proofs.Limits.{test_is_below}
+use Rattle.ontology_limits.proofs.Limits.{test_is_below}
 
 -- ---- what the closure's concepts ask for
 

@@ -3,7 +3,7 @@ use Rattle.std.proofs.Common.{◌≡◌, ℕ, zero, suc, ◌+◌, ◌*◌, ◌<�
 use Rattle.std.proofs.Common.{◌++◌, Option, Some, None, refl, ap, ◌∙◌, sym, subst, arith, inl, inr, lt-ltb}
 use Rattle.std.specs.List.{list_any}
 use Rattle.std.proofs.lemmas.Bool.{cases_Bool, cases_eq, cases_lt, and_parts, ltb-true, ne_eqb}
-use Rattle.shq_meaning.specs.Below.{count_below}
+use Rattle.ontology_limits.specs.Below.{count_below}
 use Rattle.calculus_specs.specs.Shape.{shape_of}
 use Rattle.calculus_specs.specs.Shape.Shape.{top, at_least}
 use Rattle.calculus_specs.specs.declared.facts.Fact.{Fact}

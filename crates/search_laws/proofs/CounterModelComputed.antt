@@ -3,8 +3,8 @@ use Rattle.std.proofs.Common.{◌≡◌, ℕ, zero, suc, ◌+◌, ◌<◌, ◌&&
 use Rattle.std.proofs.Common.{sym, subst, arith, inl, inr}
 use Rattle.std.specs.List.{list_any, range_with_len}
 use Rattle.std.proofs.lemmas.Bool.{or_cases, or_left, or_right, and_parts, and_from, lt-ltb, le-ltb}
-use Rattle.role_box.specs.Paths.{has_path}
-use Rattle.role_box.proofs.Paths.{path-append, path_of_step}
+use Rattle.ontology_limits.specs.Paths.{has_path}
+use Rattle.ontology_limits.proofs.Paths.{path-append, path_of_step}
 use Rattle.calculus_specs.specs.declared.facts.Fact.{Fact}
 use Rattle.calculus_specs.specs.Joins.{rep}
 use Rattle.calculus_specs.specs.State.{node_count_from, parent_from, is_successor}

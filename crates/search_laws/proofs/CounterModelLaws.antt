@@ -8,11 +8,11 @@ use Rattle.calculus_specs.specs.Shape.{Shape}
 use Rattle.calculus_specs.specs.Rows.{Row}
 use Rattle.calculus_specs.specs.Rules.{Question}
 use Rattle.calculus_specs.specs.Tree.{tree_of}
-use Rattle.shq_meaning.specs.Truth.{Interpretation, PlacesIndividuals, holds, is_asked_at, refutes_at}
-use Rattle.shq_nnf.proofs.Truth.{normal_truth, negated_truth}
-use Rattle.role_box.specs.RoleAxioms.{role_axioms}
-use Rattle.role_box.specs.Paths.{role_limit}
-use Rattle.role_box.proofs.Limits.{transitive_within}
+use Rattle.ontology_limits.specs.Truth.{Interpretation, PlacesIndividuals, holds, is_asked_at, refutes_at}
+use Rattle.ontology_limits.proofs.Truth.{normal_truth, negated_truth}
+use Rattle.ontology_limits.specs.RoleAxioms.{role_axioms}
+use Rattle.ontology_limits.specs.Paths.{role_limit}
+use Rattle.ontology_limits.proofs.Limits.{transitive_within}
 use Rattle.search_laws.specs.Built.{IsBuilt}
 use Rattle.search_laws.specs.Computed.{built}
 use Rattle.refutation_truth.specs.Theory.{theory_of, question_in}

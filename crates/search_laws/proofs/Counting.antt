@@ -9,7 +9,7 @@ use Rattle.std.proofs.lemmas.List.FromFn.{length-range_with_len, get_or-range_wi
 use Rattle.std.proofs.lemmas.List.Kept.{AllPairs-filter}
 use Rattle.std.proofs.lemmas.Map.Views.{Contains-from_any}
 use Rattle.shq_terms.proofs.Bools.{counted_le, counted_at_most_one, none_counted}
-use Rattle.shq_meaning.specs.Below.{count_below}
+use Rattle.ontology_limits.specs.Below.{count_below}
 use Rattle.tableau_specs.proofs.Saturated.{in_range, in_filter}
 
 -- ---- counts below a bound

@@ -11,7 +11,7 @@ use Rattle.calculus_specs.specs.Same.{is_same}
 use Rattle.calculus_specs.specs.Rows.{is_among}
 use Rattle.calculus_specs.specs.declared.facts.Fact.{Fact}
 use Rattle.calculus_specs.specs.declared.facts.Fact.TheVariants.{Has, Edge, Apart, Same}
-use Rattle.shq_nnf.specs.Facts.{facts_of, nth_fact}
+use Rattle.ontology_limits.specs.Facts.{facts_of, nth_fact}
 use Rattle.refutation_truth.specs.Theory.{nodes_pass, listed_fact, fact_in, fact_of_axiom, question_of}
 use Rattle.search_laws.specs.ComputedClosure.{given_concept, IsMember, facts_in, given_facts}
 use Rattle.search_laws.proofs.Within.{Among, among_flat, flat_among, contained_among, same_among, among_same}

@@ -14,16 +14,16 @@ use Rattle.calculus_specs.specs.Shape.Shape.{top as top_shape, name as name_shap
 use Rattle.shq_terms.specs.Uses.{uses_listed}
 use Rattle.calculus_specs.specs.Roles.{itself}
 use Rattle.calculus_specs.specs.Tree.{tree_over, trees_of, tree_of}
-use Rattle.shq_meaning.specs.Truth.{Interpretation}
-use Rattle.role_box.specs.RoleAxioms.{role_axioms}
-use Rattle.role_box.specs.Steps.{Leads}
-use Rattle.role_box.proofs.Limits.{test_is_below}
-use Rattle.role_box.proofs.Paths.{below-append}
-use Rattle.role_box.proofs.Tested.{simple_test}
+use Rattle.ontology_limits.specs.Truth.{Interpretation}
+use Rattle.ontology_limits.specs.RoleAxioms.{role_axioms}
+use Rattle.ontology_limits.specs.Steps.{Leads}
+use Rattle.ontology_limits.proofs.Limits.{test_is_below}
+use Rattle.ontology_limits.proofs.Paths.{below-append}
+use Rattle.ontology_limits.proofs.Tested.{simple_test}
 use Rattle.search_laws.specs.Built.{IsBuilt}
 use Rattle.search_laws.specs.Computed.{built}
-use Rattle.role_box.specs.Counted.{counted_roles}
-use Rattle.role_box.specs.Simple.{is_simple, all_role_axioms}
+use Rattle.ontology_limits.specs.Counted.{counted_roles}
+use Rattle.ontology_limits.specs.Simple.{is_simple, all_role_axioms}
 use Rattle.refutation_truth.specs.Theory.{theory_of, question_in}
 use Rattle.calculus_specs.specs.declared.facts.Fact.{Fact}
 use Rattle.calculus_specs.specs.State.{has, has_edge, label}

@@ -16,11 +16,11 @@ use Rattle.calculus_specs.specs.Rows.{are_name_positions, is_some_of, row_concep
 use Rattle.calculus_specs.specs.Rows.{IsChoice, Trigger}
 use Rattle.calculus_specs.specs.Rows.Part.{inclusion, range}
 use Rattle.calculus_specs.specs.Rows.Trigger.{always, names, edge, end_of}
-use Rattle.shq_meaning.specs.Below.{all_below, count_below}
-use Rattle.shq_meaning.specs.Truth.{Interpretation, implies, holds}
-use Rattle.shq_meaning.proofs.Members.{member_passes}
-use Rattle.shq_meaning.proofs.Implied.{implies_from}
-use Rattle.shq_nnf.specs.Meeting.{meets_part}
+use Rattle.ontology_limits.specs.Below.{all_below, count_below}
+use Rattle.ontology_limits.specs.Truth.{Interpretation, implies, holds}
+use Rattle.ontology_limits.proofs.Members.{member_passes}
+use Rattle.ontology_limits.proofs.Implied.{implies_from}
+use Rattle.ontology_limits.specs.Meeting.{meets_part}
 use Rattle.refutation_truth.proofs.Below.{all_from, picks}
 use Rattle.refutation_truth.proofs.Models.{found}
 use Rattle.calculus_specs.specs.declared.facts.Fact.{Fact}

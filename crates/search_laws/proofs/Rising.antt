@@ -10,7 +10,7 @@ use Rattle.std.proofs.lemmas.Bool.Decides.{nat_tests}
 use Rattle.std.proofs.lemmas.List.Folds.{list_any-append}
 use Rattle.std.proofs.lemmas.List.Elements.{All-contains}
 use Rattle.std.proofs.lemmas.Option.{slice_get_within, get_or_from_slice_get}
-use Rattle.shq_meaning.specs.Below.{count_below}
+use Rattle.ontology_limits.specs.Below.{count_below}
 use Rattle.calculus_specs.specs.Shape.{shape_of}
 use Rattle.calculus_specs.specs.Shape.Shape.{union}
 use Rattle.calculus_specs.specs.Tree.{IsComplement}

@@ -1,6 +1,6 @@
 -- The roles of the built interpretation are met.
 use Rattle.std.proofs.Common.{◌≡◌, ℕ, ◌<◌, true, List}
-use Rattle.shq_meaning.specs.Truth.{Interpretation}
+use Rattle.ontology_limits.specs.Truth.{Interpretation}
 use Rattle.calculus_specs.specs.declared.facts.Fact.{Fact}
 use Rattle.tableau_specs.specs.declared.Item.{Item}
 use Rattle.tableau_specs.specs.Items.{facts_of}

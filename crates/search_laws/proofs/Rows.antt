@@ -7,8 +7,8 @@ use Rattle.std.proofs.Math.Bool.{or-false}
 use Rattle.shq_terms.specs.Concept.{Concept, parts_of}
 use Rattle.calculus_specs.specs.Normal.{negated_form}
 use Rattle.calculus_specs.specs.Rows.{is_among, others_from, row_concept}
-use Rattle.shq_meaning.specs.Truth.{Interpretation, holds, hold_any}
-use Rattle.shq_nnf.proofs.Truth.{or_holds, negated_truth}
+use Rattle.ontology_limits.specs.Truth.{Interpretation, holds, hold_any}
+use Rattle.ontology_limits.proofs.Truth.{or_holds, negated_truth}
 
 module _ (i : Interpretation) (v : ℕ) (d : Concept) (positions : List ℕ) where
   abbrev one_of : List Concept → Bool

@@ -3,7 +3,7 @@ use Rattle.std.proofs.Common.{◌≡◌, ℕ, ◌<◌, Bool, true, false, List, 
 use Rattle.calculus_specs.specs.Shape.{shape_of, IsTable}
 use Rattle.calculus_specs.specs.Shape.Shape.{all_of}
 use Rattle.calculus_specs.specs.Rows.{Theory}
-use Rattle.shq_meaning.specs.Truth.{Interpretation}
+use Rattle.ontology_limits.specs.Truth.{Interpretation}
 use Rattle.calculus_specs.specs.declared.facts.Fact.{Fact}
 use Rattle.calculus_specs.specs.Joins.{rep}
 use Rattle.calculus_specs.specs.State.{node_count_from, parent_from, has, is_successor, are_apart}

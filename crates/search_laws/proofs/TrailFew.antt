@@ -6,7 +6,7 @@ use Rattle.std.proofs.lemmas.List.Elements.{Contains-get_or}
 use Rattle.std.proofs.lemmas.List.Kept.{AllPairs-filter}
 use Rattle.calculus_specs.specs.Shape.{shape_of}
 use Rattle.calculus_specs.specs.Shape.Shape.{at_most}
-use Rattle.shq_meaning.proofs.Members.{all_pass}
+use Rattle.ontology_limits.proofs.Members.{all_pass}
 use Rattle.calculus_specs.specs.declared.facts.Fact.{Fact}
 use Rattle.calculus_specs.specs.declared.facts.Fact.TheVariants.{Same}
 use Rattle.calculus_specs.specs.State.{node_count_from, has, is_successor, successors_from, are_apart, all_apart}

@@ -5,7 +5,7 @@ use Rattle.shq_terms.specs.declared.axioms.Query.{Query}
 use Rattle.shq_terms.specs.declared.axioms.On.TheVariants.{Any}
 use Rattle.shq_terms.specs.Concept.{top, bottom}
 use Rattle.shq_terms.specs.Uses.{all_use_listed}
-use Rattle.shq_meaning.specs.Truth.{Interpretation, meets_all}
+use Rattle.ontology_limits.specs.Truth.{Interpretation, meets_all}
 use Rattle.refutation_truth.specs.Theory.{named_axioms, theory_of, fact_of_axiom, question_of}
 use Rattle.refutation_truth.proofs.Lines.{MeetsTheory, MeetsQuestion}
 use Rattle.refutation_truth.proofs.Asserted.{question_met}

@@ -15,11 +15,11 @@ use Rattle.calculus_specs.specs.Shape.Shape.{some_of as some_shape, all_of as al
 use Rattle.calculus_specs.specs.Shape.Shape.{at_most as most_shape}
 use Rattle.calculus_specs.specs.Tree.{tree_over, trees_of, tree_of, IsComplement}
 use Rattle.calculus_specs.proofs.Unique.{tree_of_shape}
-use Rattle.shq_meaning.specs.Below.{count_below}
-use Rattle.shq_meaning.specs.Truth.{Interpretation, implies, holds, hold_all, hold_any}
-use Rattle.shq_meaning.proofs.Members.{member_passes}
-use Rattle.shq_meaning.proofs.Implied.{implies_from}
-use Rattle.shq_nnf.proofs.Truth.{negated_truth}
+use Rattle.ontology_limits.specs.Below.{count_below}
+use Rattle.ontology_limits.specs.Truth.{Interpretation, implies, holds, hold_all, hold_any}
+use Rattle.ontology_limits.proofs.Members.{member_passes}
+use Rattle.ontology_limits.proofs.Implied.{implies_from}
+use Rattle.ontology_limits.proofs.Truth.{negated_truth}
 use Rattle.refutation_truth.proofs.Below.{all_from}
 use Rattle.calculus_specs.specs.declared.facts.Fact.{Fact}
 use Rattle.calculus_specs.specs.declared.facts.Fact.TheVariants.{Has}

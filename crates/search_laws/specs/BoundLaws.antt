@@ -1,7 +1,7 @@
 -- The bounds of a search.
 use Rattle.std.specs.Prelude.{◌≡◌, ℕ, suc, ◌+◌, ◌*◌, ◌^◌, ◌<◌, ◌≤◌, ◌==◌, Bool, true, false, List, [], ◌∷◌, length}
 use Rattle.std.specs.Prelude.{Option, None, Some}
-use Rattle.shq_meaning.specs.Below.{count_below}
+use Rattle.ontology_limits.specs.Below.{count_below}
 use Rattle.shq_terms.specs.declared.axioms.Numbered.{Numbered}
 use Rattle.shq_terms.specs.declared.axioms.Query.{Query}
 use Rattle.refutation_truth.specs.Theory.{question_of}

@@ -1,7 +1,7 @@
 -- The interpretation that a saturated trail gives.
 use Rattle.std.specs.Prelude.{◌≡◌, ℕ, ◌+◌, ◌<◌, ◌≤◌, true, ◌↔◌, List, length}
 use Rattle.shq_terms.specs.Concept.{name}
-use Rattle.shq_meaning.specs.Truth.{Interpretation}
+use Rattle.ontology_limits.specs.Truth.{Interpretation}
 use Rattle.calculus_specs.specs.declared.facts.Fact.{Fact}
 use Rattle.tableau_specs.specs.Steps.{SearchContext, has_name}
 use Rattle.search_laws.specs.Elements.{elements, node_at, IsNumberOf, original}

@@ -2,8 +2,8 @@
 use Rattle.std.specs.Prelude.{ℕ, ◌+◌, ◌&&◌, ◌||◌, nat_lt, Bool, List, length, if◌then◌else◌}
 use Rattle.std.specs.List.{list_any, range_with_len}
 use Rattle.shq_terms.specs.Concept.{name}
-use Rattle.shq_meaning.specs.Truth.{Interpretation}
-use Rattle.role_box.specs.Paths.{has_path}
+use Rattle.ontology_limits.specs.Truth.{Interpretation}
+use Rattle.ontology_limits.specs.Paths.{has_path}
 use Rattle.calculus_specs.specs.declared.facts.Fact.{Fact}
 use Rattle.calculus_specs.specs.State.{is_successor}
 use Rattle.tableau_specs.specs.Steps.{SearchContext, below_of, has_name}

@@ -14,10 +14,10 @@ use Rattle.calculus_specs.specs.Rules.{Question}
 use Rattle.calculus_specs.specs.Depth.{role_depth}
 use Rattle.shq_terms.specs.declared.axioms.Numbered.{Numbered}
 use Rattle.shq_terms.specs.declared.axioms.Query.{Query}
-use Rattle.role_box.specs.declared.role_axiom.RoleAxiom.{RoleAxiom}
-use Rattle.role_box.specs.declared.role_axiom.RoleAxiom.TheVariants.{Inclusion, Equivalence, Transitivity}
-use Rattle.role_box.specs.RoleAxioms.{role_axioms}
-use Rattle.shq_nnf.specs.Facts.{facts_of}
+use Rattle.ontology_limits.specs.RoleAxiom.{RoleAxiom}
+use Rattle.ontology_limits.specs.RoleAxiom.TheVariants.{Inclusion, Equivalence, Transitivity}
+use Rattle.ontology_limits.specs.RoleAxioms.{role_axioms}
+use Rattle.ontology_limits.specs.Facts.{facts_of}
 use Rattle.refutation_truth.specs.Theory.{nodes_pass, question_of}
 use Rattle.search_laws.specs.Closure.{IsClosure}
 

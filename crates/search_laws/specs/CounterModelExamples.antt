@@ -4,7 +4,7 @@ use Rattle.shq_terms.specs.Concept.{name, at_least}
 use Rattle.calculus_specs.specs.Shape.{Shape}
 use Rattle.calculus_specs.specs.Shape.Shape.{top, name as name_shape, at_least as least_shape}
 use Rattle.shq_terms.specs.declared.axioms.Axiom.TheVariants.{Member, Pair, SameAll, Different}
-use Rattle.shq_meaning.specs.Truth.{Interpretation, holds, meets}
+use Rattle.ontology_limits.specs.Truth.{Interpretation, holds, meets}
 use Rattle.calculus_specs.specs.declared.facts.Fact.{Fact}
 use Rattle.calculus_specs.specs.declared.facts.Fact.TheVariants.{Has, Edge, Apart, Same}
 use Rattle.tableau_specs.specs.Steps.{SearchContext}

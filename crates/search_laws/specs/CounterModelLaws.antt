@@ -2,8 +2,8 @@
 use Rattle.std.specs.Prelude.{◌≡◌, ℕ, ◌<◌, ◌≤◌, ◌==◌, Bool, true, false, List, length}
 use Rattle.shq_terms.specs.Listed.{Listed}
 use Rattle.shq_terms.specs.declared.axioms.Query.{Query}
-use Rattle.shq_meaning.specs.Below.{count_below}
-use Rattle.shq_meaning.specs.Truth.{Interpretation, PlacesIndividuals, holds, meets_all, refutes_at, Entails}
+use Rattle.ontology_limits.specs.Below.{count_below}
+use Rattle.ontology_limits.specs.Truth.{Interpretation, PlacesIndividuals, holds, meets_all, refutes_at, Entails}
 use Rattle.calculus_specs.specs.Shape.{Shape, shape_of}
 use Rattle.calculus_specs.specs.Shape.Shape.{at_most}
 use Rattle.calculus_specs.specs.Tree.{tree_of}

@@ -16,3 +16,6 @@ pub mod ReuseLaws
 pub mod ReuseExamples
 pub use Rattle.refutation_truth.specs.Theory
 pub use Rattle.ontology_limits.specs.Limits
+pub use Rattle.ontology_limits.specs.Counted
+pub use Rattle.ontology_limits.specs.Simple
+pub use Rattle.ontology_limits.specs.Shapes

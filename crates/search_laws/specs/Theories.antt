@@ -1,10 +1,10 @@
 -- What it is that an interpretation meets a theory, and the facts that axioms give.
 use Rattle.std.specs.Prelude.{◌≡◌, ℕ, ◌<◌, true, Option, Some}
 use Rattle.shq_terms.specs.Concept.{Concept}
-use Rattle.shq_meaning.specs.Truth.{Interpretation}
+use Rattle.ontology_limits.specs.Truth.{Interpretation}
 use Rattle.calculus_specs.specs.Rows.{Part, Theory, part_at}
 use Rattle.calculus_specs.specs.declared.facts.Fact.{Fact}
-use Rattle.shq_nnf.specs.Meeting.{meets_part, is_true}
+use Rattle.ontology_limits.specs.Meeting.{meets_part, is_true}
 
 -- the pairs of a role are pairs of each role above it, and those of a transitive role are passed on
 pub record MeetsRoles (theory : Theory) (i : Interpretation) : Type 0 where

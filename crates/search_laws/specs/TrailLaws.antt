@@ -1,7 +1,7 @@
 -- Laws of reached and saturated trails, and of theories.
 use Rattle.std.specs.Prelude.{◌≡◌, ℕ, ◌<◌, ◌≤◌, true, ◌↔◌, List, length}
 use Rattle.shq_terms.specs.declared.axioms.Numbered.{Numbered}
-use Rattle.shq_meaning.specs.Truth.{Interpretation, meets_all}
+use Rattle.ontology_limits.specs.Truth.{Interpretation, meets_all}
 use Rattle.calculus_specs.specs.Shape.{shape_of}
 use Rattle.calculus_specs.specs.Shape.Shape.{at_most}
 use Rattle.calculus_specs.specs.State.{node_count_from, has}

@@ -8,9 +8,9 @@ use Rattle.std.proofs.lemmas.List.Elements.{All-push}
 use Rattle.std.proofs.lemmas.List.Folds.{list_any-append}
 use Rattle.calculus_specs.specs.Shape.{Shape, shape_of}
 use Rattle.calculus_specs.specs.Shape.Shape.{all_of}
-use Rattle.role_box.specs.declared.role_axiom.RoleAxiom.{RoleAxiom}
-use Rattle.role_box.specs.Steps.{is_transitive}
-use Rattle.role_box.specs.Paths.{is_below}
+use Rattle.ontology_limits.specs.RoleAxiom.{RoleAxiom}
+use Rattle.ontology_limits.specs.Steps.{is_transitive}
+use Rattle.ontology_limits.specs.Paths.{is_below}
 use Rattle.absorption.specs.Needed.{HasTransitiveRoles}
 use Rattle.step_finders.specs.Found.{IsCarry, AreCarries}
 use Rattle.search_rules.specs.Lists.{option_list}

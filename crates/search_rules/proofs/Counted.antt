@@ -8,7 +8,7 @@ use Rattle.std.proofs.lemmas.List.Folds.{list_any-append}
 use Rattle.calculus_specs.specs.Shape.{Shape, shape_of, IsTable}
 use Rattle.calculus_specs.specs.Shape.Shape.{at_most}
 use Rattle.absorption.proofs.Carried.{most_filler}
-use Rattle.tableau_specs.proofs.Listed.{listed}
+use Rattle.absorption.proofs.ListedTrails.{listed}
 use Rattle.step_finders.specs.Clashing.{IsMost, AreMosts}
 use Rattle.search_rules.specs.Lists.{list_at}
 use Rattle.search_rules.specs.Mosts.{filler_of_most, AreMostsTo}

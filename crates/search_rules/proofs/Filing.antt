@@ -18,18 +18,18 @@ use Rattle.calculus_specs.specs.Tree.{tree_over, trees_of, tree_of}
 use Rattle.calculus_specs.specs.Rows.{Part, part_at, conjunct_at, Trigger as PlainTrigger, Row as PlainRowOf}
 use Rattle.calculus_specs.specs.Rows.Part.{inclusion, range}
 use Rattle.calculus_specs.specs.Rows.Trigger.{always, names, edge, end_of}
-use Rattle.shq_nnf.specs.Numbers.{AreNumbers, trees_at}
-use Rattle.shq_nnf.proofs.Numbers.{shape_tree}
+use Rattle.ontology_limits.specs.Numbers.{AreNumbers, trees_at}
+use Rattle.ontology_limits.proofs.Numbers.{shape_tree}
 use Rattle.calculus_specs.specs.declared.facts.Fact.{Fact}
 use Rattle.calculus_specs.specs.declared.facts.Fact.TheVariants.{Has, Edge as EdgeFact, Apart, Same}
 use Rattle.calculus_specs.specs.Joins.{rep}
 use Rattle.calculus_specs.specs.State.{node_count_from, has, label, has_edge, gives_edge, is_successor}
 use Rattle.calculus_specs.proofs.Joined.{rep-joined, joined-rep}
 use Rattle.calculus_specs.proofs.State.{any-label}
-use Rattle.tableau_specs.specs.Steps.{SearchContext, below_of, is_named, has_name, has_names, begins_edge, ends_edge}
-use Rattle.tableau_specs.specs.Steps.{is_triggered, is_used_at}
-use Rattle.tableau_specs.proofs.Listed.{listed}
-use Rattle.tableau_specs.proofs.Moved.{has_at, edge_to}
+use Rattle.absorption.specs.Steps.{SearchContext, below_of, is_named, has_name, has_names, begins_edge, ends_edge}
+use Rattle.absorption.specs.Steps.{is_triggered, is_used_at}
+use Rattle.absorption.proofs.ListedTrails.{listed}
+use Rattle.absorption.proofs.Moved.{has_at, edge_to}
 use Rattle.absorption.specs.Triggers.{trigger_for, premises_for}
 use Rattle.absorption.specs.declared.row.Row.{Row}
 use Rattle.absorption.specs.declared.row.Trigger.{Trigger}

@@ -24,14 +24,14 @@ use Rattle.calculus_specs.specs.Reading.{read_fact, is_fact_listed}
 use Rattle.calculus_specs.specs.State.{speaks_below}
 use Rattle.calculus_specs.specs.declared.facts.Fact.{Fact}
 use Rattle.calculus_specs.specs.declared.facts.Fact.TheVariants.{Has, Edge, Apart, Same}
-use Rattle.shq_nnf.specs.Counts.{has_counts_within}
-use Rattle.shq_nnf.specs.Parts.{axiom_has_counts_within}
-use Rattle.shq_nnf.specs.Facts.{same_facts, apart_facts}
-use Rattle.shq_nnf.specs.Numbers.{Extends}
-use Rattle.shq_nnf.proofs.Numbers.{length_extends, tree_stays}
+use Rattle.ontology_limits.specs.Counts.{has_counts_within}
+use Rattle.ontology_limits.specs.Parts.{axiom_has_counts_within}
+use Rattle.ontology_limits.specs.Facts.{same_facts, apart_facts}
+use Rattle.ontology_limits.specs.Numbers.{Extends}
+use Rattle.ontology_limits.proofs.Numbers.{length_extends, tree_stays}
 use Rattle.absorption.specs.Theory.{fact_of_axiom, fact_in, listed_fact, nodes_pass, question_in}
-use Rattle.tableau_specs.specs.Steps.{SearchContext, IsGiven}
-use Rattle.tableau_specs.specs.Reached.{FactsHaveNumbers}
+use Rattle.absorption.specs.Steps.{SearchContext, IsGiven}
+use Rattle.absorption.specs.Reached.{FactsHaveNumbers}
 use Rattle.assertion_box.specs.Stated.{Stated, own_facts, own_facts_in, numbered_facts, stated_facts, stated_at}
 use Rattle.assertion_box.specs.Laws.{AreGivenBy}
 use Rattle.step_finders.specs.declared.state.Given.{Given}

@@ -8,8 +8,8 @@ use Rattle.calculus_specs.specs.Shape.{Shape, IsTable}
 use Rattle.calculus_specs.specs.Tree.{trees_of, tree_of, IsComplement}
 use Rattle.calculus_specs.proofs.Tree.{length-trees_of}
 use Rattle.calculus_specs.proofs.Unique.{numbers_unique}
-use Rattle.shq_nnf.specs.Numbers.{Extends, IsNumber}
-use Rattle.shq_nnf.proofs.Numbers.{length_extends, tree_stays, top_number}
+use Rattle.ontology_limits.specs.Numbers.{Extends, IsNumber}
+use Rattle.ontology_limits.proofs.Numbers.{length_extends, tree_stays, top_number}
 use Rattle.search_rules.specs.Tables.{FindsComplement}
 
 module _ (old new : List Shape) (grown : Extends old new) (c n : ℕ) (lt : c < length old)

@@ -11,11 +11,12 @@ use Rattle.shq_terms.specs.declared.axioms.Axiom.TheVariants.{DisjointUnion, Sub
 use Rattle.shq_terms.specs.declared.axioms.Axiom.TheVariants.{Functional, Transitive, Member, Pair, SameAll, Different}
 use Rattle.shq_terms.specs.declared.axioms.Numbered.{Numbered}
 use Rattle.calculus_specs.specs.Rows.{Part, inclusion, range, is_among, inclusion_of}
-use Rattle.shq_nnf.specs.Parts.{axiom_parts, part_in, disjoint_pair, disjoint_parts, chain_parts, equivalent_parts}
-use Rattle.shq_nnf.specs.Parts.{union_parts}
+use Rattle.ontology_limits.specs.Parts.{axiom_parts, part_in, disjoint_pair, disjoint_parts, chain_parts}
+use Rattle.ontology_limits.specs.Parts.{equivalent_parts}
+use Rattle.ontology_limits.specs.Parts.{union_parts}
 use Rattle.absorption.specs.Theory.{theory_of, parts_at, parts_in}
 use Rattle.absorption.proofs.Numbered.{numbered}
-use Rattle.tableau_specs.specs.LineLaws.{RangesAreFirst}
+use Rattle.absorption.specs.LineLaws.{RangesAreFirst}
 
 abbrev is_inclusion : Part → Bool
 is_inclusion (inclusion cs d) = true

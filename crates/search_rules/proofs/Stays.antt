@@ -6,22 +6,22 @@ use Rattle.shq_terms.specs.Concept.{Concept}
 use Rattle.calculus_specs.specs.Shape.{Shape, shape_of, IsTable}
 use Rattle.calculus_specs.specs.Rows.{Theory, Row, IsRowOf}
 use Rattle.shq_terms.specs.declared.axioms.Numbered.{Numbered}
-use Rattle.shq_nnf.specs.Numbers.{Extends}
-use Rattle.shq_nnf.proofs.Numbers.{extends_twice, length_extends, tree_stays, numbers_stay}
+use Rattle.ontology_limits.specs.Numbers.{Extends}
+use Rattle.ontology_limits.proofs.Numbers.{extends_twice, length_extends, tree_stays, numbers_stay}
 use Rattle.absorption.specs.Theory.{theory_of}
-use Rattle.tableau_specs.specs.Steps.{is_named}
-use Rattle.tableau_specs.proofs.Listed.{listed}
+use Rattle.absorption.specs.Steps.{is_named}
+use Rattle.absorption.proofs.ListedTrails.{listed}
 use Rattle.absorption.proofs.Carried.{shape_stays}
 use Rattle.absorption.specs.declared.row.Row.{Row as Filed}
 use Rattle.absorption.specs.Places.{FiledRows, names_class, WaitsForName, StandInPlaces}
 use Rattle.absorption.specs.Tables.{HasFixedTrigger, IsRowTable}
 use Rattle.shq_terms.specs.Listed.{Listed}
 use Rattle.shq_terms.specs.declared.axioms.Query.{Query}
-use Rattle.axiom_sets.specs.Sets.{Limited, member_list}
-use Rattle.role_box.specs.declared.role_axiom.RoleAxiom.{RoleAxiom}
-use Rattle.role_box.specs.RoleAxioms.{role_axioms}
-use Rattle.role_box.specs.Steps.{is_transitive}
-use Rattle.role_box.specs.Paths.{is_below}
+use Rattle.absorption.specs.Sets.{Limited, member_list}
+use Rattle.ontology_limits.specs.RoleAxiom.{RoleAxiom}
+use Rattle.ontology_limits.specs.RoleAxioms.{role_axioms}
+use Rattle.ontology_limits.specs.Steps.{is_transitive}
+use Rattle.ontology_limits.specs.Paths.{is_below}
 use Rattle.absorption.specs.Closed.{IsClosed}
 use Rattle.search_rules.specs.declared.query_numbers.QueryNumbers.{QueryNumbers}
 use Rattle.search_rules.specs.Lists.{NumberLists, EdgeLists}

@@ -8,7 +8,7 @@ use Rattle.calculus_specs.specs.Tree.{tree_of}
 use Rattle.calculus_specs.specs.Reading.{read_fact, is_fact_listed}
 use Rattle.calculus_specs.specs.declared.facts.Fact.{Fact}
 use Rattle.calculus_specs.specs.declared.facts.Fact.TheVariants.{Has, Edge, Apart, Same}
-use Rattle.shq_nnf.specs.Counts.{has_counts_within}
+use Rattle.ontology_limits.specs.Counts.{has_counts_within}
 use Rattle.assertion_box.specs.Stated.{Stated, stated_at}
 use Rattle.step_finders.specs.declared.state.Given.{Given}
 

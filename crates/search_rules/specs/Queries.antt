@@ -3,10 +3,10 @@ use Rattle.std.specs.Prelude.{◌≡◌, List, Option, None, Some}
 use Rattle.calculus_specs.specs.Normal.{normal_form, negated_form}
 use Rattle.calculus_specs.specs.Shape.{Shape, IsTable}
 use Rattle.shq_terms.specs.declared.axioms.Query.{Query}
-use Rattle.shq_nnf.specs.Numbers.{Extends, IsNumber}
-use Rattle.role_box.specs.declared.role_axiom.RoleAxiom.{RoleAxiom}
-use Rattle.role_box.specs.Steps.{is_transitive}
-use Rattle.role_box.specs.Paths.{is_below}
+use Rattle.ontology_limits.specs.Numbers.{Extends, IsNumber}
+use Rattle.ontology_limits.specs.RoleAxiom.{RoleAxiom}
+use Rattle.ontology_limits.specs.Steps.{is_transitive}
+use Rattle.ontology_limits.specs.Paths.{is_below}
 use Rattle.absorption.specs.Closed.{IsClosed}
 use Rattle.absorption.specs.Places.{RowsByNumber}
 use Rattle.search_rules.specs.declared.query_numbers.QueryNumbers.{QueryNumbers}

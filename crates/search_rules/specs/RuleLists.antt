@@ -2,15 +2,15 @@
 use Rattle.std.specs.Prelude.{◌≡◌, ℕ, ◌+◌, ◌<◌, List, length}
 use Rattle.shq_terms.specs.Listed.{Listed}
 use Rattle.shq_terms.specs.declared.axioms.Query.{Query}
-use Rattle.axiom_sets.specs.Sets.{Limited, member_list}
+use Rattle.absorption.specs.Sets.{Limited, member_list}
 use Rattle.calculus_specs.specs.Shape.{Shape, IsTable}
 use Rattle.calculus_specs.specs.Normal.{normal_form, negated_form}
 use Rattle.calculus_specs.specs.Tree.{tree_of}
 use Rattle.calculus_specs.specs.Rows.{Theory}
-use Rattle.shq_nnf.specs.Numbers.{Extends}
+use Rattle.ontology_limits.specs.Numbers.{Extends}
 use Rattle.absorption.specs.Theory.{theory_of, fact_of_axiom, question_in}
-use Rattle.tableau_specs.specs.Steps.{SearchContext}
-use Rattle.tableau_specs.specs.Reached.{FactsHaveNumbers}
+use Rattle.absorption.specs.Steps.{SearchContext}
+use Rattle.absorption.specs.Reached.{FactsHaveNumbers}
 use Rattle.absorption.specs.ClosureLaws.{IsClosedFor}
 use Rattle.absorption.specs.Rows.{plain_rows}
 use Rattle.absorption.specs.Places.{FiledRows, all_filed}

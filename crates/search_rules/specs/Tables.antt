@@ -3,11 +3,11 @@ use Rattle.std.specs.Prelude.{◌≡◌, ℕ, ◌<◌, Bool, List, [], map, leng
 use Rattle.calculus_specs.specs.Shape.{Shape, shape_of}
 use Rattle.calculus_specs.specs.Shape.Shape.{all_of}
 use Rattle.calculus_specs.specs.Tree.{IsComplement}
-use Rattle.role_box.specs.declared.role_axiom.RoleAxiom.{RoleAxiom}
-use Rattle.role_box.specs.RoleAxioms.{role_axioms}
-use Rattle.role_box.specs.Steps.{is_transitive}
-use Rattle.role_box.specs.Paths.{is_below}
-use Rattle.tableau_specs.specs.Steps.{SearchContext}
+use Rattle.ontology_limits.specs.RoleAxiom.{RoleAxiom}
+use Rattle.ontology_limits.specs.RoleAxioms.{role_axioms}
+use Rattle.ontology_limits.specs.Steps.{is_transitive}
+use Rattle.ontology_limits.specs.Paths.{is_below}
+use Rattle.absorption.specs.Steps.{SearchContext}
 use Rattle.absorption.specs.Places.{RowsByNumber, FiledRows}
 use Rattle.step_finders.specs.Found.{AreCarriesOf}
 use Rattle.step_finders.specs.Clashing.{AreMosts}

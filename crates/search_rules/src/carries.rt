@@ -2,19 +2,18 @@
 ghost use Rattle.std.specs.Prelude.{◌≡◌, ℕ, ◌<◌, true, length, IfOk, MatchOption, All};
 ghost use Rattle.calculus_specs.specs.Shape.{shape_of};
 ghost use Rattle.calculus_specs.specs.Shape.Shape.{all_of};
-ghost use Rattle.role_box.specs.Steps.{is_transitive};
-ghost use Rattle.role_box.specs.Paths.{is_below};
+ghost use Rattle.ontology_limits.specs.Steps.{is_transitive};
+ghost use Rattle.ontology_limits.specs.Paths.{is_below};
 ghost use Rattle.absorption.specs.Closed.{IsClosed};
 ghost use Rattle.absorption.specs.Needed.{HasTransitiveRoles};
-ghost use Rattle.shq_nnf.specs.Shapes.{form_of};
+ghost use Rattle.ontology_limits.specs.Shapes.{form_of};
 ghost use Rattle.step_finders.specs.Found.{IsCarry, AreCarriesOf, AreCarries};
 ghost use Rattle.search_rules.specs.Lists.{list_at};
 ghost use Rattle.search_rules.specs.Tables.{role_context, universal_of};
 
 use crate::NoMemory;
 use crate::item_list::{ItemList, push_some};
-use role_box::RoleBox;
-use shq_nnf::{Concepts, OwnedShape, Shape};
+use ontology_limits::{Concepts, OwnedShape, RoleBox, Shape};
 use std::alloc::Global;
 
 // By the number of a universal restriction, the transitive roles below its role, each with its restriction of the same

@@ -3,7 +3,7 @@ ghost use Rattle.std.specs.Prelude.{◌≡◌, ℕ, ◌<◌, None, length, IfOk,
 ghost use Rattle.search_rules.specs.Tables.{FindsComplement};
 
 use crate::NoMemory;
-use shq_nnf::Concepts;
+use ontology_limits::Concepts;
 use std::alloc::Global;
 
 // By number, the number of its complement, where the table has one.

@@ -1,6 +1,6 @@
 // The rows that wait for nothing, and those of edges by role.
 ghost use Rattle.std.specs.Prelude.{◌≡◌, ℕ, ◌++◌, ◌<◌, ◌≤◌, ◌==◌, ◌^◌, map, All, IfOk, OnOk};
-ghost use Rattle.role_box.specs.Paths.{is_below};
+ghost use Rattle.ontology_limits.specs.Paths.{is_below};
 ghost use Rattle.search_rules.specs.Lists.{list_at, EdgeLists};
 ghost use Rattle.search_rules.specs.Files.{plain_of, waits_for, row_if, passing_rows, rows_above, rows_among};
 ghost use Rattle.search_rules.specs.Tables.{AreEdgeLists};
@@ -8,7 +8,7 @@ ghost use Rattle.search_rules.specs.Tables.{AreEdgeLists};
 use crate::NoMemory;
 use crate::item_list::{ItemList, list_at};
 use absorption::{Row, RowTable, Trigger};
-use role_box::RoleBox;
+use ontology_limits::RoleBox;
 use std::alloc::Global;
 use std::marker::Model;
 use step_finders::PlainRow;

@@ -1,6 +1,6 @@
 // The facts that axioms give to searches, over numbers of concepts.
 ghost use Rattle.std.specs.Prelude.{◌≡◌, ℕ, ◌<◌, ◌≤◌, ◌++◌, All, IsTrue, IfOk, OnOk, length};
-ghost use Rattle.shq_nnf.specs.Numbers.{Extends};
+ghost use Rattle.ontology_limits.specs.Numbers.{Extends};
 ghost use Rattle.ontology_limits.specs.Limits.{IsOntologyInLimit};
 ghost use Rattle.assertion_box.specs.Stated.{stated_facts, stated_at};
 ghost use Rattle.assertion_box.specs.Entries.{axiom_of, fact_of};
@@ -12,7 +12,7 @@ use crate::NoMemory;
 use crate::item_list::{ItemList, list_at, push_grown};
 use assertion_box::{Facts, Given as Assertion};
 use calculus_specs::Fact;
-use shq_nnf::Concepts;
+use ontology_limits::Concepts;
 use shq_terms::Ontology;
 use std::alloc::Global;
 use std::marker::Model;

@@ -26,3 +26,4 @@ mod search_rules;
 
 pub use search_rules::SearchRules;
 pub use shq_terms::NoMemory;
+pub use step_finders::Rules;

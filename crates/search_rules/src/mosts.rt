@@ -1,14 +1,14 @@
 // The 'at most' with each filler.
 ghost use Rattle.std.specs.Prelude.{◌≡◌, ℕ, ◌+◌, ◌<◌, [], length, IfOk, OnOk};
 ghost use Rattle.calculus_specs.specs.Shape.{shape_of};
-ghost use Rattle.shq_nnf.specs.Shapes.{form_of};
+ghost use Rattle.ontology_limits.specs.Shapes.{form_of};
 ghost use Rattle.step_finders.specs.Clashing.{AreMosts};
 ghost use Rattle.search_rules.specs.Lists.{list_at};
 ghost use Rattle.search_rules.specs.Mosts.{filler_of_most, AreMostsTo};
 
 use crate::NoMemory;
 use crate::item_list::{ItemList, push_under};
-use shq_nnf::{Concepts, Shape};
+use ontology_limits::{Concepts, Shape};
 use std::alloc::Global;
 
 // By the number of a concept, each 'at most' with it as filler, ascending.

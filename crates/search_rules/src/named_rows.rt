@@ -1,14 +1,14 @@
 // The rows of names.
 ghost use Rattle.std.specs.Prelude.{◌≡◌, ℕ, map, IfOk};
 ghost use Rattle.calculus_specs.specs.Shape.{shape_of};
-ghost use Rattle.shq_nnf.specs.Shapes.{form_of};
+ghost use Rattle.ontology_limits.specs.Shapes.{form_of};
 ghost use Rattle.search_rules.specs.Lists.{list_at};
 ghost use Rattle.search_rules.specs.Files.{positions_of, named_of, rows_at_shape};
 
 use crate::NoMemory;
 use crate::item_list::ItemList;
 use absorption::{Row, RowTable, Trigger};
-use shq_nnf::{Concepts, Shape};
+use ontology_limits::{Concepts, Shape};
 use shq_terms::NumberList;
 use std::alloc::Global;
 use step_finders::NamedRow;

@@ -1,7 +1,7 @@
 // What a search asks of concepts, by their numbers.
 ghost use Rattle.std.specs.Prelude.{◌≡◌, ℕ, ◌<◌, None, length, IfOk, slice_index_or};
-ghost use Rattle.role_box.specs.Steps.{is_transitive};
-ghost use Rattle.role_box.specs.Paths.{is_below};
+ghost use Rattle.ontology_limits.specs.Steps.{is_transitive};
+ghost use Rattle.ontology_limits.specs.Paths.{is_below};
 ghost use Rattle.absorption.specs.Closed.{IsClosed};
 ghost use Rattle.search_rules.specs.Lists.{list_at};
 ghost use Rattle.search_rules.specs.Tables.{AreNumberLists};
@@ -13,8 +13,7 @@ use crate::item_list::{ItemList, list_at};
 use crate::mosts::most_lists;
 use crate::named_rows::named_lists;
 use absorption::RowTable;
-use role_box::RoleBox;
-use shq_nnf::Concepts;
+use ontology_limits::{Concepts, RoleBox};
 use std::alloc::Global;
 use std::marker::Model;
 use step_finders::NamedRow;

@@ -1,10 +1,10 @@
 // The numbers of what a query asks, and the tables that have them.
 ghost use Rattle.std.specs.Prelude.{◌≡◌, IsTrue, IfOk, OnOk, OnErr};
 ghost use Rattle.calculus_specs.specs.Shape.{IsTable};
-ghost use Rattle.role_box.specs.Steps.{is_transitive};
-ghost use Rattle.role_box.specs.Paths.{is_below};
-ghost use Rattle.shq_nnf.specs.Counts.{has_counts_within};
-ghost use Rattle.shq_nnf.specs.Numbers.{Extends};
+ghost use Rattle.ontology_limits.specs.Steps.{is_transitive};
+ghost use Rattle.ontology_limits.specs.Paths.{is_below};
+ghost use Rattle.ontology_limits.specs.Counts.{has_counts_within};
+ghost use Rattle.ontology_limits.specs.Numbers.{Extends};
 ghost use Rattle.absorption.specs.Closed.{IsClosed};
 ghost use Rattle.search_rules.specs.Queries.{IsFound};
 ghost use Rattle.search_rules.specs.Tables.{AreNumberLists};
@@ -12,8 +12,7 @@ ghost use Rattle.search_rules.specs.Tables.{AreNumberLists};
 use crate::NoMemory;
 use crate::number_tables::NumberTables;
 use absorption::{RowTable, close};
-use role_box::RoleBox;
-use shq_nnf::Concepts;
+use ontology_limits::{Concepts, RoleBox};
 use shq_terms::Query;
 use std::alloc::Global;
 

@@ -1,10 +1,10 @@
 // The rules of searches over one set of axioms.
 ghost use Rattle.std.specs.Prelude.{◌≡◌, ℕ, ◌<◌, ◌≤◌, All, IsTrue, IfOk, OnErr, length};
 ghost use Rattle.calculus_specs.specs.Shape.{IsTable};
-ghost use Rattle.axiom_sets.specs.Sets.{IsWithin, member_list};
-ghost use Rattle.shq_nnf.specs.Counts.{has_counts_within};
-ghost use Rattle.shq_nnf.specs.Numbers.{Extends};
-ghost use Rattle.role_box.specs.RoleAxioms.{role_axioms};
+ghost use Rattle.absorption.specs.Sets.{IsWithin, member_list};
+ghost use Rattle.ontology_limits.specs.Counts.{has_counts_within};
+ghost use Rattle.ontology_limits.specs.Numbers.{Extends};
+ghost use Rattle.ontology_limits.specs.RoleAxioms.{role_axioms};
 ghost use Rattle.absorption.specs.Theory.{node_in_question};
 ghost use Rattle.ontology_limits.specs.Limits.{IsOntologyInLimit};
 
@@ -13,11 +13,8 @@ use crate::edge_tables::EdgeTables;
 use crate::given_facts::GivenFacts;
 use crate::number_tables::NumberTables;
 use crate::query_numbers::{QueryNumbers, closed_tables, query_numbers};
-use absorption::RowTable;
-use axiom_sets::AxiomSet;
-use ontology_limits::each_axiom_is_in_limit;
-use role_box::RoleBox;
-use shq_nnf::{Concepts, Shape};
+use absorption::{AxiomSet, RowTable};
+use ontology_limits::{Concepts, RoleBox, Shape, each_axiom_is_in_limit};
 use shq_terms::{On, Ontology, Query};
 use std::alloc::Global;
 use std::marker::Model;
@@ -39,7 +36,7 @@ pub struct SearchRules<'a> {
 impl<'a> Model for SearchRules<'a> {
     ghost use Rattle.std.specs.Coded.{codes};
     ghost use Rattle.shq_terms.specs.Code.{concept_code};
-    ghost use Rattle.axiom_sets.specs.Sets.{limited_code};
+    ghost use Rattle.absorption.specs.Sets.{limited_code};
     ghost use Rattle.search_rules.specs.RuleLists.{RuleLists};
     ghost use Rattle.search_rules.specs.Tables.{AreKept};
 

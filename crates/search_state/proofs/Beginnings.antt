@@ -8,8 +8,8 @@ use Rattle.tableau_specs.specs.Steps.{SearchContext}
 use Rattle.search_trace.specs.Grounded.{is_known_within, AreGrounded}
 use Rattle.search_trace.proofs.Trail.{first_is_known}
 use Rattle.search_trace.proofs.Places.{start_is_traced}
-use Rattle.completion_tree.specs.declared.tree.Entry.{Entry}
-use Rattle.completion_tree.specs.Trail.{facts_in}
+use Rattle.step_agenda.specs.Entry.{Entry}
+use Rattle.step_agenda.specs.Trail.{facts_in}
 use Rattle.step_agenda.specs.Followed.{Printed, AreFirstBlocks, IsCurrent}
 use Rattle.step_finders.specs.declared.clash.Clash.{Clash}
 use Rattle.search_trace.specs.Trace.{TraceLists, begun}

@@ -21,10 +21,10 @@ use Rattle.search_trace.specs.Noted.{marked, start_of}
 use Rattle.search_trace.specs.Grounded.{is_known_within, AreGrounded}
 use Rattle.search_trace.specs.Trail.{MarkedFact}
 use Rattle.search_trace.specs.Places.{Place, opened_place, turned_place}
-use Rattle.completion_tree.specs.declared.tree.By.{By}
-use Rattle.completion_tree.specs.declared.tree.Entry.{Entry}
-use Rattle.completion_tree.specs.declared.tree.Entry.TheVariants.{Fact as Grounded, Mark}
-use Rattle.completion_tree.specs.Trail.{facts_in, items_of, item_of}
+use Rattle.step_agenda.specs.By.{By}
+use Rattle.step_agenda.specs.Entry.{Entry}
+use Rattle.step_agenda.specs.Entry.TheVariants.{Fact as Grounded, Mark}
+use Rattle.step_agenda.specs.Trail.{facts_in, items_of, item_of}
 use Rattle.step_finders.specs.declared.choosing.Choosing.{Choosing}
 use Rattle.step_finders.specs.Choosing.{branch_of, IsChoosable}
 use Rattle.step_lines.specs.Serving.{FactsStayGrounded, AlternativesSpeakOfNodes, branch_nodes}

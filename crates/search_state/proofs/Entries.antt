@@ -10,11 +10,11 @@ use Rattle.tableau_specs.specs.declared.Item.TheVariants.{Fact as Says}
 use Rattle.tableau_specs.specs.Items.{facts_of, says}
 use Rattle.search_trace.specs.Noted.{marked, is_within, within, items}
 use Rattle.search_trace.specs.Trail.{MarkedFact}
-use Rattle.completion_tree.specs.declared.tree.By.{By}
-use Rattle.completion_tree.specs.declared.tree.Entry.{Entry}
-use Rattle.completion_tree.specs.declared.tree.Entry.TheVariants.{Fact as Grounded, Mark}
-use Rattle.completion_tree.specs.Trail.{facts_in, items_of, item_of, grounded}
-use Rattle.completion_tree.specs.Marks.{facts_within}
+use Rattle.step_agenda.specs.By.{By}
+use Rattle.step_agenda.specs.Entry.{Entry}
+use Rattle.step_agenda.specs.Entry.TheVariants.{Fact as Grounded, Mark}
+use Rattle.step_agenda.specs.Trail.{facts_in, items_of, item_of, grounded}
+use Rattle.step_agenda.specs.Marks.{facts_within}
 use Rattle.search_state.specs.Marked.{marked_in}
 
 pub items-marked : (es : List Entry) → items (marked_in es) ≡ facts_in es

@@ -1,8 +1,8 @@
 -- What is so of a search is so where nothing has changed but what is known of blocks.
 use Rattle.std.proofs.Common.{◌≡◌, List, None, ap, sym, subst}
 use Rattle.tableau_specs.specs.Steps.{SearchContext}
-use Rattle.completion_tree.specs.declared.tree.Entry.{Entry}
-use Rattle.completion_tree.specs.Trail.{facts_in}
+use Rattle.step_agenda.specs.Entry.{Entry}
+use Rattle.step_agenda.specs.Trail.{facts_in}
 use Rattle.step_agenda.specs.Followed.{AreFirstBlocks}
 use Rattle.step_agenda.proofs.BlockLists.{all_are_first}
 use Rattle.search_state.specs.Progress.{ProgressLists, IsStanding, IsClashOf, IsSearching}

@@ -7,7 +7,7 @@ use Rattle.tableau_specs.specs.Steps.{SearchContext, HasClash}
 use Rattle.std.specs.List.{All}
 use Rattle.search_trace.specs.Noted.{Noted, start_of}
 use Rattle.search_trace.specs.Places.{Place}
-use Rattle.completion_tree.specs.Trail.{items_of}
+use Rattle.step_agenda.specs.Trail.{items_of}
 use Rattle.search_trace.specs.declared.opens.Back.{Back}
 use Rattle.search_trace.specs.declared.opens.Back.TheVariants.{Turned, Closed}
 use Rattle.search_trace.specs.Trace.{TraceLists, with_line, gone_back, turned_back, answer_of}

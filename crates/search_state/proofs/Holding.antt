@@ -22,8 +22,8 @@ use Rattle.search_trace.specs.Premises.{Added}
 use Rattle.search_trace.specs.Trail.{MarkedFact}
 use Rattle.search_trace.specs.Grounded.{named, AreGrounded}
 use Rattle.search_trace.proofs.Among.{any_implies, any_within, given_stays, edge_stays, apart_stays}
-use Rattle.completion_tree.specs.declared.tree.Entry.{Entry}
-use Rattle.completion_tree.specs.Trail.{facts_in}
+use Rattle.step_agenda.specs.Entry.{Entry}
+use Rattle.step_agenda.specs.Trail.{facts_in}
 use Rattle.absorption.specs.ClosureLaws.{IsClosedFor}
 use Rattle.absorption.proofs.Lacking.{lack_nothing}
 use Rattle.step_finders.specs.declared.choosing.Choosing.{Choosing}

@@ -24,8 +24,8 @@ use Rattle.tableau_specs.proofs.Join.{join_clashes}
 use Rattle.tableau_specs.proofs.Edge.{edge_clashes}
 use Rattle.tableau_specs.proofs.TreeShaped.{first_le, count_le}
 use Rattle.tableau_specs.proofs.Parted.{apart_clashes}
-use Rattle.completion_tree.specs.declared.tree.Entry.TheVariants.{Fact as Grounded}
-use Rattle.completion_tree.specs.Trail.{facts_in, items_of}
+use Rattle.step_agenda.specs.Entry.TheVariants.{Fact as Grounded}
+use Rattle.step_agenda.specs.Trail.{facts_in, items_of}
 use Rattle.step_finders.specs.declared.clash.Clash.{Clash}
 use Rattle.step_finders.specs.Clashing.{AreLedTo, IsShown}
 use Rattle.search_state.specs.Progress.{ProgressLists, IsStanding, IsLast, IsClashOf, IsSearching}

@@ -4,7 +4,7 @@ use Rattle.std.proofs.Common.{sym, subst, arith}
 use Rattle.std.specs.Prelude.{slice_get}
 use Rattle.tableau_specs.specs.Steps.{SearchContext}
 use Rattle.search_trace.specs.Places.{Place}
-use Rattle.completion_tree.specs.declared.tree.Entry.{Entry}
+use Rattle.step_agenda.specs.Entry.{Entry}
 use Rattle.search_state.specs.Marked.{marked_in}
 use Rattle.search_state.specs.Branchings.{IsMarkOf, AreMarks}
 

@@ -16,9 +16,9 @@ use Rattle.search_trace.specs.Premises.{Added, is_single}
 use Rattle.search_trace.specs.Trail.{MarkedFact, Puts}
 use Rattle.search_trace.specs.Grounded.{AreGrounded}
 use Rattle.search_trace.specs.Places.{Place}
-use Rattle.completion_tree.specs.declared.tree.By.{By}
-use Rattle.completion_tree.specs.declared.tree.Entry.{Entry}
-use Rattle.completion_tree.specs.Trail.{facts_in, items_of, grounded}
+use Rattle.step_agenda.specs.By.{By}
+use Rattle.step_agenda.specs.Entry.{Entry}
+use Rattle.step_agenda.specs.Trail.{facts_in, items_of, grounded}
 use Rattle.step_agenda.specs.Followed.{AreFirstBlocks}
 use Rattle.search_trace.specs.Trace.{TraceLists, with_line}
 use Rattle.search_trace.specs.Laws.{IsTracedAt}

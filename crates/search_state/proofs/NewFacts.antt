@@ -13,7 +13,7 @@ use Rattle.tableau_specs.specs.Clash.{IsPlainClash}
 use Rattle.tableau_specs.specs.Steps.{SearchContext, below_of}
 use Rattle.tableau_specs.proofs.GenerateLines.{count-fresh}
 use Rattle.tableau_specs.proofs.ClashBlock.{block_clashes}
-use Rattle.completion_tree.specs.Trail.{facts_in, grounded}
+use Rattle.step_agenda.specs.Trail.{facts_in, grounded}
 use Rattle.step_finders.specs.declared.clash.Clash.{Clash}
 use Rattle.step_finders.specs.declared.make.NewNodes.{NewNodes}
 use Rattle.step_finders.specs.Clashing.{IsShown, NoClashByNew}

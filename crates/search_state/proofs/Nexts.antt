@@ -22,8 +22,8 @@ use Rattle.tableau_specs.specs.declared.Choice.{Choice}
 use Rattle.tableau_specs.specs.Items.{facts_of, says}
 use Rattle.tableau_specs.specs.Clash.{IsClash, IsPlainClash}
 use Rattle.tableau_specs.proofs.PlainClash.{plain_is_clash}
-use Rattle.completion_tree.specs.declared.tree.Entry.{Entry}
-use Rattle.completion_tree.specs.Trail.{facts_in, items_of}
+use Rattle.step_agenda.specs.Entry.{Entry}
+use Rattle.step_agenda.specs.Trail.{facts_in, items_of}
 use Rattle.step_finders.specs.declared.clash.Clash.{Clash}
 use Rattle.step_finders.specs.declared.step.Step.{Step}
 use Rattle.step_finders.specs.declared.step.Step.TheVariants.{Give, Add, Generate, Choose as ChooseStep}

@@ -5,7 +5,7 @@ use Rattle.calculus_specs.specs.declared.facts.Fact.{Fact}
 use Rattle.calculus_specs.specs.declared.facts.Fact.TheVariants.{Has, Edge, Apart, Same}
 use Rattle.std.proofs.lemmas.Bool.{and_parts, ltb-true}
 use Rattle.tableau_specs.proofs.TreeShaped.{first_le}
-use Rattle.fact_tree.specs.Entries.{IsFit}
+use Rattle.step_agenda.specs.Entries.{IsFit}
 use Rattle.tableau_specs.specs.declared.Branch.{Branch}
 use Rattle.tableau_specs.specs.StepLaws.{BranchIsOn}
 use Rattle.tableau_specs.specs.Steps.{SearchContext, IsAlternative}

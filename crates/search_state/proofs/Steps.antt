@@ -14,9 +14,9 @@ use Rattle.tableau_specs.specs.Clash.{IsPlainClash}
 use Rattle.tableau_specs.specs.Steps.{SearchContext, IsGiven, below_of, Adds, Generates, IsLegal}
 use Rattle.tableau_specs.specs.Steps.IsLegal.{add, give, generate}
 use Rattle.search_trace.specs.Grounded.{named, is_known_within}
-use Rattle.completion_tree.specs.declared.tree.By.{By}
-use Rattle.completion_tree.specs.declared.tree.Entry.TheVariants.{Fact as Grounded}
-use Rattle.completion_tree.specs.Trail.{facts_in, items_of, grounded}
+use Rattle.step_agenda.specs.By.{By}
+use Rattle.step_agenda.specs.Entry.TheVariants.{Fact as Grounded}
+use Rattle.step_agenda.specs.Trail.{facts_in, items_of, grounded}
 use Rattle.step_finders.specs.declared.reason.Addition.{Addition}
 use Rattle.step_finders.specs.declared.make.NewNodes.{NewNodes}
 use Rattle.step_finders.specs.declared.state.Given.{Given}

@@ -7,7 +7,7 @@ use Rattle.std.proofs.Math.Seq.{take-append_seam}
 use Rattle.lane_sieve.specs.Sets.{NumberSet}
 use Rattle.calculus_specs.specs.declared.facts.Fact.{Fact}
 use Rattle.calculus_specs.specs.State.{node_count_from}
-use Rattle.fact_tree.specs.Entries.{IsFit}
+use Rattle.step_agenda.specs.Entries.{IsFit}
 use Rattle.tableau_specs.specs.declared.Choice.{Choice}
 use Rattle.tableau_specs.specs.declared.Item.TheVariants.{Mark as Marks}
 use Rattle.tableau_specs.specs.Items.{facts_of}
@@ -17,9 +17,9 @@ use Rattle.tableau_specs.specs.StepLaws.{BranchIsOn}
 use Rattle.tableau_specs.specs.Steps.{SearchContext, below_of, next_choice, IsAlternative}
 use Rattle.tableau_specs.proofs.Reached.{nodes_before}
 use Rattle.tableau_specs.proofs.Marks.{reached_before}
-use Rattle.completion_tree.specs.declared.tree.By.{By}
-use Rattle.completion_tree.specs.declared.tree.Entry.TheVariants.{Fact as Grounded, Mark}
-use Rattle.completion_tree.specs.Trail.{facts_in, items_of, IsMarkAt}
+use Rattle.step_agenda.specs.By.{By}
+use Rattle.step_agenda.specs.Entry.TheVariants.{Fact as Grounded, Mark}
+use Rattle.step_agenda.specs.Trail.{facts_in, items_of, IsMarkAt}
 use Rattle.step_lines.specs.Serving.{FactsStayGrounded, AlternativesSpeakOfNodes}
 use Rattle.step_lines.specs.Kinds.{alternative_count}
 use Rattle.search_state.specs.Backing.{IsLatest}

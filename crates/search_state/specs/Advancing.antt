@@ -1,7 +1,7 @@
 -- What a step makes of a search.
 use Rattle.std.specs.Prelude.{◌≡◌, ◌+◌}
 use Rattle.tableau_specs.specs.Steps.{SearchContext, IsLegal}
-use Rattle.completion_tree.specs.Trail.{items_of}
+use Rattle.step_agenda.specs.Trail.{items_of}
 use Rattle.search_state.specs.Progress.{ProgressLists, IsSameQuery, IsSearching}
 
 -- the search has made one legal step

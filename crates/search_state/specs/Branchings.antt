@@ -9,8 +9,8 @@ use Rattle.tableau_specs.specs.LineLaws.{IsNumbered}
 use Rattle.search_trace.specs.Premises.{Added}
 use Rattle.search_trace.specs.Grounded.{is_known_within, AreGrounded}
 use Rattle.search_trace.specs.Places.{Place}
-use Rattle.completion_tree.specs.declared.tree.Entry.{Entry}
-use Rattle.completion_tree.specs.declared.tree.Entry.TheVariants.{Mark}
+use Rattle.step_agenda.specs.Entry.{Entry}
+use Rattle.step_agenda.specs.Entry.TheVariants.{Mark}
 use Rattle.step_lines.specs.Serving.{branch_nodes}
 use Rattle.step_lines.specs.Kinds.{IsChild, alternative_count}
 use Rattle.search_state.specs.Marked.{marked_in}

@@ -9,3 +9,5 @@ pub mod Stepping
 pub mod Advancing
 pub mod Beginning
 pub use Rattle.step_agenda.specs.Followed
+pub use Rattle.step_agenda.specs.Trail
+pub use Rattle.step_agenda.specs.Entry

@@ -2,8 +2,8 @@
 use Rattle.std.specs.Prelude.{List, [], ◌∷◌}
 use Rattle.search_trace.specs.Noted.{marked}
 use Rattle.search_trace.specs.Trail.{MarkedFact}
-use Rattle.completion_tree.specs.declared.tree.Entry.{Entry}
-use Rattle.completion_tree.specs.declared.tree.Entry.TheVariants.{Fact as Grounded, Mark}
+use Rattle.step_agenda.specs.Entry.{Entry}
+use Rattle.step_agenda.specs.Entry.TheVariants.{Fact as Grounded, Mark}
 
 -- the facts of the entries in order, each with its marks
 abbrev pub marked_in : List Entry → List MarkedFact

@@ -11,7 +11,7 @@ use Rattle.calculus_specs.specs.Rows.{IsChoice}
 use Rattle.calculus_specs.specs.Rules.{Question}
 use Rattle.calculus_specs.specs.declared.facts.Fact.{Fact}
 use Rattle.calculus_specs.specs.State.{node_count_from, speak_of_nodes}
-use Rattle.refutation_tree.specs.RuleLine.{concept_numbers}
+use Rattle.search_trace.specs.RuleLine.{concept_numbers}
 use Rattle.tableau_specs.specs.Clash.{IsPlainClash}
 use Rattle.tableau_specs.specs.KeptKinds.{IsKept}
 use Rattle.tableau_specs.specs.Steps.{SearchContext, below_of, IsLegal}
@@ -21,10 +21,10 @@ use Rattle.search_trace.specs.Noted.{NotedLine, start_of}
 use Rattle.search_trace.specs.Grounded.{AreGrounded}
 use Rattle.search_trace.specs.Places.{Place}
 use Rattle.search_trace.specs.Trail.{makes_no_node}
-use Rattle.completion_tree.specs.declared.tree.By.{By}
-use Rattle.completion_tree.specs.declared.tree.Entry.{Entry}
-use Rattle.completion_tree.specs.declared.tree.Entry.TheVariants.{Fact as Grounded}
-use Rattle.completion_tree.specs.Trail.{TreeEntries, facts_in, items_of, with_fresh}
+use Rattle.step_agenda.specs.By.{By}
+use Rattle.step_agenda.specs.Entry.{Entry}
+use Rattle.step_agenda.specs.Entry.TheVariants.{Fact as Grounded}
+use Rattle.step_agenda.specs.Trail.{TreeEntries, facts_in, items_of, with_fresh}
 use Rattle.step_agenda.specs.Followed.{Printed, AreFirstBlocks}
 use Rattle.step_finders.specs.declared.clash.Clash.{Clash}
 use Rattle.step_finders.specs.declared.make.NewNodes.{NewNodes}

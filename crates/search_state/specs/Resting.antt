@@ -10,7 +10,7 @@ use Rattle.calculus_specs.specs.declared.facts.Fact.{Fact}
 use Rattle.calculus_specs.specs.declared.facts.Fact.TheVariants.{Has}
 use Rattle.calculus_specs.specs.State.{node_count_from, fresh_facts}
 use Rattle.calculus_specs.specs.Line.{Line}
-use Rattle.refutation_tree.specs.RuleLine.{concept_numbers}
+use Rattle.search_trace.specs.RuleLine.{concept_numbers}
 use Rattle.tableau_specs.specs.declared.Branch.{Branch}
 use Rattle.tableau_specs.specs.KeptKinds.{IsKept}
 use Rattle.tableau_specs.specs.StepLaws.{AreOfKind}
@@ -18,8 +18,8 @@ use Rattle.tableau_specs.specs.Steps.{SearchContext}
 use Rattle.search_trace.specs.Premises.{Added, is_single, is_branching}
 use Rattle.search_trace.specs.Grounded.{named, is_known_within}
 use Rattle.search_trace.specs.Trail.{Puts}
-use Rattle.completion_tree.specs.declared.tree.Entry.{Entry}
-use Rattle.completion_tree.specs.Trail.{facts_in}
+use Rattle.step_agenda.specs.Entry.{Entry}
+use Rattle.step_agenda.specs.Trail.{facts_in}
 use Rattle.step_finders.specs.declared.make.NewNodes.{NewNodes}
 use Rattle.step_lines.specs.Serving.{HoldsAt, HasPart, branch_nodes}
 use Rattle.search_state.specs.Marked.{marked_in}

@@ -6,7 +6,7 @@ use Rattle.tableau_specs.specs.Reached.{start}
 use Rattle.search_trace.specs.Leaves.{leaves}
 use Rattle.search_trace.specs.Noted.{start_of}
 use Rattle.search_trace.specs.Back.{step_of}
-use Rattle.completion_tree.specs.Trail.{facts_in, items_of}
+use Rattle.step_agenda.specs.Trail.{facts_in, items_of}
 use Rattle.step_agenda.specs.Followed.{AreFirstBlocks, IsCurrent}
 use Rattle.search_state.specs.declared.stepping.Stepped.{Stepped}
 use Rattle.search_state.specs.declared.stepping.Stepped.TheVariants.{Moved, Saturated, Closed}

@@ -11,7 +11,7 @@ use Rattle.search_trace.specs.Noted.{marked, start_of}
 use Rattle.search_trace.specs.Trail.{Puts}
 use Rattle.search_trace.specs.Back.{step_of}
 use Rattle.search_trace.specs.Places.{Place, turned_place}
-use Rattle.completion_tree.specs.Trail.{facts_in, items_of}
+use Rattle.step_agenda.specs.Trail.{facts_in, items_of}
 use Rattle.step_agenda.specs.Followed.{AreFirstBlocks}
 use Rattle.search_trace.specs.declared.opens.Back.{Back}
 use Rattle.search_trace.specs.declared.opens.Back.TheVariants.{Turned, Closed}

@@ -1,6 +1,6 @@
 // The next step of a search.
 ghost use Rattle.std.specs.Prelude.{◌≡◌, ◌+◌, ◌<◌, ◌^◌, None, MatchOption, OnOk, OnErr, IfOk, IfSome};
-ghost use Rattle.completion_tree.specs.Trail.{facts_in};
+ghost use Rattle.step_agenda.specs.Trail.{facts_in};
 ghost use Rattle.step_agenda.specs.Followed.{AreFirstBlocks, IsCurrent};
 ghost use Rattle.step_finders.specs.Clashing.{IsShown};
 ghost use Rattle.step_finders.specs.Choosing.{IsChoosable};
@@ -23,10 +23,9 @@ use crate::progress::Progress;
 use crate::resting::{rest_addition, rest_choice, rest_given, rest_new_nodes};
 use crate::{NoMemory, Stepped};
 use calculus_specs::Fact;
-use completion_tree::Deps;
 use search_trace::Back;
 use std::alloc::Allocator;
-use step_agenda::{TreeState, TreeWithBlocks};
+use step_agenda::{Deps, TreeState, TreeWithBlocks};
 use step_finders::{
     Addition, Choosing, Clash, Given, NewNodes, Rules, Step, find_step, no_step_is_saturated,
 };

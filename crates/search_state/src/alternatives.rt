@@ -5,10 +5,9 @@ ghost use Rattle.step_lines.specs.Kinds.{alternative_count, part_count};
 ghost use Rattle.calculus_specs.specs.Shape.{shape_of};
 
 use crate::NoMemory;
-use completion_tree::Deps;
-use shq_nnf::Shape;
 use std::alloc::Global;
-use step_finders::Rules;
+use step_agenda::Deps;
+use step_finders::{Rules, Shape};
 use tableau_specs::Branch;
 
 /// How many alternatives there are.

@@ -1,8 +1,8 @@
 // Where a search begins.
 ghost use Rattle.std.specs.Prelude.{◌≡◌, ◌<◌, [], ◌∷◌, ◌++◌, OnOk, IfOk};
 ghost use Rattle.calculus_specs.specs.declared.facts.Fact.TheVariants.{Has};
-ghost use Rattle.completion_tree.specs.declared.tree.Entry.TheVariants.{Fact as Grounded};
-ghost use Rattle.completion_tree.specs.Trail.{facts_in};
+ghost use Rattle.step_agenda.specs.Entry.TheVariants.{Fact as Grounded};
+ghost use Rattle.step_agenda.specs.Trail.{facts_in};
 ghost use Rattle.search_state.specs.Beginning.{by_start, begun_entries};
 ghost use Rattle.search_state.specs.Progress.{IsAsked, IsClashOf};
 ghost use Rattle.search_state.specs.Stepping.{HasBegun};
@@ -11,11 +11,10 @@ use crate::effort::Effort;
 use crate::looking::find_clash_by;
 use crate::{NoMemory, Progress};
 use calculus_specs::Fact;
-use completion_tree::{By, Deps, Tree};
 use search_trace::Trace;
 use shq_terms::Query;
 use std::alloc::{Allocator, Global};
-use step_agenda::{Agenda, Blocks, blocks_stay};
+use step_agenda::{Agenda, Blocks, By, Deps, Tree, blocks_stay};
 use step_finders::{Clash, Rules};
 
 impl<'b, A: Allocator + Copy> Progress<'b, A> {

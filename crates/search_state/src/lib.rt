@@ -15,5 +15,5 @@ mod stepping;
 pub use effort::Effort;
 pub use progress::Progress;
 pub use shq_terms::NoMemory;
-pub use step_agenda::Blocks;
+pub use step_agenda::{Blocks, Item, Tree};
 pub use stepping::{Rested, Stepped};

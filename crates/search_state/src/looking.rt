@@ -1,13 +1,12 @@
 // Whether the last facts have made a plain clash.
 ghost use Rattle.std.specs.Prelude.{◌≡◌, MatchOption};
-ghost use Rattle.completion_tree.specs.Trail.{facts_in};
+ghost use Rattle.step_agenda.specs.Trail.{facts_in};
 ghost use Rattle.step_finders.specs.Clashing.{IsShown, NoClashByNew};
 ghost use Rattle.search_state.specs.Looking.{IsLookable, IsNewLookable, NoClashByFact};
 
 use calculus_specs::Fact;
-use completion_tree::Tree;
 use std::alloc::Allocator;
-use step_agenda::TreeState;
+use step_agenda::{Tree, TreeState};
 use step_finders::{
     Clash, NewNodes, Rules, find_clash, find_clash_of_apart, find_clash_of_edge,
     find_clash_of_join, find_clash_of_new_nodes,

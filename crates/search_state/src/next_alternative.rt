@@ -9,8 +9,7 @@ ghost use Rattle.tableau_specs.specs.LineLaws.{IsNumbered};
 ghost use Rattle.step_lines.specs.Kinds.{part_count, alternative_count};
 
 use calculus_specs::Fact;
-use shq_nnf::Shape;
-use step_finders::Rules;
+use step_finders::{Rules, Shape};
 use tableau_specs::Branch;
 
 /// The fact of the alternative of a branch before which there are so many.

@@ -3,9 +3,9 @@ ghost use Rattle.std.specs.Prelude.{◌≡◌, true, IfOk};
 ghost use Rattle.std.specs.List.{list_all};
 ghost use Rattle.std.specs.FinSet as set;
 ghost use Rattle.calculus_specs.specs.State.{is_so};
-ghost use Rattle.refutation_tree.specs.RuleLine.{line_of};
+ghost use Rattle.search_trace.specs.RuleLine.{line_of};
 ghost use Rattle.search_trace.specs.Grounded.{AreGrounded};
-ghost use Rattle.completion_tree.specs.Trail.{facts_in};
+ghost use Rattle.step_agenda.specs.Trail.{facts_in};
 ghost use Rattle.step_finders.specs.Choosing.{branch_of, IsChoosable};
 ghost use Rattle.step_finders.specs.Clashing.{IsShown};
 ghost use Rattle.step_finders.specs.Giving.{IsGiving};
@@ -19,10 +19,9 @@ ghost use Rattle.search_state.specs.Resting.{RestsAddition, RestsGiven, RestsNew
 
 use crate::NoMemory;
 use calculus_specs::Fact;
-use completion_tree::{Deps, Tree};
-use refutation_tree::Line;
+use search_trace::Line;
 use std::alloc::{Allocator, Global};
-use step_agenda::TreeState;
+use step_agenda::{Deps, Tree, TreeState};
 use step_finders::{Addition, Choosing, Clash, Given, NewNodes, Rules};
 use step_lines::{
     line_of_addition, line_of_choice, line_of_clash, line_of_given, line_of_new_nodes,

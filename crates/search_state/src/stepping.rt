@@ -1,22 +1,21 @@
 // What a step of a search comes to.
 ghost use Rattle.std.specs.Prelude.{◌≡◌, ◌+◌, ◌<◌, ◌^◌, false, None, IfOk};
-ghost use Rattle.refutation_tree.specs.RuleLine.{line_of};
+ghost use Rattle.search_trace.specs.RuleLine.{line_of};
 ghost use Rattle.tableau_specs.specs.Steps.{HasClash};
 ghost use Rattle.search_trace.specs.Trace.{begun, answer_of, is_turn};
 ghost use Rattle.search_state.specs.Resting.{RestsClash};
-ghost use Rattle.completion_tree.specs.Trail.{facts_in, items_of};
+ghost use Rattle.step_agenda.specs.Trail.{facts_in, items_of};
 ghost use Rattle.step_finders.specs.Clashing.{IsShown};
 ghost use Rattle.search_state.specs.Progress.{tree_in, IsAsked, IsClashOf, IsSearching, IsStanding};
 ghost use Rattle.search_state.specs.Stepping.{HasBegun, IsStepped, IsRested};
 
 use crate::resting::{RestingLine, rest_clash};
 use crate::{Effort, NoMemory, Progress};
-use completion_tree::Tree;
 use search_trace::{Back, Trace};
 use shq_terms::Query;
 use std::alloc::{Allocator, Global};
 use std::mem;
-use step_agenda::Blocks;
+use step_agenda::{Blocks, Tree};
 use step_finders::{Clash, Rules, no_step_is_saturated};
 
 /// What one step came to.

@@ -16,7 +16,7 @@ use Rattle.calculus_specs.specs.State.{gives_concept, is_given, has_tree, gives_
 use Rattle.calculus_specs.proofs.Joined.{rep-joined, joined-rep, joined_on, joined_back}
 use Rattle.calculus_specs.specs.Rules.{Known}
 use Rattle.search_trace.specs.Premises.{Premise, is_node, has_concept, has_edge_below, is_apart, is_one, holds}
-use Rattle.lane_sieve.specs.Sets.{NumberSet}
+use Rattle.refutation_tree.specs.NumberSets.{NumberSet}
 use Rattle.search_trace.specs.Noted.{Marked, is_within, within}
 use Rattle.search_trace.specs.Among.{IsAmong, IsPart}
 

@@ -2,8 +2,8 @@
 use Rattle.std.proofs.Common.{◌≡◌, ℕ, eqb, false, true, List, [], ◌∷◌, Some, None, nat_cmp, refl, inl, inr}
 use Rattle.std.proofs.lemmas.Bool.{cases_Bool}
 use Rattle.std.proofs.lemmas.Cmp.{nat_cmp_total}
-use Rattle.lane_sieve.specs.Sets.{NumberSet}
-use Rattle.lane_sieve.proofs.Bits.{contains_insert}
+use Rattle.refutation_tree.specs.NumberSets.{NumberSet}
+use Rattle.refutation_tree.proofs.Bits.{contains_insert}
 use Rattle.std.specs.FinSet as sets
 use Rattle.calculus_specs.specs.Concept.{name, intersection, union, parts_of}
 use Rattle.calculus_specs.specs.Shape.{Shape}

@@ -5,7 +5,7 @@ use Rattle.std.specs.FinSet as sets
 use Rattle.std.proofs.lemmas.Bool.{ne_eqb}
 use Rattle.std.proofs.lemmas.List.{reverse-append, reverse-reverse, length-append, length-take-le, map-append, take-map}
 use Rattle.std.proofs.lemmas.List.{drop-map}
-use Rattle.lane_sieve.specs.Sets.{NumberSet}
+use Rattle.refutation_tree.specs.NumberSets.{NumberSet}
 use Rattle.search_trace.specs.Noted.{NotedLine, strip}
 use Rattle.search_trace.specs.declared.lines.TraceLine.{TraceLine}
 use Rattle.search_trace.specs.declared.opens.OpenBranching.{OpenBranching}

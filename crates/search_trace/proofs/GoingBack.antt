@@ -6,8 +6,8 @@ use Rattle.std.specs.FinSet as sets
 use Rattle.std.proofs.lemmas.Bool.{cases_Bool, and_parts, and_from, or_cases, or_parts, or_left, or_right, not-true}
 use Rattle.std.proofs.lemmas.Cmp.{nat_cmp_total}
 use Rattle.std.proofs.lemmas.List.Folds.{list_any-append}
-use Rattle.lane_sieve.specs.Sets.{NumberSet}
-use Rattle.lane_sieve.proofs.Bits.{contains_insert}
+use Rattle.refutation_tree.specs.NumberSets.{NumberSet}
+use Rattle.refutation_tree.proofs.Bits.{contains_insert}
 use Rattle.calculus_specs.specs.Shape.{Shape}
 use Rattle.tableau_specs.specs.Lines.{concept_in}
 use Rattle.calculus_specs.specs.Concept.{Concept}

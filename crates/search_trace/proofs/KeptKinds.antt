@@ -4,7 +4,7 @@ use Rattle.std.proofs.Common.{map, refl, sym, subst, inl, inr}
 use Rattle.std.specs.List.{list_all}
 use Rattle.std.specs.FinSet as sets
 use Rattle.std.proofs.lemmas.Bool.{cases_Bool, and_parts, and_from, eqb-true, eqb-false}
-use Rattle.lane_sieve.specs.Sets.{NumberSet}
+use Rattle.refutation_tree.specs.NumberSets.{NumberSet}
 use Rattle.calculus_specs.specs.Line.{Line}
 use Rattle.search_trace.specs.Noted.{NotedLine, rests_on, strip}
 use Rattle.search_trace.specs.declared.opens.OpenBranching.{OpenBranching}

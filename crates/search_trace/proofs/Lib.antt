@@ -19,3 +19,5 @@ pub mod Chronological
 pub mod Places
 pub mod Honest
 pub mod Examples
+pub use Rattle.refutation_tree.proofs.Shapes
+pub use Rattle.refutation_tree.proofs.Normal

@@ -2,7 +2,7 @@
 use Rattle.std.specs.Prelude.{◌≡◌, Bool, true, List, [], ◌∷◌, filter}
 use Rattle.std.specs.FinSet as sets
 use Rattle.std.specs.List.{list_any}
-use Rattle.lane_sieve.specs.Sets.{NumberSet}
+use Rattle.refutation_tree.specs.NumberSets.{NumberSet}
 use Rattle.calculus_specs.specs.Rules.{Known}
 use Rattle.search_trace.specs.Noted.{items, Noted}
 

@@ -3,7 +3,7 @@ use Rattle.std.specs.Prelude.{◌<◌, ◌==◌, Bool, ◌≡◌, ℕ, true, fal
 use Rattle.std.specs.List.{list_any}
 use Rattle.std.specs.FinSet as sets
 use Rattle.calculus_specs.specs.Concept.{Concept}
-use Rattle.lane_sieve.specs.Sets.{NumberSet}
+use Rattle.refutation_tree.specs.NumberSets.{NumberSet}
 use Rattle.calculus_specs.specs.Normal.{normal_form, negated_form}
 use Rattle.calculus_specs.specs.Shape.{Shape, IsTable}
 use Rattle.calculus_specs.specs.Tree.{tree_of}

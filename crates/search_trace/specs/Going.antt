@@ -2,7 +2,7 @@
 use Rattle.std.specs.Prelude.{◌≡◌, ℕ, ◌≤◌, ◌==◌, ◌&&◌, not, if◌then◌else◌, Bool, true, false, List, [], ◌∷◌, ◌++◌, take}
 use Rattle.std.specs.Prelude.{drop, filter, length, reverse, map}
 use Rattle.std.specs.FinSet as sets
-use Rattle.lane_sieve.specs.Sets.{NumberSet}
+use Rattle.refutation_tree.specs.NumberSets.{NumberSet}
 use Rattle.search_trace.specs.declared.lines.TraceLine.{TraceLine}
 use Rattle.search_trace.specs.declared.opens.OpenBranching.{OpenBranching}
 use Rattle.search_trace.specs.Lines.{stays}

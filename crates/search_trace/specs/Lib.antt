@@ -18,3 +18,10 @@ pub mod Chronological
 pub mod Places
 pub mod Honest
 pub mod ClosingLaws
+pub use Rattle.refutation_tree.specs.RuleLine
+pub use Rattle.refutation_tree.specs.Written
+pub use Rattle.refutation_tree.specs.ReadBack
+pub use Rattle.refutation_tree.specs.RefutationText
+pub use Rattle.refutation_tree.specs.Shapes
+pub use Rattle.refutation_tree.specs.declared.line.Line
+pub use Rattle.refutation_tree.specs.RefutationLists

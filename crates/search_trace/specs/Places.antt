@@ -2,7 +2,7 @@
 use Rattle.std.specs.Prelude.{◌≡◌, ℕ, ◌+◌, ◌≤◌, ◌==◌, not, List, [], ◌∷◌, ◌++◌, map, filter, length, take, drop}
 use Rattle.std.specs.List.{list_any}
 use Rattle.std.specs.FinSet as sets
-use Rattle.lane_sieve.specs.Sets.{NumberSet}
+use Rattle.refutation_tree.specs.NumberSets.{NumberSet}
 use Rattle.calculus_specs.specs.Shape.{Shape}
 use Rattle.calculus_specs.specs.Rules.{Question}
 use Rattle.search_trace.specs.Premises.{Added}

@@ -18,7 +18,6 @@ mod lines;
 mod opens;
 mod trace;
 
-pub use axiom_sets::Deps;
 pub use calculus_specs::NoMemory;
 pub use closing_laws::{
     alternatives_are_put, closed_traces_refute, closing_ends, closing_goes_back,
@@ -28,5 +27,5 @@ pub use closing_laws::{
 };
 pub use laws::{going_back_keeps_kinds, traces_begin, traces_go_back, traces_go_on};
 pub use opens::Back;
-pub use refutation_tree::Line;
+pub use refutation_tree::{Deps, Line, Refutation};
 pub use trace::Trace;

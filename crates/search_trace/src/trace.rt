@@ -23,7 +23,7 @@ pub struct Trace {
 impl Model for Trace {
     ghost use Rattle.std.specs.Prelude.{length, map, reverse};
     ghost use Rattle.std.specs.Coded.{codes};
-    ghost use Rattle.axiom_sets.specs.contracts.deps.Deps as deps;
+    ghost use Rattle.refutation_tree.specs.Deps as deps;
     ghost use Rattle.search_trace.specs.Trace.{TraceLists, ArePlaced, noted};
 
     ghost Value = { TraceLists };

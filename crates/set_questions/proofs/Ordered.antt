@@ -14,9 +14,9 @@ use Rattle.std.proofs.lemmas.List.Edits.{length-insert, get_or-insert_at, get_or
 use Rattle.std.proofs.lemmas.List.Elements.{Contains-append_left, Contains-append_right, Contains-append_cases}
 use Rattle.std.proofs.lemmas.List.Elements.{Contains-push, Contains-push_cases}
 use Rattle.lane_sieve.specs.Sets.{IsPart}
-use Rattle.axiom_sets.specs.Sets.{Limited, IsWithin, member_list, list_cmp}
-use Rattle.axiom_sets.proofs.Listed.{member_list-at, member_list-place}
-use Rattle.axiom_sets.proofs.Same.{set_of_parts, same_limited}
+use Rattle.pinpointing_specs.specs.Sets.{Limited, IsWithin, member_list, list_cmp}
+use Rattle.pinpointing_specs.proofs.Listed.{member_list-at, member_list-place}
+use Rattle.pinpointing_specs.proofs.Same.{set_of_parts, same_limited}
 use Rattle.pinpointing_specs.specs.Order.{IsAscending}
 use Rattle.set_questions.specs.InOrder.{IsBetween, HasMore}
 

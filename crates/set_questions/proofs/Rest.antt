@@ -7,7 +7,7 @@ use Rattle.std.proofs.lemmas.Bool.{true≢false, or_cases, and_parts, eqb-true, 
 use Rattle.lane_sieve.proofs.Bools.{same_truth}
 use Rattle.lane_sieve.specs.Sets.{NumberSet}
 use Rattle.lane_sieve.proofs.Bits.{contains_insert}
-use Rattle.axiom_sets.specs.Sets.{IsFull}
+use Rattle.pinpointing_specs.specs.Sets.{IsFull}
 use Rattle.pinpointing_specs.specs.Smallest.{numbers_to}
 use Rattle.pinpointing_specs.proofs.Choices.{in_numbers_to}
 

@@ -2,7 +2,7 @@
 use Rattle.std.specs.Prelude.{◌≡◌, ◌⊎◌, ◌↔◌, ℕ, ◌<◌, ◌≤◌, List, length, slice_index_or}
 use Rattle.std.specs.List.{Contains}
 use Rattle.std.specs.declared.cmp.Ordering.TheVariants.{Less, Greater}
-use Rattle.axiom_sets.specs.Sets.{Limited, list_cmp}
+use Rattle.pinpointing_specs.specs.Sets.{Limited, list_cmp}
 
 abbrev pub HaveOneLimit : List Limited → Type 0
 HaveOneLimit sets = (s t : Limited) → Contains sets s → Contains sets t → s.limit ≡ t.limit

@@ -2,7 +2,7 @@
 use Rattle.std.specs.Prelude.{◌≡◌, ◌⊎◌, ℕ, ◌<◌, List, [], ◌∷◌, ◌++◌, length, slice_index_or}
 use Rattle.std.specs.List.{Contains}
 use Rattle.lane_sieve.specs.Sets.{NumberSet, IsPart}
-use Rattle.axiom_sets.specs.Sets.{Limited}
+use Rattle.pinpointing_specs.specs.Sets.{Limited}
 use Rattle.set_questions.specs.declared.antichain.Antichain.{Antichain}
 use Rattle.set_questions.specs.declared.antichain.Kind.{Kind}
 use Rattle.set_questions.specs.declared.antichain.Kind.TheVariants.{Minimal, Maximal}

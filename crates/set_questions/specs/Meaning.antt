@@ -1,7 +1,7 @@
 -- What an object that answers questions about sets means, and what its calls leave as it is.
 use Rattle.std.specs.Prelude.{◌≡◌, ℕ, ◌+◌, ◌-◌, ◌^◌, ◌≤◌, ◌↔◌, List, min}
 use Rattle.lane_sieve.specs.Sets.{NumberSet}
-use Rattle.axiom_sets.specs.Sets.{Limited}
+use Rattle.pinpointing_specs.specs.Sets.{Limited}
 
 pub record Meaning : Type 1 where
   -- the greatest number

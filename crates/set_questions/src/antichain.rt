@@ -4,11 +4,11 @@
 ghost use Rattle.std.specs.Prelude.{◌≡◌, ◌≤◌, ◌↔◌, List, [], ◌∷◌, ◌++◌, OnOk, OnErr, IsTrue, vec_len};
 ghost use Rattle.std.specs.Vec.{vec_capacity};
 ghost use Rattle.std.specs.List.{All};
-ghost use Rattle.axiom_sets.specs.Sets.{Limited};
+ghost use Rattle.pinpointing_specs.specs.Sets.{Limited};
 ghost use Rattle.set_questions.specs.Kept.{kind_of, kept_sets, Outranks, HasAbove, IsDropped, KeepsWith};
 
-use axiom_sets::AxiomSet;
 use lane_sieve::NoMemory;
+use pinpointing_specs::AxiomSet;
 use std::alloc::Global;
 
 /// Which sets an antichain keeps.

@@ -1,11 +1,11 @@
 // What a set lacks.
 
 ghost use Rattle.std.specs.Prelude.{◌≡◌, IfOk};
-ghost use Rattle.axiom_sets.specs.Sets.{IsWithin};
+ghost use Rattle.pinpointing_specs.specs.Sets.{IsWithin};
 ghost use Rattle.pinpointing_specs.specs.Smallest.{rest};
 
-use axiom_sets::AxiomSet;
 use lane_sieve::NoMemory;
+use pinpointing_specs::AxiomSet;
 use std::alloc::Global;
 
 /// The numbers from 1 to the limit that are not in the set.

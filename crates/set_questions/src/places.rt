@@ -3,9 +3,9 @@
 ghost use Rattle.std.specs.Prelude.{◌≡◌, ℕ, ◌<◌, IfSome, IfNone, length, slice_index_or};
 ghost use Rattle.std.specs.List.{All};
 ghost use Rattle.lane_sieve.specs.Sets.{IsPart, DoMeet};
-ghost use Rattle.axiom_sets.specs.Sets.{Limited};
+ghost use Rattle.pinpointing_specs.specs.Sets.{Limited};
 
-use axiom_sets::AxiomSet;
+use pinpointing_specs::AxiomSet;
 
 /// The place of the first of the sets that is part of the set.
 pub fn place_of_part(sets: &[AxiomSet], set: &AxiomSet) -> Option<usize>

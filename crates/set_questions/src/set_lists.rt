@@ -4,12 +4,12 @@ ghost use Rattle.std.specs.Prelude.{◌≡◌, ◌-◌, ◌<◌, ◌≤◌, ◌�
 ghost use Rattle.std.specs.List.{All, Contains};
 ghost use Rattle.std.specs.Ordering.{MatchOrdering};
 ghost use Rattle.std.specs.declared.cmp.Ordering.TheVariants.{Less, Greater};
-ghost use Rattle.axiom_sets.specs.Sets.{Limited, list_cmp};
+ghost use Rattle.pinpointing_specs.specs.Sets.{Limited, list_cmp};
 ghost use Rattle.pinpointing_specs.specs.Order.{IsAscending};
 ghost use Rattle.set_questions.specs.InOrder.{HaveOneLimit, IsBetween, HasMore};
 
-use axiom_sets::AxiomSet;
 use lane_sieve::NoMemory;
+use pinpointing_specs::AxiomSet;
 use std::alloc::Global;
 use std::cmp::Ordering;
 

@@ -13,3 +13,5 @@ pub mod Facts
 pub mod Elsewhere
 pub use Rattle.shq_meaning.proofs.Implied
 pub use Rattle.shq_meaning.proofs.Bools
+pub use Rattle.calculus_specs.proofs.Ascending
+pub use Rattle.shq_meaning.proofs.Members

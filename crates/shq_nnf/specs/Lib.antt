@@ -14,3 +14,6 @@ pub use Rattle.calculus_specs.specs.Roles
 pub use Rattle.shq_meaning.specs.Concept
 pub use Rattle.shq_meaning.specs.Axiom
 pub use Rattle.shq_meaning.specs.Numbered
+pub use Rattle.calculus_specs.specs.Rows as TheoryRows
+pub use Rattle.calculus_specs.specs.Shape
+pub use Rattle.calculus_specs.specs.Line

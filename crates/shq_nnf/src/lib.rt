@@ -31,4 +31,4 @@ pub use laws::{
 };
 pub use parts::{Part, part_count};
 pub use shapes::{OwnedShape, Shape};
-pub use shq_meaning::NoMemory;
+pub use shq_meaning::{NoMemory, NumberList};

@@ -9,8 +9,8 @@ use Rattle.run_log.specs.Theory.{question_in}
 use Rattle.tableau.specs.Named.{NamesAxioms}
 use Rattle.tableau.specs.RefutationLists.{RefutationLists}
 use Rattle.tableau.specs.ReadBack.{IsWritable}
-use Rattle.finite_model.specs.ModelLists.{ModelLists, meaning}
-use Rattle.finite_model.specs.Written.{uses_listed_names}
+use Rattle.model_builder.specs.ModelLists.{ModelLists, meaning}
+use Rattle.model_builder.specs.Written.{uses_listed_names}
 use Rattle.tableau.specs.CounterModelLaws.{IsCounterModel}
 use Rattle.tableau_specs.specs.declared.Item.{Item}
 use Rattle.tableau_specs.specs.Steps.{IsLegal}

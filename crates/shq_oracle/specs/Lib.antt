@@ -1,3 +1,12 @@
 pub mod OracleLists
 pub mod ApartLists
 pub mod Decided
+pub use Rattle.run_log.specs.Theory
+pub use Rattle.model_builder.specs.Limits
+pub use Rattle.run_log.specs.HonestLog
+pub use Rattle.run_log.specs.declared.entry.Entry
+pub use Rattle.run_log.specs.Shown
+pub use Rattle.run_log.specs.Entries
+pub use Rattle.run_log.specs.declared.entry.TestEnd
+pub use Rattle.run_log.specs.Trails
+pub use Rattle.run_log.specs.LogExamples

@@ -2,7 +2,7 @@
 
 use crate::Apart;
 use axiom_sets::AxiomSet;
-use finite_model::Interp;
+use model_builder::Interp;
 use tableau::Refutation;
 
 /// Whether a query follows from a set of axioms, and why.

@@ -2,13 +2,12 @@
 ghost use Rattle.std.specs.Prelude.{◌≡◌, ◌<◌, IfSome};
 ghost use Rattle.step_finders.specs.Reasons.{IsAddition};
 
+use blocking::{Item, Tree};
 use calculus_specs::Fact;
-use completion_tree::{Item, Tree};
-use shq_nnf::Shape;
 use std::alloc::Allocator;
 use step_finders::{
-    Addition, Rules, State, count_of, find_by_concept, find_by_edge, find_by_name, find_from,
-    find_general,
+    Addition, Rules, Shape, State, count_of, find_by_concept, find_by_edge, find_by_name,
+    find_from, find_general,
 };
 
 /// The first entry from this one on that adds a concept, and what it adds; or the length of the trail.

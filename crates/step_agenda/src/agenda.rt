@@ -9,8 +9,7 @@ use crate::forced::first_forced;
 use crate::givings::first_giving;
 use crate::makings::{Held, first_below_first, first_held, first_making};
 use crate::watched::UnionIndex;
-use blocking::least_changed;
-use completion_tree::Tree;
+use blocking::{Tree, least_changed};
 use std::alloc::{Allocator, Global};
 use step_finders::{Rules, State, StateWithBlocks, Step};
 

@@ -4,8 +4,8 @@ ghost use Rattle.step_finders.specs.Choosing.{IsChoosable};
 
 use crate::NoMemory;
 use crate::pairs::pair_by;
+use blocking::{Item, Tree};
 use calculus_specs::Fact;
-use completion_tree::{Item, Tree};
 use std::alloc::{Allocator, Global};
 use step_finders::{Choosing, Rules, State, count_of, find_most_at, find_most_by, find_union_by};
 

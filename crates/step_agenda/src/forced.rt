@@ -5,11 +5,10 @@ ghost use Rattle.step_finders.specs.Choosing.{IsChoosable};
 use crate::NoMemory;
 use crate::above::{above, members_at};
 use crate::watched::{Closes, UnionIndex, Watch};
+use blocking::{Item, Tree};
 use calculus_specs::Fact;
-use completion_tree::{Item, Tree};
-use shq_nnf::Shape;
 use std::alloc::Allocator;
-use step_finders::{Choosing, Rules, State, count_of, find_union_by};
+use step_finders::{Choosing, Rules, Shape, State, count_of, find_union_by};
 
 // Top, which is what closes that there is no successor.
 const TOP: u32 = 0;

@@ -37,6 +37,9 @@ mod tree_state;
 mod watched;
 
 pub use agenda::Agenda;
-pub use blocking::{BlockEffort, Blocks, blocks_stay, current_before, still_current};
+pub use blocking::{
+    BlockEffort, Blocks, By, Choice, Deps, Item, Mark, Tree, blocks_stay, current_before,
+    still_current,
+};
 pub use step_finders::NoMemory;
 pub use tree_state::{TreeState, TreeWithBlocks};

@@ -5,11 +5,10 @@ ghost use Rattle.calculus_specs.specs.State.{node_count_from, has as holds};
 ghost use Rattle.step_finders.specs.Making.{IsMaking};
 
 use crate::NoMemory;
+use blocking::{Item, Tree};
 use calculus_specs::Fact;
-use completion_tree::{Item, Tree};
-use shq_nnf::Shape;
 use std::alloc::{Allocator, Global};
-use step_finders::{NewNodes, Rules, State, StateWithBlocks, count_of, find_making_by};
+use step_finders::{NewNodes, Rules, Shape, State, StateWithBlocks, count_of, find_making_by};
 
 /// An entry that asks for nodes, as far as its node was not clear.
 #[derive(Clone, Copy, Debug, PartialEq, Eq)]

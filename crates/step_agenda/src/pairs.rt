@@ -4,11 +4,10 @@ ghost use Rattle.step_finders.specs.Choosing.{IsChoosable};
 
 use crate::NoMemory;
 use crate::above::{above, members_at};
+use blocking::Item;
 use calculus_specs::Fact;
-use completion_tree::Item;
-use shq_nnf::Shape;
 use std::alloc::Global;
-use step_finders::{Choosing, Rules, State, count_of, find_pair_by};
+use step_finders::{Choosing, Rules, Shape, State, count_of, find_pair_by};
 
 // Top, the filler that each node has.
 const TOP: u32 = 0;

@@ -1,11 +1,10 @@
 //! A completion tree as the state that the finders of steps look through, by itself and with the blocks of its nodes.
 // A tree as a state.
 ghost use Rattle.std.specs.Prelude.{◌≡◌};
-ghost use Rattle.completion_tree.specs.Trail.{facts_in};
+ghost use Rattle.blocking.specs.Trail.{facts_in};
 ghost use Rattle.blocking.specs.Followed.{IsCurrent};
 
-use blocking::{Blocks, is_clear};
-use completion_tree::Tree;
+use blocking::{Blocks, Tree, is_clear};
 use std::alloc::Allocator;
 use step_finders::{State, StateWithBlocks};
 

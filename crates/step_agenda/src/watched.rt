@@ -1,9 +1,8 @@
 // Unions that a search has met, by the concepts that close a part of them.
 
 use crate::NoMemory;
-use shq_nnf::Shape;
 use std::alloc::Global;
-use step_finders::Rules;
+use step_finders::{Rules, Shape};
 
 // The end of a chain.
 const END: u32 = u32::MAX;

@@ -6,8 +6,8 @@ use Rattle.std.specs.List.{list_all, range_with_len, All, Contains}
 use Rattle.std.proofs.lemmas.Bool.{eqb-true, ltb-true, and_parts}
 use Rattle.std.proofs.lemmas.List.Elements.{All-contains}
 use Rattle.std.proofs.lemmas.Option.{get_or_from_slice_get, slice_get_within, cond_some, same_Some}
-use Rattle.shq_terms.specs.Concept.{Concept, top, bottom, name, complement, intersection, union, some_of, all_of}
-use Rattle.shq_terms.specs.Concept.{at_least, at_most, exactly}
+use Rattle.shq_nnf.specs.Concept.{Concept, top, bottom, name, complement, intersection, union, some_of, all_of}
+use Rattle.shq_nnf.specs.Concept.{at_least, at_most, exactly}
 use Rattle.calculus_specs.specs.Shape.{shape_of, IsTable}
 use Rattle.calculus_specs.specs.Shape.Shape.{name as name_shape}
 use Rattle.calculus_specs.specs.Tree.{tree_of}

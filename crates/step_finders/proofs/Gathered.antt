@@ -6,7 +6,7 @@ use Rattle.std.proofs.lemmas.Bool.{eqb-true}
 use Rattle.std.proofs.lemmas.Cmp.{nat_eq_equiv}
 use Rattle.std.proofs.lemmas.List.{take_more, take_all, get_or_default}
 use Rattle.std.proofs.lemmas.Map.Keys.{IsDistinct-push, apart_from_distinct}
-use Rattle.shq_terms.proofs.Bools.{or_absorbs}
+use Rattle.shq_nnf.proofs.Bools.{or_absorbs}
 use Rattle.calculus_specs.specs.declared.facts.Fact.{Fact}
 use Rattle.calculus_specs.specs.State.{has}
 use Rattle.calculus_specs.proofs.State.{eqb-comm}

@@ -1,6 +1,6 @@
 -- Complements of classes.
 use Rattle.std.proofs.Common.{◌≡◌, ℕ, ◌<◌, true, List, length, ap, ◌∙◌, sym}
-use Rattle.shq_terms.specs.Concept.{Concept, complement as not_concept, name as name_concept}
+use Rattle.shq_nnf.specs.Concept.{Concept, complement as not_concept, name as name_concept}
 use Rattle.calculus_specs.specs.Normal.{negated_form}
 use Rattle.calculus_specs.specs.Shape.{Shape, shape_of, IsTable}
 use Rattle.calculus_specs.specs.Shape.Shape.{top, bottom, name, not_name, intersection, union, some_of, all_of}

@@ -1,7 +1,7 @@
 -- What a full look through a state finds, and what it means that it finds nothing.
 use Rattle.std.specs.Prelude.{◌≡◌, ℕ, ◌<◌, ◌==◌, true, false, List, All, Contains, map, Some, slice_get}
 use Rattle.std.specs.List.{list_any, list_all}
-use Rattle.shq_terms.specs.Concept.{Concept}
+use Rattle.shq_nnf.specs.Concept.{Concept}
 use Rattle.calculus_specs.specs.Rows.{Row, Trigger, part_at, conjunct_at}
 use Rattle.calculus_specs.specs.Rows.Part.{inclusion}
 use Rattle.calculus_specs.specs.Rows.Trigger.{always, names, edge, end_of}

@@ -40,6 +40,6 @@ pub use rows::{
     find_at_begin, find_at_end, find_by_edge, find_by_edges, find_by_name, find_by_names,
     find_by_rows, find_general,
 };
-pub use shq_terms::NoMemory;
+pub use shq_nnf::{NoMemory, Shape};
 pub use state::{Given, NamedRow, PlainRow, Rules, State, StateWithBlocks};
 pub use step::{Step, find_step, no_step_is_saturated};

@@ -18,8 +18,7 @@ ghost use Rattle.step_finders.specs.Giving.{AreGiven, AreGivenInto};
 ghost use Rattle.step_finders.specs.Found.{AreCarriesOf, Files, AreFiled};
 
 use calculus_specs::Fact;
-use shq_nnf::Shape;
-use shq_terms::NumberList;
+use shq_nnf::{NumberList, Shape};
 
 /// A state of a search, as a list of facts.
 pub trait State {

@@ -17,7 +17,7 @@ use Rattle.calculus_specs.specs.declared.facts.Fact.TheVariants.{Has, Edge}
 use Rattle.calculus_specs.specs.State.{node_count_from, has, has_edge, is_so}
 use Rattle.calculus_specs.specs.Line.{Line}
 use Rattle.calculus_specs.specs.Line.Line.{and_line, all_line, carry_line, some_line, least_line}
-use Rattle.refutation_tree.specs.RuleLine.{concept_numbers}
+use Rattle.search_trace.specs.RuleLine.{concept_numbers}
 use Rattle.calculus_specs.specs.Rules.{Question}
 use Rattle.tableau_specs.specs.Lines.{asked_in}
 use Rattle.tableau_specs.specs.Steps.{SearchContext}

@@ -14,7 +14,7 @@ use Rattle.calculus_specs.specs.Line.{Line}
 use Rattle.calculus_specs.specs.Line.Line.{start_line, and_line, or_line, all_line, carry_line, row_line, range_line}
 use Rattle.calculus_specs.specs.Line.Line.{some_line, least_line, choose_line, pair_line, bottom_line, clash_line}
 use Rattle.calculus_specs.specs.Line.Line.{most_line, fact_line, differ_line}
-use Rattle.refutation_tree.specs.RuleLine.{concept_numbers}
+use Rattle.search_trace.specs.RuleLine.{concept_numbers}
 use Rattle.tableau_specs.specs.KeptKinds.{IsKept}
 use Rattle.tableau_specs.specs.Lines.{asked_in}
 use Rattle.tableau_specs.specs.StepLaws.{AreOfKind}

@@ -1,6 +1,6 @@
 // The line of an addition.
 ghost use Rattle.std.specs.Prelude.{◌≡◌, IfOk};
-ghost use Rattle.refutation_tree.specs.RuleLine.{line_of};
+ghost use Rattle.search_trace.specs.RuleLine.{line_of};
 ghost use Rattle.step_finders.specs.Reasons.{HasReason, IsByAnd, IsByAll, IsByCarry};
 ghost use Rattle.step_lines.specs.Kinds.{ServesAddition};
 
@@ -8,7 +8,7 @@ use crate::grounded::{one_ground, two_grounds};
 use crate::rows::{line_of_begin, line_of_end, line_of_general, line_of_named};
 use crate::{GroundedLine, NoMemory};
 use calculus_specs::Fact;
-use refutation_tree::Line;
+use search_trace::Line;
 use std::alloc::Global;
 use step_finders::{Addition, Reason, Rules, State};
 

@@ -1,6 +1,6 @@
 // The line of a choice.
 ghost use Rattle.std.specs.Prelude.{◌≡◌, IfOk};
-ghost use Rattle.refutation_tree.specs.RuleLine.{line_of};
+ghost use Rattle.search_trace.specs.RuleLine.{line_of};
 ghost use Rattle.tableau_specs.specs.declared.Branch.TheVariants.{Or as or_branch, Choose as choose_branch};
 ghost use Rattle.tableau_specs.specs.declared.Branch.TheVariants.{Pair as pair_branch};
 ghost use Rattle.step_finders.specs.Choosing.{branch_of, HasGround, IsByUnion, IsByFiller, IsByPair};
@@ -9,7 +9,7 @@ ghost use Rattle.step_lines.specs.Kinds.{ServesChoice};
 use crate::grounded::{one_ground, two_grounds};
 use crate::{GroundedLine, NoMemory};
 use calculus_specs::Fact;
-use refutation_tree::Line;
+use search_trace::Line;
 use std::alloc::Global;
 use step_finders::{Choosing, Rules, State};
 

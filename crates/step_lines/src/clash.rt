@@ -1,6 +1,6 @@
 // The line of a clash.
 ghost use Rattle.std.specs.Prelude.{◌≡◌, IfOk};
-ghost use Rattle.refutation_tree.specs.RuleLine.{line_of};
+ghost use Rattle.search_trace.specs.RuleLine.{line_of};
 ghost use Rattle.step_finders.specs.Clashing.{IsShown, HasBottom, HasBoth, HasDiffer};
 ghost use Rattle.step_lines.specs.Kinds.{ServesClash};
 
@@ -8,7 +8,7 @@ use crate::grounded::{one_ground, two_grounds};
 use crate::most::line_of_most;
 use crate::{GroundedLine, NoMemory};
 use calculus_specs::Fact;
-use refutation_tree::Line;
+use search_trace::Line;
 use std::alloc::Global;
 use step_finders::{Clash, Rules, State};
 

@@ -1,12 +1,12 @@
 // The line of a given fact.
 ghost use Rattle.std.specs.Prelude.{ℕ, List, IfOk};
 ghost use Rattle.calculus_specs.specs.declared.facts.Fact.{Fact as PlainFact};
-ghost use Rattle.refutation_tree.specs.RuleLine.{line_of};
+ghost use Rattle.search_trace.specs.RuleLine.{line_of};
 ghost use Rattle.step_finders.specs.Giving.{IsGivenAt};
 ghost use Rattle.step_lines.specs.Kinds.{ServesGiven};
 
 use crate::{GroundedLine, NoMemory};
-use refutation_tree::Line;
+use search_trace::Line;
 use std::alloc::Global;
 use step_finders::{Given, Rules};
 

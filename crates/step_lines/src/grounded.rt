@@ -6,7 +6,7 @@ ghost use Rattle.step_lines.specs.Grounds.{GroundsNode};
 
 use crate::NoMemory;
 use calculus_specs::Fact;
-use refutation_tree::Line;
+use search_trace::Line;
 use shq_terms::NumberList;
 use std::alloc::Global;
 use step_finders::{Rules, State};

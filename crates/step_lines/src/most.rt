@@ -2,7 +2,7 @@
 ghost use Rattle.std.specs.Prelude.{◌≡◌, ◌∷◌, ◌<◌, ◌++◌, true, map, All, IfOk, OnOk};
 ghost use Rattle.calculus_specs.specs.declared.facts.Fact.TheVariants.{Has as has_fact, Apart as apart_fact};
 ghost use Rattle.calculus_specs.specs.State.{node_count_from, is_successor};
-ghost use Rattle.refutation_tree.specs.RuleLine.{line_of};
+ghost use Rattle.search_trace.specs.RuleLine.{line_of};
 ghost use Rattle.tableau_specs.specs.Steps.{below_of};
 ghost use Rattle.tableau_specs.specs.Near.{IsOverrun};
 ghost use Rattle.step_finders.specs.Choosing.{IsRoleTo};
@@ -13,10 +13,9 @@ ghost use Rattle.step_lines.specs.Kinds.{ServesClash};
 use crate::grounded::list_of;
 use crate::{GroundedLine, NoMemory};
 use calculus_specs::Fact;
-use refutation_tree::Line;
-use shq_nnf::Shape;
+use search_trace::Line;
 use std::alloc::Global;
-use step_finders::{Rules, State, filled_successors, role_to};
+use step_finders::{Rules, Shape, State, filled_successors, role_to};
 
 // As many successors as are one too many, with the filler and pairwise apart.
 fn many_ends<S: State, R: Rules>(

@@ -1,6 +1,6 @@
 // The line of new nodes.
 ghost use Rattle.std.specs.Prelude.{◌≡◌, IfOk};
-ghost use Rattle.refutation_tree.specs.RuleLine.{line_of};
+ghost use Rattle.search_trace.specs.RuleLine.{line_of};
 ghost use Rattle.calculus_specs.specs.Shape.{shape_of};
 ghost use Rattle.step_finders.specs.Making.{IsMaking};
 ghost use Rattle.step_lines.specs.Kinds.{making_line, ServesNewNodes};
@@ -8,10 +8,9 @@ ghost use Rattle.step_lines.specs.Kinds.{making_line, ServesNewNodes};
 use crate::grounded::one_ground;
 use crate::{GroundedLine, NoMemory};
 use calculus_specs::Fact;
-use refutation_tree::Line;
-use shq_nnf::Shape;
+use search_trace::Line;
 use std::alloc::Global;
-use step_finders::{NewNodes, Rules, State, count_of};
+use step_finders::{NewNodes, Rules, Shape, State, count_of};
 
 // The line by which the concept makes nodes.
 fn making_line<R: Rules>(rules: &R, parent: u32, first: u32, concept: u32) -> Line

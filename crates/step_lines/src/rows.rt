@@ -3,7 +3,7 @@ ghost use Rattle.std.specs.Prelude.{◌≡◌, ◌++◌, ◌<◌, true, map, IfO
 ghost use Rattle.std.specs.List.{list_all};
 ghost use Rattle.calculus_specs.specs.declared.facts.Fact.TheVariants.{Has as has_fact};
 ghost use Rattle.calculus_specs.specs.State.{node_count_from, has as holds};
-ghost use Rattle.refutation_tree.specs.RuleLine.{line_of};
+ghost use Rattle.search_trace.specs.RuleLine.{line_of};
 ghost use Rattle.step_finders.specs.Found.{IsNamed};
 ghost use Rattle.step_finders.specs.Reasons.{IsByNamed, IsByGeneral, IsByBegin, IsByEnd};
 ghost use Rattle.step_lines.specs.Grounds.{IsFirst};
@@ -12,7 +12,7 @@ ghost use Rattle.step_lines.specs.Kinds.{ServesAddition};
 use crate::grounded::{list_of, node_grounds, one_ground};
 use crate::{GroundedLine, NoMemory};
 use calculus_specs::Fact;
-use refutation_tree::Line;
+use search_trace::Line;
 use shq_terms::NumberList;
 use std::alloc::Global;
 use step_finders::{NamedRow, PlainRow, Rules, State};

@@ -9,11 +9,11 @@ use Rattle.std.proofs.lemmas.List.Elements.{All-push}
 use Rattle.axiom_sets.specs.Sets.{Limited}
 use Rattle.shq_terms.specs.Listed.{Listed}
 use Rattle.shq_terms.specs.declared.axioms.Query.{Query}
-use Rattle.run_log.specs.declared.entry.Entry.{Entry}
-use Rattle.run_log.specs.declared.entry.Entry.TheVariants.{Test, Node}
-use Rattle.run_log.specs.declared.entry.TestEnd.{TestEnd}
-use Rattle.run_log.specs.Entries.{spent_of, is_spent, ended_spent, IsAnswered}
-use Rattle.run_log.specs.HonestLog.{IsHonestEntry, IsHonestWithin, AsksNothingTwice}
+use Rattle.shq_oracle.specs.Entry.{Entry}
+use Rattle.shq_oracle.specs.Entry.TheVariants.{Test, Node}
+use Rattle.shq_oracle.specs.TestEnd.{TestEnd}
+use Rattle.shq_oracle.specs.Entries.{spent_of, is_spent, ended_spent, IsAnswered}
+use Rattle.shq_oracle.specs.HonestLog.{IsHonestEntry, IsHonestWithin, AsksNothingTwice}
 
 -- ---- what stands at a place
 

@@ -4,14 +4,14 @@ use Rattle.std.proofs.Common.{subst, ◌∙◌, arith, inl, inr}
 use Rattle.std.specs.List.{list_any}
 use Rattle.std.proofs.lemmas.Bool.{or_parts, or_cases, or_left, or_right, and_from}
 use Rattle.axiom_sets.specs.Sets.{Limited, IsFull}
-use Rattle.ontology_limits.specs.Limits.{IsInLimit}
-use Rattle.run_log.specs.declared.entry.Entry.{Entry}
-use Rattle.run_log.specs.declared.entry.Entry.TheVariants.{Test}
-use Rattle.run_log.specs.declared.entry.TestEnd.{TestEnd}
-use Rattle.run_log.specs.declared.entry.TestEnd.TheVariants as E
-use Rattle.run_log.specs.Entries.{spent_of, is_spent, ended_spent, IsAnswered}
-use Rattle.run_log.specs.HonestLog.{IsWhole, IsHonestEntry, IsClassificationLog}
-use Rattle.run_log.specs.HonestLog.IsChain.{none}
+use Rattle.shq_oracle.specs.Limits.{IsInLimit}
+use Rattle.shq_oracle.specs.Entry.{Entry}
+use Rattle.shq_oracle.specs.Entry.TheVariants.{Test}
+use Rattle.shq_oracle.specs.TestEnd.{TestEnd}
+use Rattle.shq_oracle.specs.TestEnd.TheVariants as E
+use Rattle.shq_oracle.specs.Entries.{spent_of, is_spent, ended_spent, IsAnswered}
+use Rattle.shq_oracle.specs.HonestLog.{IsWhole, IsHonestEntry, IsClassificationLog}
+use Rattle.shq_oracle.specs.HonestLog.IsChain.{none}
 use Rattle.shq_oracle.specs.OracleLists.{OracleLists}
 use Rattle.subsumption.specs.Matrices.{has, IsMatrix, Adds}
 use Rattle.subsumption.specs.Rows.{Rows, holds, Relates}

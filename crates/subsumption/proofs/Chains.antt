@@ -6,13 +6,13 @@ use Rattle.axiom_sets.specs.Sets.{Limited}
 use Rattle.shq_terms.specs.Concept.{Concept, top, bottom}
 use Rattle.shq_terms.specs.declared.axioms.On.TheVariants.{Any}
 use Rattle.shq_terms.specs.declared.axioms.Query.{Query}
-use Rattle.run_log.specs.declared.entry.Entry.{Entry}
-use Rattle.run_log.specs.declared.entry.Entry.TheVariants.{Test}
-use Rattle.run_log.specs.declared.entry.TestEnd.TheVariants.{Yes, No}
-use Rattle.run_log.specs.HonestLog.{IsStep, IsChain}
-use Rattle.run_log.specs.HonestLog.IsStep.{by_test, in_top, of_bottom}
-use Rattle.run_log.specs.HonestLog.IsChain.{none, onward}
-use Rattle.run_log.specs.Shown.{IsRuledOut}
+use Rattle.shq_oracle.specs.Entry.{Entry}
+use Rattle.shq_oracle.specs.Entry.TheVariants.{Test}
+use Rattle.shq_oracle.specs.TestEnd.TheVariants.{Yes, No}
+use Rattle.shq_oracle.specs.HonestLog.{IsStep, IsChain}
+use Rattle.shq_oracle.specs.HonestLog.IsStep.{by_test, in_top, of_bottom}
+use Rattle.shq_oracle.specs.HonestLog.IsChain.{none, onward}
+use Rattle.shq_oracle.specs.Shown.{IsRuledOut}
 
 -- one chain after another
 pub then_chain : (log : List Entry) (x y z : Concept) → IsChain log x y → IsChain log y z → IsChain log x z

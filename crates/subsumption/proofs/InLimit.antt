@@ -10,8 +10,8 @@ use Rattle.shq_terms.specs.Uses.{uses_listed}
 use Rattle.role_box.specs.Counted.{counted_roles}
 use Rattle.role_box.specs.Simple.{are_simple, all_role_axioms}
 use Rattle.shq_nnf.specs.Counts.{has_counts_within}
-use Rattle.ontology_limits.specs.Limits.{IsOntologyInLimit, IsInLimit, has_enough_parts}
-use Rattle.run_log.specs.HonestLog.{IsClass}
+use Rattle.shq_oracle.specs.Limits.{IsOntologyInLimit, IsInLimit, has_enough_parts}
+use Rattle.shq_oracle.specs.HonestLog.{IsClass}
 use Rattle.subsumption.specs.Subsumption.{class_at, query_at}
 
 -- ---- classes by number

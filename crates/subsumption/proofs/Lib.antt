@@ -19,3 +19,5 @@ pub mod Members
 pub mod NoneBelow
 pub mod Grouped
 pub mod Same
+pub use Rattle.shq_oracle.proofs.Counting as PassingCounts
+pub use Rattle.shq_oracle.proofs.Named

@@ -8,15 +8,15 @@ use Rattle.shq_terms.specs.Concept.{Concept}
 use Rattle.shq_terms.specs.Listed.{Listed}
 use Rattle.shq_terms.specs.declared.axioms.On.TheVariants.{Any}
 use Rattle.shq_terms.specs.declared.axioms.Query.{Query}
-use Rattle.run_log.specs.declared.entry.Entry.{Entry}
-use Rattle.run_log.specs.declared.entry.Entry.TheVariants.{Test}
-use Rattle.run_log.specs.declared.entry.TestEnd.{TestEnd}
-use Rattle.run_log.specs.declared.entry.TestEnd.TheVariants.{Yes, No, Spent}
-use Rattle.run_log.specs.Entries.{spent_of, is_spent, ended_spent, IsAnswered}
-use Rattle.run_log.specs.HonestLog.{IsWhole, IsHonestEntry, IsClassTest, IsChain, IsClassificationLog}
-use Rattle.run_log.specs.HonestLog.IsStep.{by_test}
-use Rattle.run_log.specs.HonestLog.IsChain.{none}
-use Rattle.run_log.specs.Shown.{IsRuledOut}
+use Rattle.shq_oracle.specs.Entry.{Entry}
+use Rattle.shq_oracle.specs.Entry.TheVariants.{Test}
+use Rattle.shq_oracle.specs.TestEnd.{TestEnd}
+use Rattle.shq_oracle.specs.TestEnd.TheVariants.{Yes, No, Spent}
+use Rattle.shq_oracle.specs.Entries.{spent_of, is_spent, ended_spent, IsAnswered}
+use Rattle.shq_oracle.specs.HonestLog.{IsWhole, IsHonestEntry, IsClassTest, IsChain, IsClassificationLog}
+use Rattle.shq_oracle.specs.HonestLog.IsStep.{by_test}
+use Rattle.shq_oracle.specs.HonestLog.IsChain.{none}
+use Rattle.shq_oracle.specs.Shown.{IsRuledOut}
 use Rattle.subsumption.specs.Matrices.{Matrix, has}
 use Rattle.subsumption.specs.Rows.{Rows, holds}
 use Rattle.subsumption.specs.Subsumption.{class_at, query_at}

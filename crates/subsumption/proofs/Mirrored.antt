@@ -7,12 +7,12 @@ use Rattle.axiom_sets.specs.Sets.{Limited}
 use Rattle.shq_terms.specs.Concept.{Concept}
 use Rattle.shq_terms.specs.Listed.{Listed}
 use Rattle.shq_terms.specs.declared.axioms.Query.{Query}
-use Rattle.run_log.specs.declared.entry.Entry.{Entry}
-use Rattle.run_log.specs.declared.entry.Entry.TheVariants.{Test}
-use Rattle.run_log.specs.declared.entry.TestEnd.TheVariants.{Yes, No}
-use Rattle.run_log.specs.HonestLog.{IsChain}
-use Rattle.run_log.specs.HonestLog.IsChain.{none}
-use Rattle.run_log.specs.Shown.{IsRuledOut}
+use Rattle.shq_oracle.specs.Entry.{Entry}
+use Rattle.shq_oracle.specs.Entry.TheVariants.{Test}
+use Rattle.shq_oracle.specs.TestEnd.TheVariants.{Yes, No}
+use Rattle.shq_oracle.specs.HonestLog.{IsChain}
+use Rattle.shq_oracle.specs.HonestLog.IsChain.{none}
+use Rattle.shq_oracle.specs.Shown.{IsRuledOut}
 use Rattle.subsumption.specs.Matrices.{Matrix, has, IsMatrix, Adds}
 use Rattle.subsumption.specs.Rows.{Rows, holds, is_bounded, IsAtFirst, Relates}
 use Rattle.subsumption.specs.Subsumption.{class_at, query_at}

@@ -9,15 +9,15 @@ use Rattle.shq_terms.specs.declared.axioms.Axiom.{Axiom}
 use Rattle.shq_terms.specs.declared.axioms.On.{On}
 use Rattle.shq_terms.specs.declared.axioms.On.TheVariants.{Any}
 use Rattle.shq_meaning.specs.Truth.{holds as has_element, Entails}
-use Rattle.refutation_truth.specs.Theory.{all_axioms}
-use Rattle.run_log.specs.declared.entry.Entry.{Entry}
-use Rattle.run_log.specs.declared.entry.Entry.TheVariants.{Test}
-use Rattle.run_log.specs.declared.entry.TestEnd.TheVariants.{No}
-use Rattle.run_log.specs.HonestLog.{IsHonestEntry, IsClassTest, IsClassificationLog}
-use Rattle.run_log.specs.HonestLog.IsChain.{none}
-use Rattle.run_log.specs.Shown.{IsRuledOut}
-use Rattle.run_log.proofs.Told.{chain_is_true}
-use Rattle.run_log.proofs.Named.{whole}
+use Rattle.shq_oracle.specs.Theory.{all_axioms}
+use Rattle.shq_oracle.specs.Entry.{Entry}
+use Rattle.shq_oracle.specs.Entry.TheVariants.{Test}
+use Rattle.shq_oracle.specs.TestEnd.TheVariants.{No}
+use Rattle.shq_oracle.specs.HonestLog.{IsHonestEntry, IsClassTest, IsClassificationLog}
+use Rattle.shq_oracle.specs.HonestLog.IsChain.{none}
+use Rattle.shq_oracle.specs.Shown.{IsRuledOut}
+use Rattle.shq_oracle.proofs.Told.{chain_is_true}
+use Rattle.shq_oracle.proofs.Named.{whole}
 use Rattle.subsumption.specs.Matrices.{Matrix, has}
 use Rattle.subsumption.specs.Rows.{Rows, holds, IsOrder}
 use Rattle.subsumption.specs.Subsumption.{class_at, query_at, IsSubsumption}

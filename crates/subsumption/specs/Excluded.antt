@@ -2,10 +2,10 @@
 use Rattle.std.specs.Prelude.{◌≡◌, ℕ, List, take, Some, slice_get}
 use Rattle.axiom_sets.specs.Sets.{Limited}
 use Rattle.shq_terms.specs.declared.axioms.Query.{Query}
-use Rattle.run_log.specs.declared.entry.Entry.{Entry}
-use Rattle.run_log.specs.declared.entry.Entry.TheVariants.{Test}
-use Rattle.run_log.specs.declared.entry.TestEnd.{TestEnd}
-use Rattle.run_log.specs.Shown.{IsRuledOut}
+use Rattle.shq_oracle.specs.Entry.{Entry}
+use Rattle.shq_oracle.specs.Entry.TheVariants.{Test}
+use Rattle.shq_oracle.specs.TestEnd.{TestEnd}
+use Rattle.shq_oracle.specs.Shown.{IsRuledOut}
 
 -- no query is tested that earlier tests rule out: one that was no, and chains
 abbrev pub AsksNoExcluded : List Entry → Type 0

@@ -13,3 +13,12 @@ pub mod Settled
 pub mod ClassSets
 pub mod Groups
 pub mod ClassNames
+pub use Rattle.shq_oracle.specs.Decided
+pub use Rattle.shq_oracle.specs.OracleLists
+pub use Rattle.shq_oracle.specs.declared.answer.Outcome
+pub use Rattle.shq_oracle.specs.HonestLog
+pub use Rattle.shq_oracle.specs.Entry
+pub use Rattle.shq_oracle.specs.Shown
+pub use Rattle.shq_oracle.specs.Entries
+pub use Rattle.shq_oracle.specs.TestEnd
+pub use Rattle.shq_oracle.specs.LogExamples

@@ -4,11 +4,11 @@ use Rattle.axiom_sets.specs.Sets.{Limited}
 use Rattle.shq_terms.specs.Concept.{top, bottom}
 use Rattle.shq_terms.specs.declared.axioms.On.TheVariants.{Any}
 use Rattle.shq_terms.specs.declared.axioms.Query.{Query}
-use Rattle.run_log.specs.Trails.{TrailLists}
-use Rattle.run_log.specs.declared.entry.Entry.{Entry}
-use Rattle.run_log.specs.declared.entry.Entry.TheVariants.{Test, Node}
-use Rattle.run_log.specs.declared.entry.TestEnd.TheVariants.{Spent}
-use Rattle.run_log.specs.Entries.{spent_of}
+use Rattle.shq_oracle.specs.Trails.{TrailLists}
+use Rattle.shq_oracle.specs.Entry.{Entry}
+use Rattle.shq_oracle.specs.Entry.TheVariants.{Test, Node}
+use Rattle.shq_oracle.specs.TestEnd.TheVariants.{Spent}
+use Rattle.shq_oracle.specs.Entries.{spent_of}
 
 -- the last entry is a test that ended since the budget was spent, and nothing of the budget is left
 pub record EndsSpent (budget : ℕ) (log : List Entry) : Type 0 where

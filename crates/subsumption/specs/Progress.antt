@@ -3,9 +3,9 @@ use Rattle.std.specs.Prelude.{◌≡◌, ℕ, ◌+◌, ◌<◌, ◌||◌, Bool, 
 use Rattle.std.specs.List.{list_any}
 use Rattle.std.specs.FinSet as set
 use Rattle.axiom_sets.specs.Sets.{Limited, IsFull}
-use Rattle.ontology_limits.specs.Limits.{IsOntologyInLimit}
-use Rattle.run_log.specs.Entries.{is_spent}
-use Rattle.run_log.specs.HonestLog.{IsWhole, IsClassificationLog}
+use Rattle.shq_oracle.specs.Limits.{IsOntologyInLimit}
+use Rattle.shq_oracle.specs.Entries.{is_spent}
+use Rattle.shq_oracle.specs.HonestLog.{IsWhole, IsClassificationLog}
 use Rattle.shq_oracle.specs.OracleLists.{OracleLists}
 use Rattle.subsumption.specs.Matrices.{has}
 use Rattle.subsumption.specs.Rows.{holds}

@@ -1,9 +1,9 @@
 -- The relation of the classes of an ontology, where each pair of them is settled.
 use Rattle.std.specs.Prelude.{◌≡◌, ◌⊎◌, ℕ, ◌+◌, ◌<◌, List, length}
 use Rattle.shq_terms.specs.Listed.{Listed}
-use Rattle.run_log.specs.declared.entry.Entry.{Entry}
-use Rattle.run_log.specs.HonestLog.{IsChain}
-use Rattle.run_log.specs.Shown.{IsRuledOut}
+use Rattle.shq_oracle.specs.Entry.{Entry}
+use Rattle.shq_oracle.specs.HonestLog.{IsChain}
+use Rattle.shq_oracle.specs.Shown.{IsRuledOut}
 use Rattle.subsumption.specs.Rows.{Rows, holds, IsOrder}
 use Rattle.subsumption.specs.Subsumption.{class_at, IsSubsumption}
 

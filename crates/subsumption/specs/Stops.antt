@@ -1,8 +1,8 @@
 -- How the questions stop before their end.
 use Rattle.std.specs.Prelude.{◌≡◌, ℕ, false, List}
 use Rattle.std.specs.List.{list_any}
-use Rattle.run_log.specs.declared.entry.Entry.{Entry}
-use Rattle.run_log.specs.Entries.{is_spent}
+use Rattle.shq_oracle.specs.Entry.{Entry}
+use Rattle.shq_oracle.specs.Entries.{is_spent}
 use Rattle.subsumption.specs.LogEnds.{EndsSpent}
 use Rattle.subsumption.specs.declared.stop.Stop.{Stop}
 use Rattle.subsumption.specs.declared.stop.Stop.TheVariants.{NoMemory, Spent}

@@ -5,7 +5,7 @@ use Rattle.shq_terms.specs.Listed.{Listed}
 use Rattle.shq_terms.specs.declared.axioms.On.TheVariants.{Any}
 use Rattle.shq_terms.specs.declared.axioms.Query.{Query}
 use Rattle.shq_meaning.specs.Truth.{Entails}
-use Rattle.refutation_truth.specs.Theory.{all_axioms}
+use Rattle.shq_oracle.specs.Theory.{all_axioms}
 
 -- the class of a number, where so many classes are listed: first these, then the class of all things, and then that of
 -- none

@@ -49,6 +49,6 @@ pub use matrix::BitMatrix;
 pub use relation::Relation;
 pub use relation_laws::{first_is_order, relating_keeps_order, subsumption_is_one};
 pub use settling::settle;
-pub use shq_oracle::{Oracle, RunLog};
+pub use shq_oracle::{Answer, Oracle, RunLog};
 pub use shq_terms::NoMemory;
 pub use stop::Stop;

@@ -2,8 +2,8 @@
 ghost use Rattle.std.specs.Prelude.{◌≡◌, ℕ, ◌+◌, ◌<◌, ◌&&◌, true, false, [], length, IfOk, IfErr, IfSome, OnOk, OnErr};
 ghost use Rattle.std.specs.FinSet as set;
 ghost use Rattle.axiom_sets.specs.Sets.{IsFull};
-ghost use Rattle.ontology_limits.specs.Limits.{IsOntologyInLimit};
-ghost use Rattle.run_log.specs.HonestLog.{IsWhole};
+ghost use Rattle.shq_oracle.specs.Limits.{IsOntologyInLimit};
+ghost use Rattle.shq_oracle.specs.HonestLog.{IsWhole};
 ghost use Rattle.shq_oracle.specs.ApartLists.{IsAbout};
 ghost use Rattle.subsumption.specs.Matrices.{has, IsMatrix, Adds};
 ghost use Rattle.subsumption.specs.Rows.{holds, IsAtFirst, Relates};

@@ -1,9 +1,9 @@
 // The questions until each pair is settled.
 ghost use Rattle.std.specs.Prelude.{◌≡◌, false, [], IfOk, IfErr, OnOk};
 ghost use Rattle.std.specs.List.{list_any};
-ghost use Rattle.ontology_limits.specs.Limits.{IsOntologyInLimit};
-ghost use Rattle.run_log.specs.Entries.{is_spent};
-ghost use Rattle.run_log.specs.HonestLog.{IsClassificationLog};
+ghost use Rattle.shq_oracle.specs.Limits.{IsOntologyInLimit};
+ghost use Rattle.shq_oracle.specs.Entries.{is_spent};
+ghost use Rattle.shq_oracle.specs.HonestLog.{IsClassificationLog};
 ghost use Rattle.subsumption.specs.LogEnds.{all_in_none, BeginsWith};
 ghost use Rattle.subsumption.specs.Excluded.{AsksNoExcluded};
 ghost use Rattle.subsumption.specs.Settled.{IsSettled};

@@ -2,8 +2,8 @@
 ghost use Rattle.std.specs.Prelude.{◌≡◌, ◌≤◌, false, length, IfOk, IfSome, OnOk, OnErr};
 ghost use Rattle.std.specs.List.{list_any};
 ghost use Rattle.shq_terms.specs.declared.axioms.On.TheVariants.{Any};
-ghost use Rattle.ontology_limits.specs.Limits.{IsInLimit};
-ghost use Rattle.run_log.specs.Entries.{spent_of, is_spent, IsAnswered};
+ghost use Rattle.shq_oracle.specs.Limits.{IsInLimit};
+ghost use Rattle.shq_oracle.specs.Entries.{spent_of, is_spent, IsAnswered};
 ghost use Rattle.subsumption.specs.Subsumption.{class_at, query_at};
 ghost use Rattle.shq_oracle.specs.ApartLists.{IsAbout};
 ghost use Rattle.subsumption.specs.Tests.{verdict_of, newest, IsTested, IsNoted, AreAlike, Begins, HasBegun};

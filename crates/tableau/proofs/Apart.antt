@@ -20,8 +20,8 @@ use Rattle.calculus_specs.specs.Shape.{Shape, shape_of}
 use Rattle.calculus_specs.specs.Shape.Shape.{name as name_shape, not_name, union}
 use Rattle.calculus_specs.specs.declared.facts.Fact.{Fact}
 use Rattle.calculus_specs.specs.declared.facts.Fact.TheVariants.{Has, Edge, Apart, Same}
-use Rattle.role_box.specs.Counted.{counted_roles}
-use Rattle.role_box.specs.Simple.{all_role_axioms, is_simple, are_simple}
+use Rattle.search_laws.specs.Counted.{counted_roles}
+use Rattle.search_laws.specs.Simple.{all_role_axioms, is_simple, are_simple}
 use Rattle.search_rules.specs.Limits.{IsInLimit, has_enough_parts}
 use Rattle.tableau_specs.specs.declared.Item.{Item}
 use Rattle.tableau_specs.specs.Items.{facts_of}

@@ -13,8 +13,8 @@ use Rattle.closed_search.specs.RefutationLists.{RefutationLists}
 use Rattle.tableau_specs.specs.Reached.{start, IsReached, Follows}
 use Rattle.tableau_specs.specs.Steps.{SearchContext, IsLegal, IsSaturated, HasClash}
 use Rattle.tableau_specs.specs.declared.Item.{Item}
-use Rattle.completion_tree.specs.declared.tree.Entry.{Entry}
-use Rattle.completion_tree.specs.Trail.{items_of, facts_in}
+use Rattle.search_state.specs.Entry.{Entry}
+use Rattle.search_state.specs.Trail.{items_of, facts_in}
 use Rattle.search_laws.specs.Runs.{IsRun}
 use Rattle.tableau.specs.Seen.{SeenSets, AreOver, AreSeenIn}
 use Rattle.closed_search.specs.Trace.{begun}

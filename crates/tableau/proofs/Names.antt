@@ -14,7 +14,7 @@ use Rattle.calculus_specs.specs.Rows.{Theory}
 use Rattle.calculus_specs.specs.Rules.{Question}
 use Rattle.calculus_specs.specs.declared.facts.Fact.{Fact}
 use Rattle.calculus_specs.specs.Tree.{tree_of}
-use Rattle.role_box.specs.Counted.{counted_roles, counted_by}
+use Rattle.search_laws.specs.Counted.{counted_roles, counted_by}
 use Rattle.search_rules.specs.Limits.{IsOntologyInLimit}
 use Rattle.calculus_specs.specs.Line.{Line}
 use Rattle.calculus_specs.specs.Line.Line.{start_line, and_line, or_line, all_line, carry_line, row_line, range_line}

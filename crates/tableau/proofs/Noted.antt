@@ -11,8 +11,8 @@ use Rattle.calculus_specs.specs.declared.facts.Fact.{Fact}
 use Rattle.tableau_specs.specs.declared.Item.{Item}
 use Rattle.tableau_specs.specs.Items.{facts_of}
 use Rattle.tableau_specs.specs.Steps.{SearchContext, IsLegal}
-use Rattle.completion_tree.specs.declared.tree.Entry.{Entry}
-use Rattle.completion_tree.specs.Trail.{items_of, item_of}
+use Rattle.search_state.specs.Entry.{Entry}
+use Rattle.search_state.specs.Trail.{items_of, item_of}
 use Rattle.search_laws.specs.Runs.{was_ever}
 use Rattle.search_laws.proofs.Last.{steps_put_last}
 use Rattle.tableau.specs.Seen.{SeenSets, holds, no_classes, nothing_seen, gives_class, gives_complement, AreOver}

@@ -1,7 +1,7 @@
 -- What is searched is reached.
 use Rattle.tableau_specs.specs.Steps.{SearchContext}
 use Rattle.tableau_specs.specs.Reached.{IsReached}
-use Rattle.completion_tree.specs.Trail.{items_of}
+use Rattle.search_state.specs.Trail.{items_of}
 use Rattle.search_state.specs.Progress.{ProgressLists, asked_by, IsStanding}
 
 pub standing_is_reached : (w : SearchContext) (p : ProgressLists) → IsStanding w p

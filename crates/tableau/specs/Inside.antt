@@ -5,8 +5,8 @@ use Rattle.closed_search.specs.RefutationLists.{RefutationLists}
 use Rattle.tableau_specs.specs.declared.Item.{Item}
 use Rattle.tableau_specs.specs.Steps.{IsLegal, IsSaturated, HasClash}
 use Rattle.tableau_specs.specs.Items.{facts_of}
-use Rattle.completion_tree.specs.declared.tree.Entry.{Entry}
-use Rattle.completion_tree.specs.Trail.{items_of, facts_in}
+use Rattle.search_state.specs.Entry.{Entry}
+use Rattle.search_state.specs.Trail.{items_of, facts_in}
 use Rattle.tableau.specs.Seen.{SeenSets, HasNoted}
 use Rattle.closed_search.specs.Leaves.{leaves}
 use Rattle.closed_search.specs.Noted.{start_of}

@@ -8,8 +8,8 @@ use Rattle.closed_search.specs.Theory.{question_in}
 use Rattle.tableau_specs.specs.declared.Item.{Item}
 use Rattle.tableau_specs.specs.Steps.{SearchContext}
 use Rattle.tableau_specs.specs.Reached.{start, IsReached}
-use Rattle.completion_tree.specs.declared.tree.Entry.{Entry}
-use Rattle.completion_tree.specs.Trail.{TreeEntries, items_of, facts_in}
+use Rattle.search_state.specs.Entry.{Entry}
+use Rattle.search_state.specs.Trail.{TreeEntries, items_of, facts_in}
 use Rattle.search_state.specs.Followed.{Printed, IsCurrent}
 use Rattle.search_rules.specs.RuleLists.{RuleLists, numbers_in, context_in}
 use Rattle.search_laws.specs.Runs.{IsRun}

@@ -15,7 +15,7 @@ use Rattle.tableau_specs.specs.declared.Item.{Item}
 use Rattle.tableau_specs.specs.Steps.{IsLegal, IsSaturated, HasClash}
 use Rattle.tableau_specs.specs.Reached.{Follows, Costs}
 use Rattle.tableau.specs.Seen.{has_seen}
-use Rattle.completion_tree.specs.Trail.{facts_in}
+use Rattle.search_state.specs.Trail.{facts_in}
 use Rattle.search_state.specs.Followed.{IsCurrent}
 use Rattle.search_rules.specs.RuleLists.{RuleLists}
 use Rattle.tableau.specs.declared.search.Event.{Event}

@@ -1,7 +1,7 @@
 // One call on the progress of a search.
 ghost use Rattle.std.specs.Prelude.{◌≡◌, ◌+◌, ◌<◌, ◌^◌, IsTrue, OnOk, IfOk, length};
 ghost use Rattle.search_rules.specs.Limits.{IsInLimit};
-ghost use Rattle.completion_tree.specs.Trail.{facts_in};
+ghost use Rattle.search_state.specs.Trail.{facts_in};
 ghost use Rattle.search_rules.specs.RuleLists.{context_in};
 ghost use Rattle.search_state.specs.Followed.{IsCurrent};
 ghost use Rattle.search_state.specs.Progress.{IsSearching};
@@ -11,9 +11,8 @@ use crate::NoMemory;
 use crate::closing::refutation;
 use crate::search::{End, Event};
 use crate::seen::SeenClasses;
-use completion_tree::Tree;
 use search_rules::SearchRules;
-use search_state::{Progress, Rested, Stepped};
+use search_state::{Progress, Rested, Stepped, Tree};
 use std::alloc::{Allocator, Global};
 
 /// Makes the next step, if there is one, and notes what it put. If it `follows`, it finds the blocks of all nodes then.

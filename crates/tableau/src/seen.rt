@@ -3,7 +3,7 @@ ghost use Rattle.std.specs.Prelude.{◌≡◌, ℕ, ◌<◌, ◌≤◌, ◌==◌
 ghost use Rattle.calculus_specs.specs.declared.facts.Fact.TheVariants.{Has};
 ghost use Rattle.calculus_specs.specs.Shape.{shape_of};
 ghost use Rattle.tableau_specs.specs.Items.{facts_of};
-ghost use Rattle.completion_tree.specs.Trail.{items_of};
+ghost use Rattle.search_state.specs.Trail.{items_of};
 ghost use Rattle.tableau.specs.Seen.{holds, nothing_seen, class_of, complement_of, union_parts, is_one};
 ghost use Rattle.tableau.specs.Seen.{is_complement, has_complement};
 ghost use Rattle.tableau.specs.Seen.{has_seen, HasGained, HasNoted};
@@ -11,11 +11,11 @@ ghost use Rattle.tableau.specs.Seen.{has_seen, HasGained, HasNoted};
 use crate::NoMemory;
 use axiom_sets::AxiomSet;
 use calculus_specs::Fact;
-use completion_tree::{Item, Tree};
-use shq_nnf::Shape;
+use search_laws::Shape;
+use search_rules::Rules;
+use search_state::{Item, Tree};
 use std::alloc::{Allocator, Global};
 use std::marker::Model;
-use step_finders::Rules;
 
 /// The classes with which a run has had to do, as far as they are below a count.
 ///

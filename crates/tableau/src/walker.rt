@@ -2,7 +2,7 @@
 ghost use Rattle.std.specs.Prelude.{◌≡◌, ◌+◌, ◌<◌, ◌≤◌, ◌^◌, [], ◌∷◌, true, false, IsTrue, IfOk, OnOk, OnErr, length};
 ghost use Rattle.search_rules.specs.Limits.{IsInLimit};
 ghost use Rattle.search_rules.specs.RuleLists.{AreNumbersOf};
-ghost use Rattle.completion_tree.specs.Trail.{items_of};
+ghost use Rattle.search_state.specs.Trail.{items_of};
 ghost use Rattle.tableau.specs.Seen.{AreOver, AreSeenIn};
 ghost use Rattle.tableau.specs.SearchState.{is_any, room_for, context_of, tree_in, IsReachedBy, HasRun, HasBegun};
 ghost use Rattle.tableau.specs.SearchState.{HasAllBlocks, IsSameSearch};
@@ -15,14 +15,12 @@ use crate::advancing::{advance, settle};
 use crate::search::{End, Event};
 use crate::seen::SeenClasses;
 use axiom_sets::AxiomSet;
-use completion_tree::Tree;
 use search_laws::{few_marks, few_steps_without_going_back};
-use search_rules::SearchRules;
-use search_state::{Blocks, Effort, Progress};
+use search_rules::{Rules, SearchRules};
+use search_state::{Blocks, Effort, Progress, Tree};
 use shq_terms::{On, Query};
 use std::alloc::{Allocator, Global};
 use std::marker::Model;
-use step_finders::Rules;
 
 /// A search within a call. Until the call ends, the blocks that are known may be those of the first nodes alone.
 #[derive(Drop)]

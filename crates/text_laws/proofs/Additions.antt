@@ -10,7 +10,7 @@ use Rattle.shq_terms.specs.Listed.{Listed}
 use Rattle.shq_terms.specs.Uses.{all_use_listed}
 use Rattle.shq_terms.specs.declared.axioms.Axiom.{Axiom}
 use Rattle.shq_terms.specs.declared.axioms.Numbered.{Numbered}
-use Rattle.shq_nnf.specs.Parts.{axiom_has_counts_within}
+use Rattle.ontology_limits.specs.Parts.{axiom_has_counts_within}
 use Rattle.ontology_limits.specs.Limits.{has_enough_items, part_count, IsOntologyInLimit}
 use Rattle.ofn_tree.specs.Lexemes.{end_line}
 use Rattle.ofn_tree.specs.Items.{Item, name_item, iri_item, literal_item, sign_item, group_item, Items, items_of}

@@ -5,9 +5,9 @@ use Rattle.std.proofs.lemmas.List.{length-map}
 use Rattle.shq_terms.specs.Concept.{Concept, part_list}
 use Rattle.shq_terms.specs.declared.axioms.Axiom.{Axiom}
 use Rattle.shq_terms.specs.declared.axioms.Axiom.TheVariants as A
-use Rattle.shq_nnf.specs.Facts.{same_facts, apart_facts, facts_of}
-use Rattle.shq_nnf.specs.Parts.{axiom_parts, disjoint_parts, union_parts}
-use Rattle.shq_nnf.proofs.Pairs.{pair_total, length_equivalent, length_union}
+use Rattle.ontology_limits.specs.Facts.{same_facts, apart_facts, facts_of}
+use Rattle.ontology_limits.specs.Parts.{axiom_parts, disjoint_parts, union_parts}
+use Rattle.ontology_limits.proofs.Pairs.{pair_total, length_equivalent, length_union}
 use Rattle.ofn_tree.specs.Items.{Items, no_items, item}
 use Rattle.ofn_expressions.specs.Counts.{Counts}
 use Rattle.ofn_expressions.specs.Names.{Prefix, iri_of}

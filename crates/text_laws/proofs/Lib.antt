@@ -31,3 +31,5 @@ pub mod Additions
 pub mod TextsBehind
 pub mod LastBracket
 pub mod LongerDocuments
+pub use Rattle.ofn_reader.proofs.Unique
+pub use Rattle.ofn_reader.proofs.OneReason

@@ -9,7 +9,7 @@ use Rattle.shq_terms.specs.Uses.{uses_listed, parts_use_listed}
 use Rattle.shq_terms.specs.declared.axioms.On.{On}
 use Rattle.shq_terms.specs.declared.axioms.On.TheVariants.{Any, Individual}
 use Rattle.shq_terms.specs.declared.axioms.Query.{Query}
-use Rattle.shq_nnf.specs.Counts.{has_counts_within}
+use Rattle.ontology_limits.specs.Counts.{has_counts_within}
 use Rattle.ontology_limits.specs.Limits.{has_enough_parts, is_on_listed}
 use Rattle.ofn_tree.specs.Items.{Item, name_item, iri_item, literal_item, sign_item, group_item, Items, no_items, item}
 use Rattle.ofn_tree.specs.Items.{items_of}

@@ -12,7 +12,7 @@ use Rattle.shq_terms.specs.Uses.{uses_listed}
 use Rattle.shq_terms.specs.declared.axioms.Axiom.TheVariants.{SubClassOf, Member}
 use Rattle.ontology_limits.specs.Counted.{counted_roles}
 use Rattle.ontology_limits.specs.Simple.{are_simple, all_role_axioms}
-use Rattle.shq_nnf.specs.Counts.{has_counts_within}
+use Rattle.ontology_limits.specs.Counts.{has_counts_within}
 use Rattle.ontology_limits.specs.Limits.{has_enough_parts, IsInLimit}
 use Rattle.ofn_tree.specs.Lexemes.{end_line}
 use Rattle.ofn_tree.specs.Items.{Item, Items, no_items, item}

@@ -14,10 +14,10 @@ use Rattle.shq_terms.specs.declared.axioms.Axiom.TheVariants.{SubClassOf, Equiva
 use Rattle.shq_terms.specs.declared.axioms.Axiom.TheVariants.{DisjointUnion, SubRole, EquivalentRoles, Domain, Range}
 use Rattle.shq_terms.specs.declared.axioms.Axiom.TheVariants.{Functional, Transitive, Member, Pair, SameAll, Different}
 use Rattle.shq_terms.specs.declared.axioms.Numbered.{Numbered}
-use Rattle.shq_nnf.specs.Counts.{has_counts_within, have_counts_within}
-use Rattle.shq_nnf.specs.Facts.{facts_of}
-use Rattle.shq_nnf.specs.Parts.{axiom_parts, axiom_has_counts_within}
-use Rattle.shq_nnf.proofs.Pairs.{length_equivalent, length_union}
+use Rattle.ontology_limits.specs.Counts.{has_counts_within, have_counts_within}
+use Rattle.ontology_limits.specs.Facts.{facts_of}
+use Rattle.ontology_limits.specs.Parts.{axiom_parts, axiom_has_counts_within}
+use Rattle.ontology_limits.proofs.Pairs.{length_equivalent, length_union}
 use Rattle.ontology_limits.specs.Limits.{has_enough_parts, have_enough_parts, has_enough_items, part_count}
 use Rattle.ofn_reader.specs.Axioms.{pair_count}
 use Rattle.text_laws.proofs.Counted.{pairs_counted, same_counted, apart_counted}

@@ -4,3 +4,12 @@ pub mod WritingLaws
 pub mod LimitLaws
 pub mod EndLaws
 pub use Rattle.ontology_limits.specs.Limits
+pub use Rattle.ofn_reader.specs.Documents
+pub use Rattle.ofn_reader.specs.DocumentContext
+pub use Rattle.ofn_reader.specs.Queries
+pub use Rattle.ofn_writer.specs.Canonical
+pub use Rattle.certificate_lines.specs.declared.fault.LineFault
+pub use Rattle.ofn_expressions.specs.Counts
+pub use Rattle.ofn_expressions.specs.declared.refusal.Refusal
+pub use Rattle.ofn_expressions.specs.Constructs
+pub use Rattle.ofn_expressions.specs.declared.refusal.Which

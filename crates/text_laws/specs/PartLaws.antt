@@ -1,8 +1,8 @@
 -- The parts that a reader counts are those that a search takes, and the facts of assertions.
 use Rattle.std.specs.Prelude.{◌≡◌, ◌+◌, List, [], ◌∷◌, length}
 use Rattle.shq_terms.specs.declared.axioms.Axiom.{Axiom}
-use Rattle.shq_nnf.specs.Facts.{facts_of}
-use Rattle.shq_nnf.specs.Parts.{axiom_parts}
+use Rattle.ontology_limits.specs.Facts.{facts_of}
+use Rattle.ontology_limits.specs.Parts.{axiom_parts}
 use Rattle.ofn_tree.specs.Items.{Items}
 use Rattle.ofn_expressions.specs.Counts.{Counts}
 use Rattle.ofn_expressions.specs.Names.{Prefix}

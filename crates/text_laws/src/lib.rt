@@ -12,12 +12,14 @@ mod limit_laws;
 mod part_laws;
 mod writing_laws;
 
+pub use certificate_lines::LineFault;
 pub use end_laws::{documents_end_in_their_text, texts_behind_documents_are_not_read};
 pub use limit_laws::{
     additions_are_counted, additions_stay_in_limit, classes_are_in_limit, classes_list_names,
     classes_stay_in_limit, cuts_stay_in_limit, documents_are_counted, documents_are_in_limit,
     queries_are_cut_again, queries_are_in_limit, queries_list_names, queries_stay_in_limit,
 };
+pub use ofn_reader::{Context, Refusal, Which, read_class, read_ontology, read_query};
 pub use part_laws::parts_are_counted;
 pub use writing_laws::{
     class_texts_are_read, documents_are_read_again, documents_can_be_written, documents_know_owl,

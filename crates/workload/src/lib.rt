@@ -12,5 +12,6 @@ mod groups;
 mod workload_text;
 
 pub use document_laws::{workload_queries_are_read, workloads_are_documents};
+pub use ofn_reader::Context;
 pub use shq_terms::NoMemory;
 pub use workload_text::{QUERY, generate};

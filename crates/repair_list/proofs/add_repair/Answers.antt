@@ -1,7 +1,7 @@
 use Rattle.std.proofs.Common.{◌∙◌, sym, subst}
 use Rattle.std.proofs.lemmas.Bool.{true≢false}
 use Rattle.axiom_sets.specs.Sets.{Limited}
-use Rattle.set_questions.specs.InOrder.{HasMore}
+use Rattle.hitting_set_tree.specs.InOrder.{HasMore}
 use Rattle.repair_list.proofs.Alone.{put_alone, left_out}
 use Rattle.repair_list.proofs.add_repair.Goals as goal
 

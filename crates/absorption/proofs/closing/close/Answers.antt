@@ -1,7 +1,7 @@
 use Rattle.std.proofs.Common.{arith}
-use Rattle.shq_nnf.proofs.Numbers.{extends_twice}
-use Rattle.role_box.specs.Steps.{is_transitive}
-use Rattle.role_box.specs.Paths.{is_below}
+use Rattle.row_cache.proofs.Numbers.{extends_twice}
+use Rattle.row_cache.specs.Steps.{is_transitive}
+use Rattle.row_cache.specs.Paths.{is_below}
 use Rattle.absorption.proofs.Carried.{more_needed, all_closed}
 use Rattle.absorption.proofs.closing.close.Goals as goal
 

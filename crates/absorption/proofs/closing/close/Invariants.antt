@@ -1,7 +1,7 @@
 use Rattle.std.proofs.Common.{ℕ, ◌<◌, ◌-◌, ◌^◌}
-use Rattle.shq_nnf.specs.Numbers.{Extends}
-use Rattle.role_box.specs.Steps.{is_transitive}
-use Rattle.role_box.specs.Paths.{is_below}
+use Rattle.row_cache.specs.Numbers.{Extends}
+use Rattle.row_cache.specs.Steps.{is_transitive}
+use Rattle.row_cache.specs.Paths.{is_below}
 use Rattle.absorption.specs.Needed.{HasNeeded}
 use Rattle.absorption.proofs.closing.close.Given as goal
 

@@ -1,6 +1,6 @@
 use Rattle.std.proofs.Common.{take}
-use Rattle.shq_nnf.specs.Numbers.{Extends}
-use Rattle.role_box.specs.Paths.{is_below}
+use Rattle.row_cache.specs.Numbers.{Extends}
+use Rattle.row_cache.specs.Paths.{is_below}
 use Rattle.absorption.specs.Needed.{AreCarried}
 use Rattle.absorption.proofs.closing.put_carried.Given as goal
 

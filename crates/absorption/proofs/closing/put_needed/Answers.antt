@@ -1,8 +1,8 @@
 use Rattle.std.proofs.Common.{◌≡◌, ap, sym, ◌∙◌}
 use Rattle.std.proofs.lemmas.Result.{on_ok_weaker}
 use Rattle.calculus_specs.specs.Shape.{shape_of}
-use Rattle.role_box.specs.Steps.{is_transitive}
-use Rattle.role_box.specs.Paths.{is_below}
+use Rattle.row_cache.specs.Steps.{is_transitive}
+use Rattle.row_cache.specs.Paths.{is_below}
 use Rattle.absorption.specs.declared.closing.Need.TheVariants.{Complement, Carries}
 use Rattle.absorption.specs.Needed.{need_of_shape}
 use Rattle.absorption.proofs.Carried.{complement_needed, carried_needed, filler_of_need}

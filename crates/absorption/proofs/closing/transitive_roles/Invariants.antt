@@ -1,6 +1,6 @@
 use Rattle.std.proofs.Common.{◌≡◌, ℕ, ◌<◌, true, eqb}
 use Rattle.std.specs.List.{list_any}
-use Rattle.role_box.specs.Steps.{is_transitive}
+use Rattle.row_cache.specs.Steps.{is_transitive}
 use Rattle.absorption.proofs.closing.transitive_roles.Given as goal
 
 abbrev pub invariant-loop-role : goal.invariant-loop-role

@@ -1,8 +1,8 @@
 use Rattle.std.proofs.Common.{◌≡◌, ◌+◌, ◌<◌, ◌++◌, List, take, length, subst, sym, arith}
 use Rattle.std.proofs.lemmas.List.{take_all}
 use Rattle.calculus_specs.specs.Rows.{NumberedPart}
-use Rattle.shq_nnf.specs.Parts.{axiom_parts}
-use Rattle.shq_nnf.proofs.Numbers.{extends_twice}
+use Rattle.row_cache.specs.Parts.{axiom_parts}
+use Rattle.row_cache.proofs.Numbers.{extends_twice}
 use Rattle.row_cache.specs.Theory.{numbered_parts}
 use Rattle.absorption.specs.declared.row.Row.{Row}
 use Rattle.absorption.specs.Rows.{AreRowsOf}

@@ -1,7 +1,7 @@
 use Rattle.std.proofs.Common.{◌++◌, List, take}
 use Rattle.calculus_specs.specs.Rows.{NumberedPart}
-use Rattle.shq_nnf.specs.Numbers.{Extends}
-use Rattle.shq_nnf.specs.Parts.{axiom_parts}
+use Rattle.row_cache.specs.Numbers.{Extends}
+use Rattle.row_cache.specs.Parts.{axiom_parts}
 use Rattle.row_cache.specs.Theory.{numbered_parts}
 use Rattle.absorption.specs.Rows.{AreRowsOf}
 use Rattle.absorption.proofs.rows.push_rows.Given as goal

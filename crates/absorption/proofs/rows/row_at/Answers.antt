@@ -1,7 +1,7 @@
 use Rattle.std.proofs.Common.{◌≡◌, ◌+◌, ◌-◌, ap, subst, ◌∙◌, arith}
 use Rattle.std.specs.Prelude.{IfOk}
 use Rattle.calculus_specs.specs.Rows.{Part}
-use Rattle.shq_nnf.specs.Parts.{axiom_parts, part_in}
+use Rattle.row_cache.specs.Parts.{axiom_parts, part_in}
 use Rattle.absorption.specs.Rows.{IsRowOfPart}
 use Rattle.absorption.proofs.Listed.{part_listed, part_read}
 use Rattle.absorption.proofs.rows.row_at.Goals as goal

@@ -1,8 +1,8 @@
 use Rattle.std.proofs.Common.{◌≡◌, ◌+◌, ◌++◌, List, take, get_or, subst, sym, ap, ◌∙◌}
 use Rattle.std.proofs.lemmas.List.{take_more}
 use Rattle.calculus_specs.specs.Rows.{Part, NumberedPart}
-use Rattle.shq_nnf.specs.Parts.{axiom_parts}
-use Rattle.shq_nnf.proofs.Numbers.{extends_twice}
+use Rattle.row_cache.specs.Parts.{axiom_parts}
+use Rattle.row_cache.proofs.Numbers.{extends_twice}
 use Rattle.row_cache.specs.Theory.{parts_in, parts_at, numbered_parts, named_parts}
 use Rattle.absorption.specs.Rows.{AreRowsOf}
 use Rattle.absorption.proofs.Listed.{named_parts-push}

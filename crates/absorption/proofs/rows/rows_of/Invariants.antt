@@ -1,5 +1,5 @@
 use Rattle.std.proofs.Common.{take}
-use Rattle.shq_nnf.specs.Numbers.{Extends}
+use Rattle.row_cache.specs.Numbers.{Extends}
 use Rattle.row_cache.specs.Theory.{named_parts}
 use Rattle.absorption.specs.Rows.{AreRowsOf}
 use Rattle.absorption.proofs.rows.rows_of.Given as goal

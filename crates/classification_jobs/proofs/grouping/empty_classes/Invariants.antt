@@ -1,7 +1,7 @@
 use Rattle.std.proofs.Common.{◌≡◌, ◌++◌, ◌-◌}
 use Rattle.lane_sieve.specs.Sets.{passing}
 use Rattle.classifier.specs.Rows.{holds}
-use Rattle.subsumption.specs.Groups.{is_empty}
+use Rattle.classifier.specs.Groups.{is_empty}
 use Rattle.classification_jobs.proofs.grouping.empty_classes.Given as goal
 
 abbrev pub invariant-loop-class : goal.invariant-loop-class

@@ -1,8 +1,8 @@
 use Rattle.std.proofs.Common.{ℕ, ◌∙◌, ap, arith}
 use Rattle.lane_sieve.specs.Sets.{passing}
 use Rattle.classifier.specs.Rows.{holds}
-use Rattle.subsumption.specs.Groups.{holds_all}
-use Rattle.subsumption.proofs.Passing.{listed_more, listed_whole}
+use Rattle.classifier.specs.Groups.{holds_all}
+use Rattle.classifier.proofs.Passing.{listed_more, listed_whole}
 use Rattle.classification_jobs.proofs.grouping.full_classes.Goals as goal
 
 pub loop-class-preserved : goal.loop-class-preserved

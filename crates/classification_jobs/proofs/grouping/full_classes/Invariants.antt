@@ -1,7 +1,7 @@
 use Rattle.std.proofs.Common.{◌≡◌, ◌++◌, ◌-◌}
 use Rattle.lane_sieve.specs.Sets.{passing}
 use Rattle.classifier.specs.Rows.{holds}
-use Rattle.subsumption.specs.Groups.{holds_all}
+use Rattle.classifier.specs.Groups.{holds_all}
 use Rattle.classification_jobs.proofs.grouping.full_classes.Given as goal
 
 abbrev pub invariant-loop-class : goal.invariant-loop-class

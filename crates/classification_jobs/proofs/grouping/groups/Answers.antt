@@ -1,11 +1,11 @@
 use Rattle.std.proofs.Common.{◌≡◌, ◌++◌, ◌∙◌, ap, map}
 use Rattle.lane_sieve.specs.Sets.{passing}
 use Rattle.classifier.specs.Rows.{holds}
-use Rattle.subsumption.specs.ClassNames.{are_listed}
-use Rattle.subsumption.specs.Groups.{is_first}
+use Rattle.classifier.specs.ClassNames.{are_listed}
+use Rattle.classifier.specs.Groups.{is_first}
 use Rattle.classification_jobs.specs.Taxonomies.{group_of}
-use Rattle.subsumption.proofs.Members.{class_list-holds}
-use Rattle.subsumption.proofs.Passing.{below-passing}
+use Rattle.classifier.proofs.Members.{class_list-holds}
+use Rattle.classifier.proofs.Passing.{below-passing}
 use Rattle.classification_jobs.proofs.grouping.groups.Goals as goal
 
 pub loop-class-init : goal.loop-class-init

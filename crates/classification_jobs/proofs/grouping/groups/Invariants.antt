@@ -1,8 +1,8 @@
 use Rattle.std.proofs.Common.{◌≡◌, ◌++◌, drop, map, true}
 use Rattle.lane_sieve.specs.Sets.{passing}
 use Rattle.classifier.specs.Rows.{holds}
-use Rattle.subsumption.specs.ClassNames.{are_listed}
-use Rattle.subsumption.specs.Groups.{is_first}
+use Rattle.classifier.specs.ClassNames.{are_listed}
+use Rattle.classifier.specs.Groups.{is_first}
 use Rattle.classification_jobs.specs.Taxonomies.{group_of}
 use Rattle.classification_jobs.proofs.grouping.groups.Given as goal
 

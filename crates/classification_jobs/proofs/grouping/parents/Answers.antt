@@ -1,7 +1,7 @@
 use Rattle.std.proofs.Common.{◌∙◌}
 use Rattle.std.proofs.lemmas.Result.{IfOk-weaker}
 use Rattle.classifier.specs.Rows.{holds}
-use Rattle.subsumption.proofs.Grouped.{lowest_by}
+use Rattle.classifier.proofs.Grouped.{lowest_by}
 use Rattle.classification_jobs.specs.Taxonomies.{is_above}
 use Rattle.classification_jobs.proofs.grouping.parents.Goals as goal
 

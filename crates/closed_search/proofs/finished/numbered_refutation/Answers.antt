@@ -2,8 +2,8 @@ use Rattle.std.proofs.Common.{◌≡◌, true, List, ◌++◌, map, subst, sym, 
 use Rattle.std.specs.List.{list_all}
 use Rattle.calculus_specs.specs.Line.{Line}
 use Rattle.calculus_specs.specs.Shape.{Shape}
-use Rattle.refutation_tree.specs.RuleLine.{line_of, names_concepts}
-use Rattle.refutation_tree.specs.RefutationLists.{RefutationLists}
+use Rattle.search_trace.specs.RuleLine.{line_of, names_concepts}
+use Rattle.search_trace.specs.RefutationLists.{RefutationLists}
 use Rattle.search_trace.specs.Renumbered.{renumbered}
 use Rattle.closed_search.specs.Numbers.{number_in}
 use Rattle.closed_search.proofs.Made.{lines_name, all_numbered}

@@ -1,7 +1,7 @@
 use Rattle.std.proofs.Common.{List, map, ◌∙◌, subst}
 use Rattle.shq_terms.specs.declared.axioms.Numbered.{Numbered}
 use Rattle.axiom_sets.specs.Sets.{member_list}
-use Rattle.refutation_tree.specs.RuleLine.{line_of}
+use Rattle.search_trace.specs.RuleLine.{line_of}
 use Rattle.closed_search.specs.Named.{takes_role, ArePut}
 use Rattle.closed_search.proofs.Put.{names_all}
 use Rattle.closed_search.proofs.naming.axioms_named.Goals as goal

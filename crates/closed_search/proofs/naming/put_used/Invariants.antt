@@ -1,5 +1,5 @@
 use Rattle.std.proofs.Common.{◌≡◌, drop, map}
-use Rattle.refutation_tree.specs.RuleLine.{line_of}
+use Rattle.search_trace.specs.RuleLine.{line_of}
 use Rattle.closed_search.specs.Named.{uses_axiom, IsPutting}
 use Rattle.closed_search.proofs.naming.put_used.Given as goal
 

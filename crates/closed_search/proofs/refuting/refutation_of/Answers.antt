@@ -1,10 +1,10 @@
 use Rattle.std.proofs.Common.{◌≡◌, true, ◌<◌, ◌^◌, List, map, ap, subst, arith}
 use Rattle.axiom_sets.specs.Sets.{Limited, IsWithin}
 use Rattle.std.specs.List.{list_all}
-use Rattle.refutation_tree.specs.ReadBack.{is_small}
+use Rattle.search_trace.specs.ReadBack.{is_small}
 use Rattle.calculus_specs.specs.Line.{Line}
-use Rattle.refutation_tree.specs.declared.line.Line.{Line as Kept}
-use Rattle.refutation_tree.specs.RuleLine.{line_of}
+use Rattle.search_trace.specs.Line.{Line as Kept}
+use Rattle.search_trace.specs.RuleLine.{line_of}
 use Rattle.closed_search.specs.Named.{NamesAxioms}
 use Rattle.closed_search.proofs.Refuted.{numbered_names, names_listed, named_are_part, written}
 use Rattle.closed_search.proofs.refuting.refutation_of.Goals as goal

@@ -1,7 +1,7 @@
 use Rattle.std.proofs.Common.{◌≡◌, map, drop}
 use Rattle.std.specs.List.{list_all}
-use Rattle.refutation_tree.specs.RuleLine.{line_of}
-use Rattle.refutation_tree.specs.ReadBack.{is_small}
+use Rattle.search_trace.specs.RuleLine.{line_of}
+use Rattle.search_trace.specs.ReadBack.{is_small}
 use Rattle.closed_search.proofs.small.show_small.Given as goal
 
 -- all are small when the rest are

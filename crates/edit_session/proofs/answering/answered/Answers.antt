@@ -1,6 +1,6 @@
 use Rattle.std.proofs.Common.{inr}
 use Rattle.std.proofs.lemmas.Result.{err_from_is_err_and}
-use Rattle.text_laws.proofs.InLimit.{documents_in_limit}
+use Rattle.job_inputs.proofs.InLimit.{documents_in_limit}
 use Rattle.job_inputs.specs.Answer.{text_bytes}
 use Rattle.edit_session.specs.Answers.{LogsSoFar}
 use Rattle.edit_session.specs.Answering.{AnswersLines}

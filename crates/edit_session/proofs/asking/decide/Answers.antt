@@ -1,5 +1,5 @@
 use Rattle.std.proofs.Common.{List, subst}
-use Rattle.run_log.specs.declared.entry.Entry.{Entry}
+use Rattle.shq_oracle.specs.Entry.{Entry}
 use Rattle.edit_session.specs.Places.{plain_noted}
 use Rattle.edit_session.specs.Asking.{IsTold, IsRecalled}
 use Rattle.edit_session.proofs.Deciding.{recalled, not_answered, noted_seen, noted_others, noted_longer}

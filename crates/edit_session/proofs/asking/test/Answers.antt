@@ -1,6 +1,6 @@
 use Rattle.std.proofs.Common.{List, subst, sym, ap, ◌∙◌}
-use Rattle.run_log.specs.declared.entry.Entry.{Entry}
-use Rattle.run_log.specs.Entries.{IsAnswered}
+use Rattle.shq_oracle.specs.Entry.{Entry}
+use Rattle.shq_oracle.specs.Entries.{IsAnswered}
 use Rattle.shq_oracle.specs.OracleLists.{OracleLists}
 use Rattle.edit_session.proofs.Deciding.{by_oracle}
 use Rattle.edit_session.proofs.asking.test.Goals as goal

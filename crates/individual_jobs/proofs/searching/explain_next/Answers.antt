@@ -1,5 +1,5 @@
 use Rattle.std.proofs.Common.{◌≡◌, ◌-◌, sym, subst, arith}
-use Rattle.run_log.specs.Entries.{spent_of}
+use Rattle.realizer.specs.Entries.{spent_of}
 use Rattle.pinpointing_jobs.specs.Told.{AreTestsOfOthers}
 use Rattle.shq_terms.specs.declared.axioms.Query.{Query}
 use Rattle.pinpointing_jobs.specs.Gained.{GainsSearch, GainsBegun}

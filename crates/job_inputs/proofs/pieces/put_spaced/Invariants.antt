@@ -1,6 +1,6 @@
 use Rattle.std.proofs.Common.{◌≡◌, ◌++◌, map}
 use Rattle.std.specs.Prelude.{decimal}
-use Rattle.ofn_writer.specs.Canonical.{spaced}
+use Rattle.text_laws.specs.Canonical.{spaced}
 use Rattle.job_inputs.proofs.pieces.put_spaced.Given as goal
 
 abbrev pub invariant-loop-number : goal.invariant-loop-number

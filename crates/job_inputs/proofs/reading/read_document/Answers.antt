@@ -1,6 +1,6 @@
 use Rattle.std.proofs.Common.{sym, subst}
 use Rattle.std.proofs.lemmas.Result.{err_from_is_err_and}
-use Rattle.ofn_expressions.specs.declared.refusal.Refusal.TheVariants.{BadShape}
+use Rattle.text_laws.specs.Refusal.TheVariants.{BadShape}
 use Rattle.job_inputs.specs.Questions.{IsNotAlone, more}
 use Rattle.job_inputs.proofs.Refused.{undocumented}
 use Rattle.job_inputs.proofs.reading.read_document.Goals as goal

@@ -1,7 +1,7 @@
 use Rattle.std.proofs.Common.{◌≡◌, ℕ, ◌-◌, ◌<◌, length, refl, sym, subst, arith}
 use Rattle.std.specs.Prelude.{All}
 use Rattle.calculus_specs.specs.State.{node_count_from}
-use Rattle.completion_tree.specs.Trail.{facts_in}
+use Rattle.blocking.specs.Trail.{facts_in}
 use Rattle.finite_model.specs.ModelLists.{meaning}
 use Rattle.search_laws.specs.Elements.{elements}
 use Rattle.model_builder.specs.declared.structure_model.Edge.{Edge}

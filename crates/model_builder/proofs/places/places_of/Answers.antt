@@ -1,5 +1,5 @@
 use Rattle.std.proofs.Common.{ℕ, [], ◌∷◌, ◌++◌, ap, ◌∙◌, arith}
-use Rattle.completion_tree.specs.Trail.{facts_in}
+use Rattle.blocking.specs.Trail.{facts_in}
 use Rattle.model_builder.proofs.Placed.{places_more}
 use Rattle.model_builder.proofs.places.places_of.Goals as goal
 

@@ -1,4 +1,4 @@
-use Rattle.completion_tree.specs.Trail.{facts_in}
+use Rattle.blocking.specs.Trail.{facts_in}
 use Rattle.model_builder.proofs.Edges.{edges_more}
 use Rattle.model_builder.proofs.structure.edges_of.Goals as goal
 

@@ -1,4 +1,4 @@
-use Rattle.completion_tree.specs.Trail.{facts_in}
+use Rattle.blocking.specs.Trail.{facts_in}
 use Rattle.model_builder.proofs.Members.{members_more}
 use Rattle.model_builder.proofs.structure.members_of.Goals as goal
 

@@ -1,4 +1,4 @@
-use Rattle.completion_tree.specs.Trail.{facts_in}
+use Rattle.blocking.specs.Trail.{facts_in}
 use Rattle.model_builder.specs.Collected.{AreMembers}
 use Rattle.model_builder.proofs.structure.members_of.Given as goal
 

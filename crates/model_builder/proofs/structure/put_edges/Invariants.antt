@@ -1,6 +1,6 @@
 use Rattle.std.proofs.Common.{◌≡◌, ◌++◌, drop}
 use Rattle.calculus_specs.specs.Joins.{rep}
-use Rattle.completion_tree.specs.Trail.{facts_in}
+use Rattle.blocking.specs.Trail.{facts_in}
 use Rattle.model_builder.specs.Collected.{edges_by}
 use Rattle.model_builder.proofs.structure.put_edges.Given as goal
 

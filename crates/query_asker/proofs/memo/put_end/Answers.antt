@@ -2,7 +2,7 @@ use Rattle.std.proofs.Common.{◌≡◌, ◌∙◌, ◌∷◌, [], List, ap, sym
 use Rattle.std.specs.List.{Contains}
 use Rattle.std.proofs.lemmas.Result.{on_ok_weaker}
 use Rattle.axiom_sets.specs.Sets.{Limited}
-use Rattle.run_log.specs.declared.entry.TestEnd.{TestEnd}
+use Rattle.shq_oracle.specs.TestEnd.{TestEnd}
 use Rattle.set_questions.specs.Kept.{kind_of, kept_sets}
 use Rattle.query_asker.specs.Memory.{yes_by, no_by, KeepsWithAll}
 use Rattle.query_asker.proofs.Remembered.{one_member}

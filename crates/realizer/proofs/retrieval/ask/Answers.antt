@@ -1,9 +1,9 @@
 use Rattle.std.proofs.Common.{◌≡◌, sym, subst}
 use Rattle.shq_terms.specs.declared.axioms.Query.{Query}
 use Rattle.ontology_limits.specs.Limits.{IsInLimit}
-use Rattle.run_log.specs.Entries.{spent_of}
-use Rattle.shq_oracle.specs.declared.answer.Outcome.TheVariants as O
-use Rattle.shq_oracle.specs.Decided.{IsAnswer, IsRefuting, AddsTest, AppendsTest, LeavesNothing}
+use Rattle.subsumption.specs.Entries.{spent_of}
+use Rattle.subsumption.specs.Outcome.TheVariants as O
+use Rattle.subsumption.specs.Decided.{IsAnswer, IsRefuting, AddsTest, AppendsTest, LeavesNothing}
 use Rattle.realizer.specs.Instances.{instance_query}
 use Rattle.realizer.specs.Asked.{AreAlike}
 use Rattle.realizer.proofs.Found.{after_yes, after_no, after_spent}

@@ -1,6 +1,6 @@
 use Rattle.std.proofs.Common.{◌-◌, drop, arith, sym, ◌∙◌}
 use Rattle.std.proofs.lemmas.List.{length-drop}
-use Rattle.calculus_specs.proofs.Ascending.{short_ascends}
+use Rattle.shq_nnf.proofs.Ascending.{short_ascends}
 use Rattle.refutation_tree.proofs.reading.is_ascending.Goals as goal
 
 pub returns : goal.returns

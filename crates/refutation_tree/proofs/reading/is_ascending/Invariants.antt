@@ -1,5 +1,5 @@
 use Rattle.std.proofs.Common.{◌≡◌, ◌-◌, drop}
-use Rattle.calculus_specs.specs.Rows.{is_ascending}
+use Rattle.shq_nnf.specs.TheoryRows.{is_ascending}
 use Rattle.refutation_tree.proofs.reading.is_ascending.Given as goal
 
 abbrev pub invariant-loop-index : goal.invariant-loop-index

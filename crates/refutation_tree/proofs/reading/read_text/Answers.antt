@@ -3,7 +3,7 @@ use Rattle.std.proofs.Common.{Err, ap, subst, sym, arith}
 use Rattle.std.proofs.lemmas.List.{length-map, length-take, length-drop}
 use Rattle.certificate_lines.specs.Lines.{words}
 use Rattle.certificate_lines.specs.declared.fault.LineFault.{LineFault}
-use Rattle.shq_terms.specs.Listed.{Listed}
+use Rattle.certificate_lines.specs.Listed.{Listed}
 use Rattle.refutation_tree.specs.RefutationLists.{RefutationLists}
 use Rattle.refutation_tree.specs.RefutationText.{refutation_body, begun}
 use Rattle.refutation_tree.specs.ReadBack.{IsWritable}

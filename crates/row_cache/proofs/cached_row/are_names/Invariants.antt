@@ -1,7 +1,7 @@
 use Rattle.std.proofs.Common.{◌≡◌, map, take}
 use Rattle.std.specs.List.{list_all}
-use Rattle.calculus_specs.specs.Rows.{is_name, conjunct_at}
-use Rattle.calculus_specs.specs.Tree.{tree_of}
+use Rattle.refutation_truth.specs.TheoryRows.{is_name, conjunct_at}
+use Rattle.refutation_truth.specs.Tree.{tree_of}
 use Rattle.row_cache.proofs.cached_row.are_names.Given as goal
 
 abbrev pub invariant-loop-position : goal.invariant-loop-position

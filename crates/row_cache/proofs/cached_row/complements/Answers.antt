@@ -1,9 +1,9 @@
 use Rattle.std.proofs.Common.{◌+◌, take, map, subst, sym, arith, length}
-use Rattle.calculus_specs.specs.Normal.{negated_form}
-use Rattle.calculus_specs.specs.Tree.{tree_of}
-use Rattle.shq_nnf.specs.Numbers.{AreNumbers}
-use Rattle.shq_nnf.proofs.Numbers.{extends_twice}
-use Rattle.shq_nnf.proofs.Stable.{complements_push}
+use Rattle.refutation_truth.specs.Normal.{negated_form}
+use Rattle.refutation_truth.specs.Tree.{tree_of}
+use Rattle.refutation_truth.specs.Numbers.{AreNumbers}
+use Rattle.refutation_truth.proofs.Numbers.{extends_twice}
+use Rattle.refutation_truth.proofs.Stable.{complements_push}
 use Rattle.row_cache.proofs.cached_row.complements.Goals as goal
 
 pub loop-part-preserved : goal.loop-part-preserved

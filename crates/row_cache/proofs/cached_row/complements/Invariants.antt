@@ -1,7 +1,7 @@
 use Rattle.std.proofs.Common.{map, take}
-use Rattle.calculus_specs.specs.Normal.{negated_form}
-use Rattle.calculus_specs.specs.Tree.{tree_of}
-use Rattle.shq_nnf.specs.Numbers.{Extends, AreNumbers}
+use Rattle.refutation_truth.specs.Normal.{negated_form}
+use Rattle.refutation_truth.specs.Tree.{tree_of}
+use Rattle.refutation_truth.specs.Numbers.{Extends, AreNumbers}
 use Rattle.row_cache.proofs.cached_row.complements.Given as goal
 
 abbrev pub invariant-loop-part : goal.invariant-loop-part

@@ -1,9 +1,9 @@
 use Rattle.std.proofs.Common.{◌∙◌, ap, map, subst, List, ℕ, ◌≡◌}
 use Rattle.std.specs.Prelude.{Some, Option}
-use Rattle.calculus_specs.specs.Rows.{inclusion, part_at}
-use Rattle.calculus_specs.specs.Tree.{tree_of}
-use Rattle.shq_nnf.specs.declared.parts.Part.{Part as Kept}
-use Rattle.shq_nnf.specs.declared.parts.Part.TheVariants as K
+use Rattle.refutation_truth.specs.TheoryRows.{inclusion, part_at}
+use Rattle.refutation_truth.specs.Tree.{tree_of}
+use Rattle.refutation_truth.specs.Part.{Part as Kept}
+use Rattle.refutation_truth.specs.Part.TheVariants as K
 use Rattle.axiom_sets.specs.Sets.{member_list}
 use Rattle.refutation_truth.specs.Theory.{theory_of}
 use Rattle.row_cache.specs.Rows.{IsPartFound, IsRow, row_for}

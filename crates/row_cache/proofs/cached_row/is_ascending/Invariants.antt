@@ -1,5 +1,5 @@
 use Rattle.std.proofs.Common.{◌≡◌, ◌-◌, drop}
-use Rattle.calculus_specs.specs.Rows.{is_ascending}
+use Rattle.refutation_truth.specs.TheoryRows.{is_ascending}
 use Rattle.row_cache.proofs.cached_row.is_ascending.Given as goal
 
 abbrev pub invariant-loop-index : goal.invariant-loop-index

@@ -1,6 +1,6 @@
 use Rattle.std.proofs.Common.{ap, ◌∙◌, subst, sym, ◌<◌, ℕ, length}
-use Rattle.calculus_specs.specs.Rows.{is_name}
-use Rattle.calculus_specs.specs.Tree.{tree_of}
+use Rattle.refutation_truth.specs.TheoryRows.{is_name}
+use Rattle.refutation_truth.specs.Tree.{tree_of}
 use Rattle.row_cache.proofs.Places.{tree_at, number_listed}
 use Rattle.row_cache.proofs.cached_row.is_name_at.Goals as goal
 

@@ -1,6 +1,6 @@
 use Rattle.std.proofs.Common.{◌≡◌, ◌+◌, ◌++◌, drop, leb, true}
 use Rattle.std.specs.List.{list_all}
-use Rattle.calculus_specs.specs.Rows.{is_ascending}
+use Rattle.refutation_truth.specs.TheoryRows.{is_ascending}
 use Rattle.row_cache.specs.Rows.{other_numbers}
 use Rattle.row_cache.proofs.cached_row.others.Given as goal
 

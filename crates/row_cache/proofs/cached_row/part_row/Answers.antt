@@ -1,8 +1,8 @@
 use Rattle.std.proofs.Common.{◌∙◌, sym, map}
 use Rattle.std.specs.List.{list_all}
 use Rattle.std.proofs.lemmas.Bool.{and_from}
-use Rattle.calculus_specs.specs.Rows.{is_ascending, is_name, conjunct_at}
-use Rattle.calculus_specs.specs.Tree.{tree_of}
+use Rattle.refutation_truth.specs.TheoryRows.{is_ascending, is_name, conjunct_at}
+use Rattle.refutation_truth.specs.Tree.{tree_of}
 use Rattle.row_cache.proofs.Assembled.{row_is}
 use Rattle.row_cache.proofs.cached_row.part_row.Goals as goal
 

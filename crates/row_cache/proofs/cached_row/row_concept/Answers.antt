@@ -1,11 +1,11 @@
 use Rattle.std.proofs.Common.{◌≡◌, ◌∙◌, ap, subst, sym, true, List, ℕ, map, length, ltb}
 use Rattle.std.specs.List.{list_all}
 use Rattle.std.proofs.lemmas.Bool.{and_parts}
-use Rattle.shq_terms.specs.Concept.{Concept}
-use Rattle.calculus_specs.specs.Normal.{negated_form, or_of}
-use Rattle.calculus_specs.specs.Rows.{is_ascending, is_name, conjunct_at}
-use Rattle.calculus_specs.specs.Tree.{tree_of}
-use Rattle.shq_nnf.specs.Numbers.{IsNumber, AreNumbers}
+use Rattle.refutation_truth.specs.Concept.{Concept}
+use Rattle.refutation_truth.specs.Normal.{negated_form, or_of}
+use Rattle.refutation_truth.specs.TheoryRows.{is_ascending, is_name, conjunct_at}
+use Rattle.refutation_truth.specs.Tree.{tree_of}
+use Rattle.refutation_truth.specs.Numbers.{IsNumber, AreNumbers}
 use Rattle.row_cache.specs.Rows.{other_numbers}
 use Rattle.row_cache.proofs.Places.{names_low, others_listed}
 use Rattle.row_cache.proofs.Assembled.{concept_is}

@@ -1,5 +1,5 @@
 use Rattle.std.proofs.Common.{sym, ◌∙◌}
-use Rattle.tableau_specs.proofs.Listed.{listed}
+use Rattle.absorption.proofs.ListedTrails.{listed}
 use Rattle.search_rules.proofs.carries.restriction.Goals as goal
 
 pub unreachable-requires : goal.unreachable-requires

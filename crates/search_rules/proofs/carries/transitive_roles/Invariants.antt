@@ -1,6 +1,6 @@
 use Rattle.std.proofs.Common.{◌≡◌, ℕ, ◌<◌, true, eqb}
 use Rattle.std.specs.List.{All, list_any}
-use Rattle.role_box.specs.Steps.{is_transitive}
+use Rattle.ontology_limits.specs.Steps.{is_transitive}
 use Rattle.search_rules.proofs.carries.transitive_roles.Given as goal
 
 abbrev pub invariant-loop-role : goal.invariant-loop-role

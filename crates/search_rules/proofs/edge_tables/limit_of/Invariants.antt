@@ -1,6 +1,6 @@
 use Rattle.std.proofs.Common.{◌≡◌, ℕ, ◌<◌, ◌≤◌, ◌^◌, eqb, take}
 use Rattle.std.specs.List.{All}
-use Rattle.role_box.specs.Paths.{is_below}
+use Rattle.ontology_limits.specs.Paths.{is_below}
 use Rattle.search_rules.proofs.edge_tables.limit_of.Given as goal
 
 abbrev pub invariant-loop-role : goal.invariant-loop-role

@@ -1,6 +1,6 @@
 use Rattle.std.proofs.Common.{◌≡◌, [], ℕ, List, arith}
 use Rattle.step_finders.specs.declared.state.PlainRow.{PlainRow}
-use Rattle.role_box.specs.Paths.{is_below}
+use Rattle.ontology_limits.specs.Paths.{is_below}
 use Rattle.search_rules.specs.Files.{waits_for, rows_among}
 use Rattle.search_rules.proofs.Numbered.{each_number}
 use Rattle.search_rules.proofs.Edges.{none_behind}

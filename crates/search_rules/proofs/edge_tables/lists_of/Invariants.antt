@@ -1,5 +1,5 @@
 use Rattle.std.proofs.Common.{◌≡◌, ℕ, ◌<◌, length}
-use Rattle.role_box.specs.Paths.{is_below}
+use Rattle.ontology_limits.specs.Paths.{is_below}
 use Rattle.search_rules.specs.Lists.{list_at}
 use Rattle.search_rules.specs.Files.{waits_for, rows_among}
 use Rattle.search_rules.proofs.edge_tables.lists_of.Given as goal

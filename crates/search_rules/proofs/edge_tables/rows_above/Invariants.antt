@@ -1,5 +1,5 @@
 use Rattle.std.proofs.Common.{◌≡◌, take}
-use Rattle.role_box.specs.Paths.{is_below}
+use Rattle.ontology_limits.specs.Paths.{is_below}
 use Rattle.search_rules.specs.Files.{waits_for, rows_among}
 use Rattle.search_rules.proofs.edge_tables.rows_above.Given as goal
 

@@ -1,5 +1,5 @@
 use Rattle.std.proofs.Common.{List, ◌+◌, sym, subst}
-use Rattle.shq_nnf.proofs.Numbers.{extends_twice}
+use Rattle.ontology_limits.proofs.Numbers.{extends_twice}
 use Rattle.step_finders.specs.declared.state.Given.{Given}
 use Rattle.search_rules.specs.GivenFacts.{AreNumberedTo}
 use Rattle.search_rules.proofs.Giving.{numbered_more}

@@ -1,4 +1,4 @@
-use Rattle.shq_nnf.specs.Numbers.{Extends}
+use Rattle.ontology_limits.specs.Numbers.{Extends}
 use Rattle.search_rules.specs.GivenFacts.{AreNumberedTo}
 use Rattle.search_rules.proofs.given_facts.numbered.Given as goal
 

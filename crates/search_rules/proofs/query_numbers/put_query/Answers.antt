@@ -1,4 +1,4 @@
-use Rattle.shq_nnf.proofs.Numbers.{extends_twice, number_stays}
+use Rattle.ontology_limits.proofs.Numbers.{extends_twice, number_stays}
 use Rattle.search_rules.proofs.query_numbers.put_query.Goals as goal
 
 pub returns-clause-found : goal.returns-clause-found

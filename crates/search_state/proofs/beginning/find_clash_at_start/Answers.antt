@@ -1,7 +1,7 @@
 use Rattle.std.proofs.Common.{ℕ, ◌<◌, ap, subst, Option}
 use Rattle.std.specs.Prelude.{MatchOption}
 use Rattle.calculus_specs.specs.declared.facts.Fact.TheVariants.{Has}
-use Rattle.completion_tree.specs.Trail.{facts_in}
+use Rattle.step_agenda.specs.Trail.{facts_in}
 use Rattle.step_finders.specs.declared.clash.Clash.{Clash}
 use Rattle.step_finders.specs.Clashing.{IsShown}
 use Rattle.search_state.specs.Looking.{NoClashByFact}

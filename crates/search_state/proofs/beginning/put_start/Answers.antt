@@ -1,5 +1,5 @@
 use Rattle.std.proofs.Common.{arith}
-use Rattle.completion_tree.specs.Trail.{facts_in}
+use Rattle.step_agenda.specs.Trail.{facts_in}
 use Rattle.tableau_specs.proofs.TreeShaped.{first_le}
 use Rattle.search_state.proofs.beginning.put_start.Goals as goal
 

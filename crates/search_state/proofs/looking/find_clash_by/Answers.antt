@@ -1,7 +1,7 @@
 use Rattle.std.proofs.Common.{ℕ, subst, sym}
 use Rattle.calculus_specs.specs.declared.facts.Fact.{Fact}
 use Rattle.calculus_specs.specs.declared.facts.Fact.TheVariants.{Has, Apart, Same}
-use Rattle.completion_tree.specs.Trail.{TreeEntries, facts_in}
+use Rattle.step_agenda.specs.Trail.{TreeEntries, facts_in}
 use Rattle.step_finders.specs.Clashing.{AreLedTo}
 use Rattle.search_state.specs.Looking.{IsLookable}
 use Rattle.search_state.proofs.looking.find_clash_by.Goals as goal

@@ -1,6 +1,6 @@
 use Rattle.std.proofs.Common.{subst}
 use Rattle.std.specs.Prelude.{MatchOption}
-use Rattle.completion_tree.specs.Trail.{TreeEntries, facts_in}
+use Rattle.step_agenda.specs.Trail.{TreeEntries, facts_in}
 use Rattle.step_finders.specs.Clashing.{IsShown, NoClashByNew}
 use Rattle.search_state.proofs.looking.find_clash_by_new.Goals as goal
 

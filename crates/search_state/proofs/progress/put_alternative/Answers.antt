@@ -1,8 +1,8 @@
 use Rattle.std.proofs.Common.{ℕ, sym, subst, List}
 use Rattle.calculus_specs.specs.declared.facts.Fact.{Fact}
 use Rattle.calculus_specs.specs.State.{node_count_from}
-use Rattle.fact_tree.specs.Entries.{IsFit}
-use Rattle.completion_tree.specs.Trail.{TreeEntries, facts_in}
+use Rattle.step_agenda.specs.Entries.{IsFit}
+use Rattle.step_agenda.specs.Trail.{TreeEntries, facts_in}
 use Rattle.search_state.proofs.Entries.{facts-marked}
 use Rattle.search_state.proofs.progress.put_alternative.Goals as goal
 

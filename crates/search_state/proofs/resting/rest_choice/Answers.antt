@@ -1,7 +1,7 @@
 use Rattle.std.proofs.Common.{subst, List, ℕ}
 use Rattle.calculus_specs.specs.declared.facts.Fact.{Fact}
-use Rattle.refutation_tree.specs.RuleLine.{line_of}
-use Rattle.completion_tree.specs.Trail.{TreeEntries, facts_in}
+use Rattle.search_trace.specs.RuleLine.{line_of}
+use Rattle.step_agenda.specs.Trail.{TreeEntries, facts_in}
 use Rattle.step_finders.specs.Choosing.{branch_of}
 use Rattle.step_lines.specs.Serving.{HoldWithin}
 use Rattle.step_lines.specs.Kinds.{ServesChoice}

@@ -1,6 +1,6 @@
 use Rattle.std.proofs.Common.{sym, subst, refl}
-use Rattle.refutation_tree.specs.RuleLine.{line_of}
-use Rattle.completion_tree.specs.Trail.{facts_in}
+use Rattle.search_trace.specs.RuleLine.{line_of}
+use Rattle.step_agenda.specs.Trail.{facts_in}
 use Rattle.step_lines.specs.Serving.{HoldWithin}
 use Rattle.search_state.specs.Marked.{marked_in}
 use Rattle.search_state.proofs.Holding.{given_rests}

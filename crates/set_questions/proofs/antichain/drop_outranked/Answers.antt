@@ -1,5 +1,5 @@
 use Rattle.std.proofs.Common.{◌≡◌, ◌∙◌, ◌+◌, ◌-◌, List, sym, subst, arith}
-use Rattle.axiom_sets.specs.Sets.{Limited}
+use Rattle.pinpointing_specs.specs.Sets.{Limited}
 use Rattle.set_questions.proofs.Dropped.{IsSwept, swept_removed}
 use Rattle.set_questions.proofs.antichain.drop_outranked.Goals as goal
 

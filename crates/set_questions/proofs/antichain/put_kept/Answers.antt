@@ -1,6 +1,6 @@
 use Rattle.std.proofs.Common.{◌∙◌, List, sym, subst}
 use Rattle.std.proofs.lemmas.Bool.{true≢false}
-use Rattle.axiom_sets.specs.Sets.{Limited}
+use Rattle.pinpointing_specs.specs.Sets.{Limited}
 use Rattle.set_questions.specs.Kept.{HasAbove, IsDropped}
 use Rattle.set_questions.proofs.Dropped.{with_above, with_new, limits_new}
 use Rattle.set_questions.proofs.antichain.put_kept.Goals as goal

@@ -1,7 +1,7 @@
 use Rattle.std.proofs.Common.{◌∙◌, ap, subst, ℕ}
 use Rattle.std.specs.FinSet as set
 use Rattle.lane_sieve.specs.Sets.{NumberSet}
-use Rattle.axiom_sets.specs.Sets.{IsFull}
+use Rattle.pinpointing_specs.specs.Sets.{IsFull}
 use Rattle.set_questions.proofs.Rest.{full_is}
 use Rattle.set_questions.proofs.complement.rest_of.Goals as goal
 

@@ -1,7 +1,7 @@
 use Rattle.std.proofs.Common.{ℕ, ◌<◌}
 use Rattle.std.specs.Prelude.{slice_index_or}
 use Rattle.lane_sieve.specs.Sets.{IsPart}
-use Rattle.axiom_sets.specs.Sets.{Limited}
+use Rattle.pinpointing_specs.specs.Sets.{Limited}
 use Rattle.set_questions.proofs.places.place_of_part.Given as goal
 
 abbrev pub invariant-loop-place : goal.invariant-loop-place

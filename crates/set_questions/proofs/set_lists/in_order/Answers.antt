@@ -5,7 +5,7 @@ use Rattle.std.specs.List.{Contains}
 use Rattle.std.proofs.lemmas.List.{get_or_default, get_or-take, length-take-le, take_all}
 use Rattle.std.proofs.lemmas.List.Elements.{Contains-get_or}
 use Rattle.std.proofs.Math.Seq.{take-suc}
-use Rattle.axiom_sets.specs.Sets.{Limited}
+use Rattle.pinpointing_specs.specs.Sets.{Limited}
 use Rattle.set_questions.proofs.Ordered.{front_more}
 use Rattle.set_questions.proofs.set_lists.in_order.Goals as goal
 

@@ -1,7 +1,7 @@
 use Rattle.std.proofs.Common.{◌≡◌, ◌∙◌, ◌+◌, ◌-◌, ◌/◌, get_or, subst, arith}
 use Rattle.std.specs.declared.cmp.Ordering.TheVariants.{Less, Greater}
 use Rattle.std.proofs.lemmas.List.{get_or_default}
-use Rattle.axiom_sets.specs.Sets.{Limited, list_cmp}
+use Rattle.pinpointing_specs.specs.Sets.{Limited, list_cmp}
 use Rattle.set_questions.proofs.Ordered.{to_right, to_left}
 use Rattle.set_questions.proofs.set_lists.narrowed.Goals as goal
 

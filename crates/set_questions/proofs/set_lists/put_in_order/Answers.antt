@@ -1,5 +1,5 @@
 use Rattle.std.proofs.Common.{List, sym, subst}
-use Rattle.axiom_sets.specs.Sets.{Limited}
+use Rattle.pinpointing_specs.specs.Sets.{Limited}
 use Rattle.pinpointing_specs.specs.Order.{IsAscending}
 use Rattle.set_questions.specs.InOrder.{IsBetween, HasMore}
 use Rattle.set_questions.proofs.Ordered.{inserted, insert_has}

@@ -1,8 +1,8 @@
 use Rattle.std.proofs.Common.{◌≡◌, ◌∙◌, false, length, ap, sym, subst}
 use Rattle.std.specs.Prelude.{IfOk, IfSome, OnErr}
 use Rattle.std.specs.List.{list_any}
-use Rattle.ontology_limits.specs.Limits.{IsInLimit}
-use Rattle.run_log.specs.Entries.{is_spent, IsAnswered}
+use Rattle.shq_oracle.specs.Limits.{IsInLimit}
+use Rattle.shq_oracle.specs.Entries.{is_spent, IsAnswered}
 use Rattle.shq_oracle.specs.OracleLists.{OracleLists}
 use Rattle.shq_oracle.specs.ApartLists.{IsAbout}
 use Rattle.subsumption.specs.Tests.{IsTested, IsNoted, AreAlike}

@@ -1,4 +1,4 @@
-use Rattle.run_log.specs.declared.entry.Entry.TheVariants.{Test}
+use Rattle.shq_oracle.specs.Entry.TheVariants.{Test}
 use Rattle.std.proofs.Common.{sym, subst}
 use Rattle.std.specs.Prelude.{Option, IfSome}
 use Rattle.shq_oracle.specs.ApartLists.{ApartLists, IsAbout}

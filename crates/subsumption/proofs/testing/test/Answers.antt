@@ -1,7 +1,7 @@
 use Rattle.std.proofs.Common.{ap, sym, subst}
 use Rattle.std.specs.Prelude.{IfOk, IfSome}
 use Rattle.shq_terms.specs.declared.axioms.Query.{Query}
-use Rattle.run_log.specs.Entries.{IsAnswered}
+use Rattle.shq_oracle.specs.Entries.{IsAnswered}
 use Rattle.shq_oracle.specs.ApartLists.{IsAbout}
 use Rattle.subsumption.specs.Tests.{IsTested}
 use Rattle.subsumption.proofs.Begun.{begins_by, begun_by}

@@ -1,5 +1,5 @@
 use Rattle.std.proofs.Common.{subst}
-use Rattle.completion_tree.specs.Trail.{items_of}
+use Rattle.search_state.specs.Trail.{items_of}
 use Rattle.tableau_specs.specs.Items.{facts_of}
 use Rattle.tableau.specs.Seen.{SeenSets, HasNoted}
 use Rattle.tableau.proofs.Noted.{over_at_start, seen_at_start}

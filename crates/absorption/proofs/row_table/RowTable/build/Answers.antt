@@ -1,6 +1,6 @@
 use Rattle.std.proofs.Common.{◌≡◌, List, ℕ, subst, ◌∙◌}
 use Rattle.std.proofs.lemmas.Result.{IfOk-weaker}
-use Rattle.axiom_sets.specs.Sets.{member_list}
+use Rattle.row_cache.specs.Sets.{member_list}
 use Rattle.row_cache.specs.Theory.{named_parts}
 use Rattle.absorption.specs.Rows.{AreRowsOf}
 use Rattle.absorption.specs.Places.{IsFiled}

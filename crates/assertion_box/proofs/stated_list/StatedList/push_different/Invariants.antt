@@ -1,5 +1,5 @@
 use Rattle.std.proofs.Common.{◌≡◌, ◌+◌, ◌++◌, length, drop}
-use Rattle.shq_nnf.specs.Facts.{apart_facts}
+use Rattle.refutation_truth.specs.Facts.{apart_facts}
 use Rattle.assertion_box.specs.Stated.{numbered_facts}
 use Rattle.assertion_box.proofs.stated_list.StatedList.push_different.Given as goal
 

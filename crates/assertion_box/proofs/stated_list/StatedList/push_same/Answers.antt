@@ -1,6 +1,6 @@
 use Rattle.std.proofs.Common.{drop, ◌-◌, arith}
 use Rattle.std.proofs.lemmas.List.{length-drop}
-use Rattle.shq_nnf.specs.Facts.{same_facts}
+use Rattle.refutation_truth.specs.Facts.{same_facts}
 use Rattle.assertion_box.proofs.Listing.{none_left, few_same}
 use Rattle.assertion_box.proofs.stated_list.StatedList.push_same.Goals as goal
 

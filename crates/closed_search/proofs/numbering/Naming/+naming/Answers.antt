@@ -2,7 +2,7 @@ use Rattle.std.proofs.Common.{ℕ, List, [], ◌∷◌, ◌++◌, take, get_or, 
 use Rattle.std.proofs.lemmas.List.{take_more}
 use Rattle.std.proofs.lemmas.Result.{IfOk-weaker}
 use Rattle.calculus_specs.specs.Shape.{Shape}
-use Rattle.shq_nnf.specs.Shapes.{form_of_owned}
+use Rattle.refutation_truth.specs.Shapes.{form_of_owned}
 use Rattle.closed_search.specs.Naming.{IsPut, IsNamed, IsRenamed, AreRenamed}
 use Rattle.closed_search.proofs.Names.{unused, admitted, named_new, renamed_more, below_at}
 use Rattle.closed_search.proofs.numbering.Naming.+naming.Goals as goal

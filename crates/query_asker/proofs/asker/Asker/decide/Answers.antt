@@ -2,8 +2,8 @@ use Rattle.std.proofs.Common.{◌≡◌, ◌∙◌, ℕ, length, refl, ap, sym, 
 use Rattle.lane_sieve.specs.Sets.{IsPart}
 use Rattle.set_questions.specs.Meaning.{one_more}
 use Rattle.set_questions.specs.Asked.{Answers, ShowsNoOther}
-use Rattle.run_log.specs.Entries.{spent_of, IsAnswered}
-use Rattle.run_log.specs.Shown.{IsShownYes}
+use Rattle.shq_oracle.specs.Entries.{spent_of, IsAnswered}
+use Rattle.shq_oracle.specs.Shown.{IsShownYes}
 use Rattle.shq_oracle.specs.declared.answer.Outcome.TheVariants.{Undecided}
 use Rattle.shq_oracle.specs.Decided.{outcome_of, IsAnswer}
 use Rattle.query_asker.specs.AskerLists.{AskerLists}

@@ -2,8 +2,8 @@ use Rattle.std.proofs.Common.{◌≡◌, ◌∙◌, ℕ, length, ap, sym, subst,
 use Rattle.lane_sieve.specs.Sets.{IsPart}
 use Rattle.set_questions.specs.Meaning.{one_more}
 use Rattle.set_questions.specs.Asked.{Answers, ShowsNoOther}
-use Rattle.run_log.specs.Entries.{spent_of, nodes_of, IsAnswered}
-use Rattle.run_log.specs.Shown.{IsShownYes}
+use Rattle.shq_oracle.specs.Entries.{spent_of, nodes_of, IsAnswered}
+use Rattle.shq_oracle.specs.Shown.{IsShownYes}
 use Rattle.query_asker.specs.AskerLists.{AskerLists}
 use Rattle.query_asker.specs.Told.{asker_meaning, IsUnknown}
 use Rattle.query_asker.specs.Asking.{IsAsker, IsLater, lists_of}

@@ -5,7 +5,7 @@ use Rattle.std.proofs.lemmas.Result.{IfOk-weaker}
 use Rattle.lane_sieve.specs.Sets.{IsPart}
 use Rattle.set_questions.specs.Asked.{Answers, IsUnknownIf, ShowsNoOther}
 use Rattle.set_questions.specs.Meaning.{one_more}
-use Rattle.run_log.specs.Entries.{IsAnswered}
+use Rattle.shq_oracle.specs.Entries.{IsAnswered}
 use Rattle.query_asker.specs.declared.known.Known.TheVariants.{Answered, Unknown}
 use Rattle.query_asker.specs.AskerLists.{AskerLists}
 use Rattle.shq_oracle.specs.declared.answer.Outcome.TheVariants.{Undecided}

@@ -1,7 +1,7 @@
 use Rattle.std.proofs.Common.{◌≡◌, ◌∙◌, length, ap, sym, subst}
 use Rattle.std.specs.Prelude.{IfOk, OnErr}
 use Rattle.set_questions.specs.Asked.{Takes}
-use Rattle.run_log.specs.HonestLog.{IsAxiomSet}
+use Rattle.shq_oracle.specs.HonestLog.{IsAxiomSet}
 use Rattle.query_asker.specs.AskerLists.{AskerLists}
 use Rattle.query_asker.specs.Told.{asker_meaning, LogsNode}
 use Rattle.query_asker.specs.Asking.{lists_of}

@@ -4,9 +4,9 @@ use Rattle.axiom_sets.specs.Sets.{Limited}
 use Rattle.shq_terms.specs.Concept.{name}
 use Rattle.shq_terms.specs.Listed.{Listed}
 use Rattle.finite_model.specs.ModelLists.{meaning}
-use Rattle.run_log.specs.Entries.{spent_of}
-use Rattle.shq_oracle.specs.declared.answer.Outcome.TheVariants as O
-use Rattle.shq_oracle.specs.Decided.{IsAnswer, IsRefuting, AddsTest, AppendsTest, LeavesNothing}
+use Rattle.subsumption.specs.Entries.{spent_of}
+use Rattle.subsumption.specs.Outcome.TheVariants as O
+use Rattle.subsumption.specs.Decided.{IsAnswer, IsRefuting, AddsTest, AppendsTest, LeavesNothing}
 use Rattle.realizer.specs.Instances.{instance_query}
 use Rattle.realizer.specs.Candidates.{ArePruned}
 use Rattle.realizer.specs.Asked.{AreAlike, IsAmid}

@@ -1,5 +1,5 @@
 use Rattle.std.proofs.Common.{◌≡◌, ◌&&◌, not, List, map, Bool, ap, sym, ◌∙◌}
-use Rattle.calculus_specs.specs.Shape.{Shape}
+use Rattle.shq_nnf.specs.Shape.{Shape}
 use Rattle.shq_nnf.specs.Shapes.{form_of_owned}
 use Rattle.refutation_tree.specs.Shapes.{is_among_shapes}
 use Rattle.refutation_tree.proofs.Shapes.{kept_listed}

@@ -1,6 +1,6 @@
 use Rattle.std.proofs.Common.{◌+◌, ◌<◌, ◌++◌, ◌∷◌, [], ap, ◌∙◌, drop, length, List, ℕ, arith}
 use Rattle.certificate_lines.specs.Written.{text_of}
-use Rattle.calculus_specs.specs.Shape.{Shape}
+use Rattle.shq_nnf.specs.Shape.{Shape}
 use Rattle.refutation_tree.specs.Written.{concept_line, concept_lines}
 use Rattle.refutation_tree.proofs.ConceptLines.{listed_first, line_first}
 use Rattle.refutation_tree.proofs.refutation.Refutation.push_concepts.Goals as goal

@@ -1,5 +1,5 @@
 use Rattle.std.proofs.Common.{◌≡◌, [], ◌∷◌, ◌++◌, ◌+◌, ◌^◌, ◌<◌, List, map, length, true, ap, sym, ◌∙◌, subst}
-use Rattle.calculus_specs.specs.Shape.{Shape}
+use Rattle.shq_nnf.specs.Shape.{Shape}
 use Rattle.shq_nnf.specs.Shapes.{form_of_owned}
 use Rattle.refutation_tree.specs.Shapes.{admits}
 use Rattle.refutation_tree.specs.RefutationLists.{RefutationLists}

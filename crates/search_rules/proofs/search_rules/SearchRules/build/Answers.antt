@@ -1,6 +1,6 @@
 use Rattle.std.proofs.Common.{ap, sym, ◌∙◌}
-use Rattle.role_box.specs.RoleAxioms.{role_axioms}
-use Rattle.shq_nnf.proofs.Numbers.{extends_twice}
+use Rattle.ontology_limits.specs.RoleAxioms.{role_axioms}
+use Rattle.ontology_limits.proofs.Numbers.{extends_twice}
 use Rattle.absorption.proofs.Made.{members_within}
 use Rattle.search_rules.proofs.Stays.{kept_all}
 use Rattle.search_rules.proofs.search_rules.SearchRules.build.Goals as goal

@@ -1,7 +1,7 @@
 use Rattle.std.proofs.Common.{ℕ, subst, sym}
-use Rattle.fact_tree.specs.Entries.{IsFit}
+use Rattle.step_agenda.specs.Entries.{IsFit}
 use Rattle.calculus_specs.specs.State.{node_count_from}
-use Rattle.completion_tree.specs.Trail.{facts_in}
+use Rattle.step_agenda.specs.Trail.{facts_in}
 use Rattle.step_finders.specs.Choosing.{branch_of}
 use Rattle.search_state.proofs.LastFact.{lookable}
 use Rattle.search_state.proofs.Parts.{alternative_counts, alternative_fits, choice_on}

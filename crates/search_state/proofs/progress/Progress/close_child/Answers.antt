@@ -1,8 +1,8 @@
 use Rattle.std.proofs.Common.{◌≡◌, ◌∙◌, ap, sym, subst, reverse}
 use Rattle.lane_sieve.specs.Sets.{NumberSet}
-use Rattle.refutation_tree.specs.RuleLine.{line_of}
+use Rattle.search_trace.specs.RuleLine.{line_of}
 use Rattle.tableau_specs.specs.Steps.{HasClash}
-use Rattle.completion_tree.specs.Trail.{items_of}
+use Rattle.step_agenda.specs.Trail.{items_of}
 use Rattle.search_trace.specs.Trace.{TraceLists, with_line, turned_back, answer_of}
 use Rattle.search_state.specs.Backing.{closed_trace}
 use Rattle.search_state.specs.Resting.{RestsClash}

@@ -1,5 +1,5 @@
 use Rattle.std.proofs.Common.{None, subst, sym}
-use Rattle.completion_tree.specs.Trail.{facts_in}
+use Rattle.step_agenda.specs.Trail.{facts_in}
 use Rattle.search_state.specs.Progress.{ProgressLists, IsClashOf}
 use Rattle.search_state.proofs.progress.Progress.go_on_followed.Goals as goal
 

@@ -1,9 +1,9 @@
 use Rattle.std.proofs.Common.{◌≡◌, ◌∙◌, ap, refl, sym, subst, reverse}
 use Rattle.std.specs.Prelude.{◌+◌, None}
 use Rattle.lane_sieve.specs.Sets.{NumberSet}
-use Rattle.refutation_tree.specs.RuleLine.{line_of}
-use Rattle.completion_tree.specs.declared.tree.By.{By}
-use Rattle.completion_tree.specs.Trail.{TreeEntries, facts_in}
+use Rattle.search_trace.specs.RuleLine.{line_of}
+use Rattle.step_agenda.specs.By.{By}
+use Rattle.step_agenda.specs.Trail.{TreeEntries, facts_in}
 use Rattle.step_finders.specs.Reasons.{IsAddition}
 use Rattle.search_trace.specs.Trace.{with_line}
 use Rattle.search_state.specs.Resting.{RestsAddition}

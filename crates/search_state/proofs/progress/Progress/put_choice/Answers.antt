@@ -5,14 +5,14 @@ use Rattle.std.proofs.lemmas.List.{reverse-append}
 use Rattle.std.proofs.Math.Seq.{take-append_seam}
 use Rattle.lane_sieve.specs.Sets.{NumberSet}
 use Rattle.calculus_specs.specs.declared.facts.Fact.{Fact}
-use Rattle.refutation_tree.specs.RuleLine.{line_of}
+use Rattle.search_trace.specs.RuleLine.{line_of}
 use Rattle.tableau_specs.specs.declared.Choice.{Choice}
 use Rattle.tableau_specs.specs.Clash.{IsPlainClash}
 use Rattle.tableau_specs.specs.Steps.{below_of}
-use Rattle.completion_tree.specs.declared.tree.By.{By}
-use Rattle.completion_tree.specs.declared.tree.Entry.{Entry}
-use Rattle.completion_tree.specs.declared.tree.Entry.TheVariants.{Fact as Grounded, Mark}
-use Rattle.completion_tree.specs.Trail.{TreeEntries, facts_in}
+use Rattle.step_agenda.specs.By.{By}
+use Rattle.step_agenda.specs.Entry.{Entry}
+use Rattle.step_agenda.specs.Entry.TheVariants.{Fact as Grounded, Mark}
+use Rattle.step_agenda.specs.Trail.{TreeEntries, facts_in}
 use Rattle.step_agenda.specs.Followed.{AreBlocksBelow}
 use Rattle.step_finders.specs.Choosing.{branch_of, IsChoosable}
 use Rattle.search_trace.specs.Trace.{with_branching}

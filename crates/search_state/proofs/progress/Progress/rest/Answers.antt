@@ -1,5 +1,5 @@
 use Rattle.std.proofs.Common.{◌≡◌, ◌∙◌, ap, sym, subst, reverse, Option, None}
-use Rattle.completion_tree.specs.Trail.{facts_in}
+use Rattle.step_agenda.specs.Trail.{facts_in}
 use Rattle.step_finders.specs.declared.clash.Clash.{Clash}
 use Rattle.search_state.specs.Progress.{ProgressLists, IsClashOf}
 use Rattle.search_state.proofs.progress.Progress.rest.Goals as goal

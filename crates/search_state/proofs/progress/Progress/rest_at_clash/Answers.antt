@@ -1,5 +1,5 @@
 use Rattle.std.proofs.Common.{◌≡◌, ◌∙◌, refl, sym, subst, reverse}
-use Rattle.refutation_tree.specs.RuleLine.{line_of}
+use Rattle.search_trace.specs.RuleLine.{line_of}
 use Rattle.search_state.specs.Progress.{ProgressLists}
 use Rattle.search_state.specs.Resting.{RestsClash}
 use Rattle.search_state.proofs.Nexts.{shown_is_clash, clash_has_next}

@@ -3,7 +3,7 @@ use Rattle.std.specs.Prelude.{MatchOption}
 use Rattle.calculus_specs.specs.declared.facts.Fact.{Fact}
 use Rattle.tableau_specs.specs.Clash.{IsPlainClash}
 use Rattle.tableau_specs.specs.Steps.{below_of}
-use Rattle.completion_tree.specs.Trail.{facts_in, items_of}
+use Rattle.step_agenda.specs.Trail.{facts_in, items_of}
 use Rattle.step_finders.specs.declared.step.Step.{Step}
 use Rattle.step_finders.specs.Stepping.{NoStep, IsStep}
 use Rattle.search_state.proofs.Entries.{facts-items}

@@ -1,12 +1,12 @@
 use Rattle.std.proofs.Common.{◌≡◌, ◌≤◌, ◌+◌, ℕ, List, take, ap, refl, sym, subst, reverse, length, ◌∙◌, arith}
 use Rattle.std.proofs.lemmas.List.{length-reverse}
 use Rattle.calculus_specs.specs.State.{node_count_from}
-use Rattle.fact_tree.specs.Entries.{IsFit}
+use Rattle.step_agenda.specs.Entries.{IsFit}
 use Rattle.tableau_specs.specs.declared.Choice.{Choice}
 use Rattle.step_agenda.specs.Followed.{AreBlocksBelow}
-use Rattle.completion_tree.specs.declared.tree.By.{By}
-use Rattle.completion_tree.specs.declared.tree.Entry.{Entry}
-use Rattle.completion_tree.specs.Trail.{TreeEntries, facts_in}
+use Rattle.step_agenda.specs.By.{By}
+use Rattle.step_agenda.specs.Entry.{Entry}
+use Rattle.step_agenda.specs.Trail.{TreeEntries, facts_in}
 use Rattle.search_state.specs.Progress.{ProgressLists, HasMoved, IsLast}
 use Rattle.search_state.specs.Turning.{IsTurning}
 use Rattle.search_state.proofs.Choices.{with_choice}

@@ -1,6 +1,6 @@
 use Rattle.std.proofs.Common.{◌≡◌, ◌-◌, ℕ, List, [], arith, refl, subst, inl}
 use Rattle.lane_sieve.specs.Sets.{NumberSet}
-use Rattle.axiom_sets.specs.Sets.{Limited}
+use Rattle.pinpointing_specs.specs.Sets.{Limited}
 use Rattle.set_questions.specs.Asked.{Answers, IsUnknownIf, ShowsNoOther, Spends}
 use Rattle.set_questions.specs.Meaning.{Meaning}
 use Rattle.set_questions.specs.declared.entail.Reply.{Reply}

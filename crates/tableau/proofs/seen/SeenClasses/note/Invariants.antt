@@ -1,4 +1,4 @@
-use Rattle.completion_tree.specs.Trail.{items_of}
+use Rattle.search_state.specs.Trail.{items_of}
 use Rattle.tableau.specs.Seen.{gives_class, gives_complement}
 use Rattle.tableau.proofs.Noting.{IsNoting}
 use Rattle.tableau.proofs.seen.SeenClasses.note.Given as goal

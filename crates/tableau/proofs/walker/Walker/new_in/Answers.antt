@@ -1,5 +1,5 @@
 use Rattle.std.proofs.Common.{ℕ, [], ◌∷◌, sym, subst, ◌∙◌}
-use Rattle.completion_tree.specs.Trail.{TreeEntries, items_of}
+use Rattle.search_state.specs.Trail.{TreeEntries, items_of}
 use Rattle.tableau.specs.Seen.{AreOver, AreSeenIn}
 use Rattle.search_rules.specs.RuleLists.{context_in}
 use Rattle.search_state.specs.Progress.{IsAsked}
