@@ -23,7 +23,6 @@ pub use fault::{LineFault, clamped_line, first_unblank};
 pub use laws::{
     iris_are_read_back, lines_are_read_back, numbers_are_read_back, words_are_read_back,
 };
-use shq_terms::NoMemory;
 pub use shq_terms::{NoMemory, NumberList, Ontology};
 use std::alloc::Global;
 use std::str;

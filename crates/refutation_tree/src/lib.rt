@@ -18,8 +18,8 @@ mod refutation;
 mod rule_lines;
 mod writing;
 
-/// Why lines are not the text of a refutation, whose line `refutation` has the number 2.
 pub use axiom_sets::Deps;
+/// Why lines are not the text of a refutation, whose line `refutation` has the number 2.
 pub use certificate_lines::{LineFault as CertFault, NoMemory};
 pub use laws::{
     concepts_are_normal, malformed_line_is_the_first, refutations_are_read_back,
