@@ -27,7 +27,7 @@ use Rattle.shq_terms.specs.declared.axioms.Numbered.{Numbered}
 use Rattle.row_cache.specs.Numbers.{AreNumbers}
 use Rattle.row_cache.specs.Parts.{part_in}
 use Rattle.row_cache.specs.Theory.{parts_at, numbered_parts, named_parts, theory_of}
-use Rattle.row_cache.proofs.Numbered.{numbered}
+use Rattle.row_cache.proofs.NumberedParts.{numbered}
 use Rattle.row_cache.specs.Rows.{is_name_shape}
 use Rattle.row_cache.proofs.Places.{name_shaped}
 use Rattle.absorption.specs.Triggers.{name_positions, first_role, inclusion_trigger, trigger_for, premises_for}

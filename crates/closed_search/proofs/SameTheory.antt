@@ -25,7 +25,7 @@ use Rattle.refutation_truth.specs.RoleAxiom.{RoleAxiom}
 use Rattle.refutation_truth.specs.Steps.{is_transitive}
 use Rattle.refutation_truth.specs.Paths.{is_below}
 use Rattle.refutation_truth.specs.Theory.{parts_at, listed_fact, fact_in, question_in}
-use Rattle.refutation_truth.proofs.Numbered.{numbered}
+use Rattle.refutation_truth.proofs.NumberedParts.{numbered}
 use Rattle.calculus_specs.specs.Line.{Line}
 use Rattle.calculus_specs.specs.Line.Line.{start_line, and_line, or_line, all_line, carry_line, row_line, range_line}
 use Rattle.calculus_specs.specs.Line.Line.{some_line, least_line, choose_line, pair_line, bottom_line, clash_line}

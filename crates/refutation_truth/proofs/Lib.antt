@@ -1,4 +1,4 @@
-pub mod Numbered
+pub mod NumberedParts
 pub mod Below
 pub mod Models
 pub mod Fresh

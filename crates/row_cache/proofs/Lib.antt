@@ -4,7 +4,7 @@ pub mod Assembled
 pub mod Cache
 pub use Rattle.refutation_truth.proofs.Below
 pub use Rattle.refutation_truth.proofs.Models
-pub use Rattle.refutation_truth.proofs.Numbered
+pub use Rattle.refutation_truth.proofs.NumberedParts
 pub use Rattle.refutation_truth.proofs.Rows
 pub use Rattle.refutation_truth.proofs.Entailed
 pub use Rattle.refutation_truth.proofs.Implied

@@ -15,7 +15,7 @@ use Rattle.refutation_truth.specs.TheoryRows.{Part, is_among, part_at}
 use Rattle.refutation_truth.specs.Part.{Part as Kept}
 use Rattle.refutation_truth.specs.Parts.{StandsForPart, axiom_parts, axiom_has_counts_within, part_in}
 use Rattle.refutation_truth.specs.Theory.{theory_of, parts_in, parts_at}
-use Rattle.refutation_truth.proofs.Numbered.{numbered}
+use Rattle.refutation_truth.proofs.NumberedParts.{numbered}
 use Rattle.row_cache.specs.Rows.{AreInLimit, IsPartFound}
 
 -- ---- the numbers of a set

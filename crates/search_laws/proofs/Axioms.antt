@@ -34,7 +34,7 @@ use Rattle.refutation_truth.specs.Theory.{axioms_in, named_axioms, parts_in, par
 use Rattle.refutation_truth.specs.Theory.{fact_of_axiom}
 use Rattle.refutation_truth.proofs.Below.{all_from}
 use Rattle.refutation_truth.proofs.Lines.{MeetsTheory}
-use Rattle.refutation_truth.proofs.Numbered.{numbered}
+use Rattle.refutation_truth.proofs.NumberedParts.{numbered}
 use Rattle.refutation_truth.proofs.Asserted.{all_given}
 use Rattle.search_laws.specs.Theories.{MeetsFacts}
 use Rattle.search_laws.proofs.GivenFacts.{at_place}

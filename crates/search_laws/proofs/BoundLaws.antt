@@ -20,7 +20,7 @@ use Rattle.tableau_specs.specs.Reached.{context_of, IsReached}
 use Rattle.tableau_specs.proofs.Listed.{reached_listed}
 use Rattle.search_laws.specs.Closure.{IsClosure}
 use Rattle.search_laws.specs.BoundLaws.{FewStepsAtFirst, FewMarks}
-use Rattle.search_laws.proofs.Concepts.{concepts_in_closure}
+use Rattle.search_laws.proofs.ClosureConcepts.{concepts_in_closure}
 use Rattle.search_laws.proofs.Numbers.{numbers_of, is_number, few_numbers}
 use Rattle.search_laws.proofs.Rising.{is_has, AreIn, had, given_most, joined_most, parted_most}
 use Rattle.search_laws.proofs.Given.{so_count, so_most, counts_so, counts_all, numbered, given_among}

@@ -3,7 +3,7 @@ pub mod TrailFew
 pub mod Start
 pub mod Axioms
 pub mod TrailLaws
-pub mod Concepts
+pub mod ClosureConcepts
 pub mod Grown
 pub mod Sums
 pub mod Rising

@@ -15,7 +15,7 @@ use Rattle.ontology_limits.specs.Parts.{axiom_parts, part_in, disjoint_pair, dis
 use Rattle.ontology_limits.specs.Parts.{equivalent_parts}
 use Rattle.ontology_limits.specs.Parts.{union_parts}
 use Rattle.absorption.specs.Theory.{theory_of, parts_at, parts_in}
-use Rattle.absorption.proofs.Numbered.{numbered}
+use Rattle.absorption.proofs.NumberedParts.{numbered}
 use Rattle.absorption.specs.LineLaws.{RangesAreFirst}
 
 abbrev is_inclusion : Part → Bool

@@ -1,4 +1,4 @@
-use Rattle.refutation_truth.proofs.Numbered.{numbered}
+use Rattle.refutation_truth.proofs.NumberedParts.{numbered}
 use Rattle.refutation_truth.proofs.parts_are_numbered.Goals as goal
 
 pub returns : goal.returns
