@@ -19,8 +19,8 @@ use Rattle.shq_terms.specs.declared.axioms.Query.{Query}
 use Rattle.shq_meaning.specs.Truth.{Interpretation, meets, meets_all, refutes_at}
 use Rattle.shq_meaning.proofs.Members.{member_passes}
 use Rattle.finite_model.specs.ModelLists.{meaning}
-use Rattle.refutation_truth.specs.Theory.{axioms_in, named_axioms}
-use Rattle.refutation_truth.proofs.Entailed.{entailed}
+use Rattle.refutation_check.specs.Theory.{axioms_in, named_axioms}
+use Rattle.refutation_check.proofs.Entailed.{entailed}
 use Rattle.refutation_tree.specs.RefutationLists.{RefutationLists}
 use Rattle.refutation_check.specs.Verdicts.{IsValid}
 use Rattle.audit_file.specs.declared.entries.Repair.{Repair}

@@ -11,3 +11,4 @@ pub use Rattle.audit_file.specs.AuditLists
 pub use Rattle.audit_file.specs.Written
 pub use Rattle.audit_file.specs.declared.entries.Justification
 pub use Rattle.audit_file.specs.declared.entries.Repair
+pub use Rattle.refutation_check.specs.Limits

@@ -1,7 +1,7 @@
 // Whether what an audit lists is shown.
 ghost use Rattle.std.specs.Prelude.{◌≡◌, ◌<◌, ◌≤◌, ◌↔◌, IsTrue, IfOk, MatchOption, length};
 ghost use Rattle.std.specs.List.{All};
-ghost use Rattle.ontology_limits.specs.Limits.{IsInLimit};
+ghost use Rattle.refutation_check.specs.Limits.{IsInLimit};
 ghost use Rattle.finite_model.specs.ModelLists.{meaning};
 ghost use Rattle.audit_file.specs.AuditLists.{justified_sets};
 ghost use Rattle.audit_file.specs.Fitting.{IsOfAxioms};

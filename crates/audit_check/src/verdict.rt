@@ -1,7 +1,7 @@
 // The verdict on an audit.
 ghost use Rattle.std.specs.Prelude.{◌≡◌, ◌≤◌, ◌↔◌, IsTrue, IfOk, length};
 ghost use Rattle.std.specs.List.{All};
-ghost use Rattle.ontology_limits.specs.Limits.{IsInLimit};
+ghost use Rattle.refutation_check.specs.Limits.{IsInLimit};
 ghost use Rattle.axiom_sets.specs.Sets.{IsWithin};
 ghost use Rattle.audit_check.specs.Transversals.{AreTransversals};
 ghost use Rattle.audit_file.specs.AuditLists.{justified_sets, repaired_sets, IsOrdered};

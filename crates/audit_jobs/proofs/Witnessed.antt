@@ -17,11 +17,11 @@ use Rattle.pinpointing_jobs.specs.Open.{AsksFew}
 use Rattle.shq_terms.specs.Listed.{Listed}
 use Rattle.shq_terms.specs.NoMemory.{NoMemory}
 use Rattle.shq_terms.specs.declared.axioms.Query.{Query as Asked}
-use Rattle.run_log.specs.declared.entry.Entry.{Entry}
-use Rattle.run_log.specs.declared.entry.Entry.TheVariants.{Test}
-use Rattle.run_log.specs.declared.entry.TestEnd.TheVariants as E
-use Rattle.run_log.specs.Entries.{spent_of, nodes_of}
-use Rattle.run_log.specs.HonestLog.{IsHonestEntry, AreTreeNodes}
+use Rattle.decision_jobs.specs.Entry.{Entry}
+use Rattle.decision_jobs.specs.Entry.TheVariants.{Test}
+use Rattle.decision_jobs.specs.TestEnd.TheVariants as E
+use Rattle.decision_jobs.specs.Entries.{spent_of, nodes_of}
+use Rattle.decision_jobs.specs.HonestLog.{IsHonestEntry, AreTreeNodes}
 use Rattle.pinpointing_jobs.specs.OracleLists.{OracleLists}
 use Rattle.pinpointing_jobs.specs.AskerLists.{AskerLists, origin_of}
 use Rattle.pinpointing_jobs.specs.Told.{asker_meaning, IsAskerLog}

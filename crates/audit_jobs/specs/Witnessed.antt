@@ -10,10 +10,10 @@ use Rattle.pinpointing_jobs.specs.TreeFound.{Found}
 use Rattle.shq_terms.specs.Listed.{Listed}
 use Rattle.shq_terms.specs.declared.axioms.Query.{Query as Asked}
 use Rattle.refutation_tree.specs.RefutationLists.{RefutationLists}
-use Rattle.run_log.specs.declared.entry.Entry.{Entry}
-use Rattle.run_log.specs.Entries.{spent_of}
-use Rattle.run_log.specs.HonestLog.{IsJustificationSet, IsHonestWithin, AreTestsOf, AsksNoAnswer, AreTreeNodes}
-use Rattle.run_log.specs.HonestLog.{AsksFewPerNode}
+use Rattle.decision_jobs.specs.Entry.{Entry}
+use Rattle.decision_jobs.specs.Entries.{spent_of}
+use Rattle.decision_jobs.specs.HonestLog.{IsJustificationSet, IsHonestWithin, AreTestsOf, AsksNoAnswer, AreTreeNodes}
+use Rattle.decision_jobs.specs.HonestLog.{AsksFewPerNode}
 use Rattle.audit_jobs.specs.declared.evidence.CounterModel.{CounterModel}
 use Rattle.audit_jobs.specs.declared.searching.Searched.{Searched}
 use Rattle.audit_jobs.specs.Kept.{AreShown, HasRefutation}

@@ -1,6 +1,6 @@
 // From the question and the bytes of a document to the audit.
 ghost use Rattle.std.specs.Prelude.{◌≡◌, ◌≤◌, true, false, [], IfOk, IfErr, OnOk, OnErr, IsTrue, length};
-ghost use Rattle.ontology_limits.specs.Limits.{IsInLimit};
+ghost use Rattle.audit_check.specs.Limits.{IsInLimit};
 ghost use Rattle.job_inputs.specs.Answer.{text_bytes, is_fault};
 ghost use Rattle.job_inputs.specs.Questions.{follows};
 ghost use Rattle.job_inputs.specs.Refusals.{IsUnanswered};
@@ -11,9 +11,9 @@ ghost use Rattle.audit_jobs.specs.Answers.{IsAuditText, IsWritten, IsEvidenceAns
 use crate::listing::audit_of;
 use crate::searching::{Searched, search};
 use audit_check::Audit;
+use decision_jobs::RunLog;
 use job_inputs::{Status, Text, Unread, unread_reply};
 use pinpointing_jobs::{Input, read_input};
-use run_log::RunLog;
 use shq_terms::{NoMemory, Ontology, Query};
 use std::alloc::Global;
 

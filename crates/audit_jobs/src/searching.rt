@@ -1,13 +1,13 @@
 // The search for justifications and repairs, with the evidence of its tests.
 ghost use Rattle.std.specs.Prelude.{◌≡◌, [], IfOk, OnErr};
 ghost use Rattle.std.specs.Result.{result_map_both};
-ghost use Rattle.ontology_limits.specs.Limits.{IsInLimit};
+ghost use Rattle.audit_check.specs.Limits.{IsInLimit};
 ghost use Rattle.audit_jobs.specs.Witnessed.{IsSearched, HasAsked};
 
 use crate::evidence::Evidence;
 use crate::witness::Witness;
+use decision_jobs::RunLog;
 use pinpointing_jobs::{Found, Oracle, enumerate};
-use run_log::RunLog;
 use shq_terms::{NoMemory, Ontology, Query};
 use std::alloc::Global;
 use std::mem;

@@ -1,6 +1,6 @@
 // From the bytes of a document to the answer.
 ghost use Rattle.std.specs.Prelude.{◌≡◌, ◌≤◌, false, [], IfOk, IfErr, length};
-ghost use Rattle.ontology_limits.specs.Limits.{IsOntologyInLimit};
+ghost use Rattle.job_inputs.specs.Limits.{IsOntologyInLimit};
 ghost use Rattle.job_inputs.specs.Answer.{text_bytes, is_fault};
 ghost use Rattle.classification_jobs.specs.Classifications.{IsClassifying, AnswersClassification};
 ghost use Rattle.classification_jobs.specs.Answering.{IsAnswered, IsAnsweredOn, IsUnanswered};

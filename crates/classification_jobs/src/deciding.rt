@@ -1,6 +1,6 @@
 // The relation of the classes, and the text of their taxonomy.
 ghost use Rattle.std.specs.Prelude.{◌≡◌, [], IfOk, IfErr, length};
-ghost use Rattle.ontology_limits.specs.Limits.{IsOntologyInLimit};
+ghost use Rattle.job_inputs.specs.Limits.{IsOntologyInLimit};
 ghost use Rattle.classifier.specs.HonestLog.{IsClassificationLog};
 ghost use Rattle.classifier.specs.Rows.{holds};
 ghost use Rattle.classifier.specs.ClassificationClassified.{IsClassified};

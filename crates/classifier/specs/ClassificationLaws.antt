@@ -4,8 +4,8 @@ use Rattle.shq_terms.specs.Concept.{Concept}
 use Rattle.shq_terms.specs.Listed.{Listed}
 use Rattle.shq_terms.specs.declared.axioms.On.TheVariants.{Any}
 use Rattle.shq_meaning.specs.Truth.{Entails}
-use Rattle.refutation_truth.specs.Theory.{all_axioms}
-use Rattle.ontology_limits.specs.Limits.{IsOntologyInLimit, IsInLimit}
+use Rattle.subsumption.specs.Theory.{all_axioms}
+use Rattle.subsumption.specs.Limits.{IsOntologyInLimit, IsInLimit}
 use Rattle.subsumption.specs.Entry.{Entry}
 use Rattle.subsumption.specs.HonestLog.{IsClassificationLog}
 use Rattle.subsumption.specs.Shown.{IsRuledOut}

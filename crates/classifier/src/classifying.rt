@@ -1,6 +1,6 @@
 // The classification of an ontology.
 ghost use Rattle.std.specs.Prelude.{◌≡◌, [], IfOk, IfErr};
-ghost use Rattle.ontology_limits.specs.Limits.{IsOntologyInLimit};
+ghost use Rattle.subsumption.specs.Limits.{IsOntologyInLimit};
 ghost use Rattle.subsumption.specs.HonestLog.{IsClassificationLog};
 ghost use Rattle.subsumption.specs.LogEnds.{all_in_none, BeginsWith};
 ghost use Rattle.subsumption.specs.Excluded.{AsksNoExcluded};

@@ -8,4 +8,5 @@ pub mod Places
 pub mod Trees
 pub mod Names
 pub mod Made
+pub mod Among
 pub use Rattle.refutation_truth.proofs.Entailed

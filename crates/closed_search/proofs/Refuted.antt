@@ -20,7 +20,7 @@ use Rattle.calculus_specs.specs.Valid.{concept_at, IsRefutation}
 use Rattle.calculus_specs.proofs.Stack.{refutation_runs, run_refutes}
 use Rattle.refutation_truth.specs.Theory.{question_in}
 use Rattle.search_trace.specs.RefutationLists.{RefutationLists, IsKept}
-use Rattle.search_trace.specs.ReadBack.{has_nodes, is_small}
+use Rattle.search_trace.specs.ReadBack.{has_nodes, is_small, IsWritable}
 use Rattle.search_trace.specs.Written.{shape_is_listed, line_is_listed, names_are_listed}
 use Rattle.tableau_specs.specs.Lines.{concept_in}
 use Rattle.search_trace.specs.Noted.{NotedLine, start_of}
@@ -101,39 +101,37 @@ closed_refutes o query set table named ls r limit is names close =
 
 -- ---- names
 
-module _ (o : Listed) (set named : Limited) (table : List Shape) (trace : TraceLists) (lines : List Line)
-    (r : RefutationLists) (begins : lines ≡ start_line ∷ lines_in trace) (is : IsNumbered table named lines r)
-    (uses : list_all (uses_names o table) (lines_in trace) ≡ true) (is_table : IsTable table)
+module _ (o : Listed) (set named : Limited) (table : List Shape) (lines : List Line) (r : RefutationLists)
+    (is : IsNumbered table named lines r) (used : list_all (uses_names o table) lines ≡ true) (is_table : IsTable table)
     (kept : IsKept r.shapes r.lines) where
-  all_use : list_all (uses_names o table) lines ≡ true
-  all_use = ap (list_all (uses_names o table)) begins ∙ uses
-
   pub names_listed : names_are_listed o r ≡ true
   names_listed =
       and_from (list_all (shape_is_listed o) r.shapes) (list_all (line_is_listed o) r.lines)
       (shapes_listed o table r.shapes kept.are_shapes
-      (is.kinds (concept_is_listed o table) (have_parts o table is_table) (concepts_listed o table lines all_use)))
-      (ap (list_all (line_is_listed o)) is.lines_are ∙ lines_listed o table is.number' lines all_use)
+      (is.kinds (concept_is_listed o table) (have_parts o table is_table) (concepts_listed o table lines used)))
+      (ap (list_all (line_is_listed o)) is.lines_are ∙ lines_listed o table is.number' lines used)
+
+  pub writable : NamesAxioms o.axioms set r.lines r.axioms → IsWithin r.axioms.limit r.axioms.members
+      → r.axioms.limit < 2 ^ 32 → list_all is_small r.lines ≡ true → list_all has_nodes lines ≡ true → IsWritable o r
+  writable names within few small nodes = record {
+    kept = kept;
+    limit = names.limit;
+    within = within;
+    few_axioms = omega (arith, names.limit, few);
+    listed = names_listed;
+    have_nodes = ap (list_all has_nodes) is.lines_are ∙ have_nodes is.number' lines nodes;
+    are_small = small;
+  }
 
   pub written : set.limit ≡ length o.axioms → NamesAxioms o.axioms set r.lines r.axioms
       → IsWithin r.axioms.limit r.axioms.members → r.axioms.limit < 2 ^ 32 → list_all is_small r.lines ≡ true
-      → (query : Query)
+      → (trace : TraceLists) → lines ≡ start_line ∷ lines_in trace → (query : Query)
       → CloseAll o set table query trace.lines → IsWrittenRefutation o query r
-  written limit names within few small query close =
+  written limit names within few small trace begins query close =
       let asked = question_in o (member_list set) query in
       let plain = subst (λ (ls : List Line). IsNumbered table named ls r) begins is in
       let nodes = closing_has_nodes asked (concept_in table) trace.lines (start_of asked ∷ []) [] close.closes in
       record {
         refutes = closed_refutes o query set table named trace.lines r limit plain names close;
-        writable = record {
-          kept = kept;
-          limit = names.limit;
-          within = within;
-          few_axioms = omega (arith, names.limit, few);
-          listed = names_listed;
-          have_nodes =
-              ap (list_all has_nodes) is.lines_are
-              ∙ have_nodes is.number' lines (ap (list_all has_nodes) begins ∙ nodes);
-          are_small = small;
-        };
+        writable = writable names within few small (ap (list_all has_nodes) begins ∙ nodes);
       }

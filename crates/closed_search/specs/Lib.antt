@@ -1,4 +1,5 @@
 pub mod Named
+pub mod Shorter
 pub mod Refuted
 pub mod Numbers
 pub mod Naming
@@ -14,3 +15,5 @@ pub use Rattle.search_trace.specs.RefutationLists
 pub use Rattle.search_trace.specs.ReadBack
 pub use Rattle.search_trace.specs.RuleLine
 pub use Rattle.search_trace.specs.Written
+pub use Rattle.refutation_check.specs.Verdicts
+pub use Rattle.refutation_check.specs.declared.checking.Verdict

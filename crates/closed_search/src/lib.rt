@@ -7,13 +7,16 @@
 //! holds.
 #![tactic(auto)]
 
+mod copying;
 mod finished;
 mod naming;
 mod numbering;
 mod refuting;
+mod shortening;
 mod small;
 
 pub use finished::numbered_refutation;
+pub use refutation_check::{Verdict, check};
 pub use refuting::refutation_of;
 pub use search_trace::{Line, Refutation, Trace};
 pub use shq_terms::NoMemory;

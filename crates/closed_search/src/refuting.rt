@@ -1,24 +1,31 @@
 // From a trace that is closed to its refutation.
-ghost use Rattle.std.specs.Prelude.{◌≡◌, true, IsTrue, IfOk, length};
+ghost use Rattle.std.specs.Prelude.{◌≡◌, ◌∷◌, true, IsTrue, IfOk, length, map};
 ghost use Rattle.std.specs.List.{list_all};
-ghost use Rattle.shq_terms.specs.declared.axioms.Query.{Query};
+ghost use Rattle.shq_terms.specs.declared.axioms.Query.{Query as Asked};
 ghost use Rattle.lane_sieve.specs.Sets.{IsPart};
+ghost use Rattle.calculus_specs.specs.Line.Line.{start_line};
+ghost use Rattle.refutation_check.specs.Limits.{IsInLimit};
 ghost use Rattle.search_trace.specs.Written.{names_are_listed};
 ghost use Rattle.closed_search.specs.Finished.{are_over};
-ghost use Rattle.search_trace.specs.Trace.{lines_in};
+ghost use Rattle.search_trace.specs.RuleLine.{line_of};
+ghost use Rattle.search_trace.specs.Trace.{TraceLists, lines_in};
 ghost use Rattle.closed_search.specs.Named.{NamesAxioms};
 ghost use Rattle.closed_search.specs.Refuted.{uses_names, CloseAll, IsWrittenRefutation};
 
+use crate::copying::copies;
 use crate::naming::axioms_named;
+use crate::shortening::shorter;
 use crate::small::show_small;
 use crate::{NoMemory, Refutation, Trace, numbered_refutation};
 use axiom_sets::AxiomSet;
 use refutation_truth::Concepts;
-use shq_terms::Ontology;
+use search_trace::Line;
+use shq_terms::{Ontology, Query};
 use std::alloc::Global;
 
-/// The refutation of the lines of a search over a set of axioms, where these close everything. It names the role axioms
-/// of the set, and the others that stand in its lines. The concepts of the lines are numbers of the table.
+/// A refutation of the query by lines of a search over a set of axioms, where these close everything: by those on which
+/// the ends of the branches rest, or by all. It names the role axioms of the set, and the others that stand in its
+/// lines. The concepts of the lines are numbers of the table.
 ///
 /// # Errors
 ///
@@ -28,19 +35,46 @@ pub fn refutation_of(
     trace: Trace,
     ontology: &Ontology,
     set: &AxiomSet,
+    query: &Query,
     concepts: &Concepts,
 ) -> Result<Refutation, NoMemory>
     requires set { set.now.limit ≡ length ontology.now.axioms }
+    requires in_limit { IsInLimit ontology.now query.now }
     requires over { are_over (length concepts.now) (lines_in trace) ≡ true }
     requires listed { list_all (uses_names ontology.now concepts.now) (lines_in trace) ≡ true }
     ensures axioms { IfOk result (λ r. NamesAxioms ontology.now.axioms set.now r.lines r.axioms) }
     ensures part { IfOk result (λ r. IsPart r.axioms.members set.now.members) }
     ensures listed { IfOk result (λ r. IsTrue (names_are_listed ontology.now r)) }
-    ensures refutes { IfOk result (λ r. (query : Query) → CloseAll ontology.now set.now concepts.now query trace.lines
+    ensures refutes { IfOk result (λ r. CloseAll ontology.now set.now concepts.now query.now trace.lines
+        → IsWrittenRefutation ontology.now query.now r) }
+{
+    let lines = trace.into_lines(alloc)?;
+    let whole = whole(alloc, copies(alloc, &lines)?, ontology, set, concepts)?;
+    match shorter(alloc, &lines, ontology, set, query, concepts, &whole)? {
+        Some(found) => Ok(found),
+        None => Ok(whole),
+    }
+}
+
+// The refutation of all lines of a trace.
+fn whole(
+    alloc: Global,
+    lines: Vec<Line>,
+    ontology: &Ontology,
+    set: &AxiomSet,
+    concepts: &Concepts,
+) -> Result<Refutation, NoMemory>
+    requires set { set.now.limit ≡ length ontology.now.axioms }
+    requires over { are_over (length concepts.now) (map line_of lines.items) ≡ true }
+    requires listed { list_all (uses_names ontology.now concepts.now) (map line_of lines.items) ≡ true }
+    ensures axioms { IfOk result (λ r. NamesAxioms ontology.now.axioms set.now r.lines r.axioms) }
+    ensures part { IfOk result (λ r. IsPart r.axioms.members set.now.members) }
+    ensures listed { IfOk result (λ r. IsTrue (names_are_listed ontology.now r)) }
+    ensures refutes { IfOk result (λ r. (trace : TraceLists) → map line_of lines.items ≡ start_line ∷ lines_in trace
+        → (query : Asked) → CloseAll ontology.now set.now concepts.now query trace.lines
         → IsWrittenRefutation ontology.now query r) }
 {
     let _ = concepts.len();
-    let lines = trace.into_lines(alloc)?;
     let named = axioms_named(alloc, ontology, set, &lines)?;
     let refutation = numbered_refutation(alloc, named, concepts, lines)?;
     let _ = refutation.shape_count();

@@ -3,7 +3,7 @@ use Rattle.std.proofs.Common.{◌≡◌, ℕ, List, drop, Result, Ok, Err, sym, 
 use Rattle.std.specs.Prelude.{IfOk}
 use Rattle.std.specs.Result.{result_map_both}
 use Rattle.shq_terms.specs.Listed.{Listed}
-use Rattle.refutation_check.specs.Limits.{IsInLimit}
+use Rattle.shq_oracle.specs.Limits.{IsInLimit}
 use Rattle.ofn_reader.specs.DocumentContext.{DocumentContext}
 use Rattle.ofn_reader.specs.Documents.{IsDocument}
 use Rattle.job_inputs.proofs.InLimit.{queries_in_limit}

@@ -11,3 +11,4 @@ pub mod Least
 pub mod Accepted
 pub mod Answered
 pub mod Exclusive
+pub use Rattle.shq_oracle.proofs.Named

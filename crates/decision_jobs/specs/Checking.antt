@@ -5,13 +5,13 @@ use Rattle.shq_terms.specs.declared.axioms.Numbered.{Numbered}
 use Rattle.shq_terms.specs.declared.axioms.Query.{Query as Asked}
 use Rattle.shq_meaning.specs.Truth.{Interpretation, PlacesIndividuals, meets, refutes_at}
 use Rattle.shq_meaning.specs.Least.{IsFirstBelow}
-use Rattle.refutation_check.specs.Limits.{IsInLimit}
-use Rattle.finite_model.specs.ModelLists.{ModelLists as Model, meaning}
+use Rattle.shq_oracle.specs.Limits.{IsInLimit}
+use Rattle.shq_oracle.specs.ModelLists.{ModelLists as Model, meaning}
 use Rattle.calculus_specs.specs.Valid.{concept_at, IsBrokenAt, IsRefutation}
 use Rattle.refutation_tree.specs.RefutationLists.{RefutationLists as Refutation}
-use Rattle.refutation_check.specs.Verdicts.{named_question}
-use Rattle.refutation_check.specs.declared.checking.Verdict.{Verdict as CheckerVerdict}
-use Rattle.refutation_check.specs.declared.checking.Verdict.TheVariants.{Accepted, Rejected}
+use Rattle.shq_oracle.specs.Verdicts.{named_question}
+use Rattle.shq_oracle.specs.Verdict.{Verdict as CheckerVerdict}
+use Rattle.shq_oracle.specs.Verdict.TheVariants.{Accepted, Rejected}
 use Rattle.ofn_expressions.specs.Counts.{Counts}
 use Rattle.ofn_expressions.specs.declared.refusal.Refusal.{Refusal}
 use Rattle.ofn_reader.specs.DocumentContext.{DocumentContext}

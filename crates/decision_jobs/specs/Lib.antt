@@ -9,4 +9,9 @@ pub mod Answering
 pub mod Laws
 pub use Rattle.shq_oracle.specs.Decided
 pub use Rattle.shq_oracle.specs.declared.answer.Answer
-pub use Rattle.refutation_check.specs.Verdicts
+pub use Rattle.shq_oracle.specs.Verdicts
+pub use Rattle.shq_oracle.specs.Entries
+pub use Rattle.shq_oracle.specs.Theory
+pub use Rattle.shq_oracle.specs.Entry
+pub use Rattle.shq_oracle.specs.TestEnd
+pub use Rattle.shq_oracle.specs.HonestLog

@@ -1,6 +1,6 @@
 // From the question and the bytes of a document to the answer.
 ghost use Rattle.std.specs.Prelude.{◌≡◌, ℕ, ◌≤◌, false, List, [], IfOk, IfErr, OnErr, length};
-ghost use Rattle.ontology_limits.specs.Limits.{IsInLimit};
+ghost use Rattle.job_inputs.specs.Limits.{IsInLimit};
 ghost use Rattle.job_inputs.specs.Answer.{text_bytes, is_fault};
 ghost use Rattle.job_inputs.specs.Questions.{question_text, IsDocumentAlone};
 ghost use Rattle.shq_oracle.specs.HonestLog.{IsDecisionLog};

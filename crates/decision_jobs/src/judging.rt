@@ -1,18 +1,17 @@
 // The verdict on a certificate.
 ghost use Rattle.std.specs.Prelude.{◌≡◌, ◌≤◌, IfOk, length};
-ghost use Rattle.refutation_check.specs.Limits.{IsInLimit};
+ghost use Rattle.shq_oracle.specs.Limits.{IsInLimit};
 ghost use Rattle.refutation_tree.specs.ReadBack.{IsWritable};
-ghost use Rattle.finite_model.specs.ModelLists.{meaning};
+ghost use Rattle.shq_oracle.specs.ModelLists.{meaning};
 ghost use Rattle.decision_jobs.specs.Checking.{CanBeJudged, IsVerdict, IsOfModel, IsOfRefutation, first_unmet};
 ghost use Rattle.decision_jobs.specs.Checking.{line_of_place, verdict_of};
 
 use crate::certificate::Certificate;
 use crate::checking::Input;
 use axiom_sets::AxiomSet;
-use finite_model::Interp;
 use job_inputs::Verdict;
-use refutation_check::check;
 use refutation_tree::Refutation;
+use shq_oracle::{Interp, check};
 use shq_terms::{NoMemory, Ontology, Query};
 use std::alloc::Global;
 
@@ -76,14 +75,12 @@ fn judge_refutation(
 }
 
 // The verdict on a certificate that is a refutation, from the checker's.
-fn verdict_of(refutation: &Refutation, verdict: refutation_check::Verdict) -> Verdict
+fn verdict_of(refutation: &Refutation, verdict: shq_oracle::Verdict) -> Verdict
     ensures { result ≡ verdict_of refutation.now verdict }
 {
     match verdict {
-        refutation_check::Verdict::Accepted => Verdict::Entailed,
-        refutation_check::Verdict::Rejected(place) => {
-            Verdict::Line(line_of_place(refutation, place))
-        }
+        shq_oracle::Verdict::Accepted => Verdict::Entailed,
+        shq_oracle::Verdict::Rejected(place) => { Verdict::Line(line_of_place(refutation, place)) }
     }
 }
 

@@ -20,5 +20,6 @@ mod verifying;
 pub use answering::answer;
 pub use certificate::Certificate;
 pub use laws::{a_no_does_not_follow, a_yes_follows, verdicts_exclude_each_other};
+pub use shq_oracle::RunLog;
 pub use verdict_laws::{malformed_line_is_the_first, verdicts_are_true};
 pub use verifying::verify;

@@ -11,7 +11,7 @@ use Rattle.axiom_sets.specs.Sets.{Limited}
 use Rattle.shq_terms.specs.Listed.{Listed}
 use Rattle.shq_terms.specs.declared.axioms.Numbered.{Numbered}
 use Rattle.shq_terms.specs.declared.axioms.Query.{Query}
-use Rattle.ontology_limits.specs.Limits.{IsInLimit}
+use Rattle.job_inputs.specs.Limits.{IsInLimit}
 use Rattle.shq_oracle.specs.Entry.{Entry}
 use Rattle.shq_oracle.specs.Entry.TheVariants.{Test}
 use Rattle.shq_oracle.specs.TestEnd.{TestEnd}

@@ -6,7 +6,7 @@ use Rattle.shq_terms.specs.Listed.{Listed}
 use Rattle.shq_terms.specs.Uses.{all_use_listed}
 use Rattle.shq_terms.specs.declared.axioms.Numbered.{Numbered}
 use Rattle.shq_terms.specs.declared.axioms.Query.{Query}
-use Rattle.ontology_limits.specs.Limits.{IsOntologyInLimit, IsInLimit}
+use Rattle.job_inputs.specs.Limits.{IsOntologyInLimit, IsInLimit}
 use Rattle.ofn_reader.specs.DocumentContext.{DocumentContext}
 use Rattle.ofn_reader.specs.Queries.{IsQueryOn}
 use Rattle.ofn_reader.specs.Additions.{IsAdditionTo}

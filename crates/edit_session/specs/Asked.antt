@@ -3,7 +3,7 @@ use Rattle.std.specs.Prelude.{◌≡◌, ◌≢◌, ℕ, List, length}
 use Rattle.axiom_sets.specs.Sets.{Limited}
 use Rattle.shq_terms.specs.Listed.{Listed, with_names_cut}
 use Rattle.shq_terms.specs.declared.axioms.Query.{Query}
-use Rattle.ontology_limits.specs.Limits.{IsInLimit}
+use Rattle.job_inputs.specs.Limits.{IsInLimit}
 use Rattle.ofn_expressions.specs.declared.refusal.Refusal.{Refusal}
 use Rattle.ofn_expressions.specs.declared.refusal.Refusal.TheVariants.{NoMemory}
 use Rattle.ofn_reader.specs.DocumentContext.{DocumentContext}

@@ -4,7 +4,7 @@ use Rattle.std.specs.FinSet as set
 use Rattle.lane_sieve.specs.Sets.{NumberSet}
 use Rattle.axiom_sets.specs.Sets.{Limited, IsWithin}
 use Rattle.shq_terms.specs.Listed.{Listed}
-use Rattle.ontology_limits.specs.Limits.{IsOntologyInLimit}
+use Rattle.job_inputs.specs.Limits.{IsOntologyInLimit}
 use Rattle.ofn_expressions.specs.declared.refusal.Refusal.{Refusal}
 use Rattle.shq_oracle.specs.declared.answer.Outcome.{Outcome}
 use Rattle.shq_oracle.specs.declared.answer.Outcome.TheVariants.{Yes, No, Undecided}

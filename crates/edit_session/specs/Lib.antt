@@ -19,3 +19,7 @@ pub mod Answering
 pub mod Laws
 pub mod LineExamples
 pub mod LogExamples
+pub use Rattle.shq_oracle.specs.Entry
+pub use Rattle.shq_oracle.specs.Entries
+pub use Rattle.shq_oracle.specs.TestEnd
+pub use Rattle.shq_oracle.specs.HonestLog

@@ -10,7 +10,7 @@ use Rattle.std.specs.Prelude.{◌≡◌, ℕ, Bool, List, [], ◌∷◌, ◌++�
 use Rattle.axiom_sets.specs.Sets.{Limited}
 use Rattle.shq_terms.specs.Listed.{Listed}
 use Rattle.shq_terms.specs.declared.axioms.Query.{Query}
-use Rattle.ontology_limits.specs.Limits.{IsInLimit}
+use Rattle.job_inputs.specs.Limits.{IsInLimit}
 use Rattle.shq_oracle.specs.Entry.{Entry}
 use Rattle.shq_oracle.specs.Entry.TheVariants.{Test, Node}
 use Rattle.shq_oracle.specs.TestEnd.{TestEnd}

@@ -1,7 +1,7 @@
 // From a document with a script behind it to the answers.
 ghost use Rattle.std.specs.Prelude.{◌≡◌, ◌≤◌, false, [], IfOk, IfErr, OnErr, length};
 ghost use Rattle.certificate_lines.specs.Lines.{lines};
-ghost use Rattle.ontology_limits.specs.Limits.{IsOntologyInLimit};
+ghost use Rattle.job_inputs.specs.Limits.{IsOntologyInLimit};
 ghost use Rattle.job_inputs.specs.Answer.{text_bytes, is_fault};
 ghost use Rattle.edit_session.specs.Sessions.{begun};
 ghost use Rattle.edit_session.specs.SessionLog.{IsSessionLog};

@@ -1,7 +1,7 @@
 // Queries, read and answered.
 ghost use Rattle.std.specs.Prelude.{◌≡◌, ◌≤◌, false, IfOk, IfErr, OnErr, length};
 ghost use Rattle.std.specs.List.{list_any};
-ghost use Rattle.ontology_limits.specs.Limits.{IsOntologyInLimit, IsInLimit};
+ghost use Rattle.job_inputs.specs.Limits.{IsOntologyInLimit, IsInLimit};
 ghost use Rattle.shq_oracle.specs.Entries.{spent_of, is_spent, IsAnswered};
 ghost use Rattle.edit_session.specs.Places.{IsNotedOf, plain_noted};
 ghost use Rattle.edit_session.specs.Asking.{IsDecided, GrowsLog};

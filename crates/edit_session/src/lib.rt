@@ -33,4 +33,5 @@ pub use laws::{answers_are_from_scratch, entries_stay_honest, new_sessions_may_g
 pub use said::Said;
 pub use script::run_script;
 pub use session::Session;
+pub use shq_oracle::RunLog;
 pub use shq_terms::NoMemory;

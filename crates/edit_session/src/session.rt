@@ -1,6 +1,6 @@
 // An edit session.
 ghost use Rattle.std.specs.Prelude.{◌≡◌, ◌≤◌, Ok, IfOk, OnErr, option_map};
-ghost use Rattle.ontology_limits.specs.Limits.{IsOntologyInLimit};
+ghost use Rattle.job_inputs.specs.Limits.{IsOntologyInLimit};
 ghost use Rattle.shq_oracle.specs.Entries.{spent_of};
 ghost use Rattle.job_inputs.specs.Answer.{text_bytes};
 ghost use Rattle.edit_session.specs.Noted.{nothing_noted};

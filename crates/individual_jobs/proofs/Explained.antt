@@ -17,7 +17,7 @@ use Rattle.shq_terms.specs.Concept.{Concept}
 use Rattle.shq_terms.specs.Listed.{Listed}
 use Rattle.shq_terms.specs.declared.axioms.Query.{Query}
 use Rattle.pinpointing_specs.specs.LocalModule.{IsLocalModule}
-use Rattle.ontology_limits.specs.Limits.{IsInLimit}
+use Rattle.job_inputs.specs.Limits.{IsInLimit}
 use Rattle.realizer.specs.Entry.{Entry}
 use Rattle.realizer.specs.Entries.{cost_of, spent_of, is_spent}
 use Rattle.realizer.specs.HonestLog.{IsHonestEntry, IsPinpointingLog}

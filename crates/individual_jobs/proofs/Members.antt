@@ -17,7 +17,7 @@ use Rattle.shq_terms.specs.Listed.{Listed}
 use Rattle.shq_terms.specs.declared.axioms.Axiom.{Axiom}
 use Rattle.shq_terms.specs.declared.axioms.Query.{Query}
 use Rattle.shq_meaning.specs.Truth.{Entails}
-use Rattle.refutation_truth.specs.Theory.{all_axioms}
+use Rattle.realizer.specs.Theory.{all_axioms}
 use Rattle.realizer.specs.HonestLog.{IsWhole, IsJustificationSet}
 use Rattle.realizer.proofs.Named.{axioms_are, whole_is_set, whole}
 

@@ -1,6 +1,6 @@
 // From the question and the bytes of a document to the reasons.
 ghost use Rattle.std.specs.Prelude.{◌≡◌, ◌≤◌, [], true, false, IfOk, IfErr, OnErr, length};
-ghost use Rattle.ontology_limits.specs.Limits.{IsInLimit};
+ghost use Rattle.job_inputs.specs.Limits.{IsInLimit};
 ghost use Rattle.job_inputs.specs.Answer.{text_bytes, is_fault};
 ghost use Rattle.job_inputs.specs.Questions.{has_element};
 ghost use Rattle.job_inputs.specs.Refusals.{IsUnanswered};

@@ -4,7 +4,7 @@ ghost use Rattle.shq_terms.specs.Concept.{top};
 ghost use Rattle.individual_jobs.specs.Searching.{instance_queries, IsModuleOfEach};
 
 use axiom_sets::AxiomSet;
-use module_extract::module;
+use pinpointing_jobs::module;
 use shq_terms::{Concept, NoMemory, Node, On, Ontology, Query};
 use std::alloc::Global;
 

@@ -1,7 +1,7 @@
 // From the bytes of a document to the types of its individuals.
 ghost use Rattle.std.specs.Prelude.{◌≡◌, ◌≤◌, false, [], IsTrue, IfOk, IfErr, OnOk, length};
 ghost use Rattle.std.specs.List.{list_any};
-ghost use Rattle.ontology_limits.specs.Limits.{IsOntologyInLimit};
+ghost use Rattle.job_inputs.specs.Limits.{IsOntologyInLimit};
 ghost use Rattle.realizer.specs.Entries.{is_spent};
 ghost use Rattle.realizer.specs.Stops.{IsStop};
 ghost use Rattle.realizer.specs.Listing.{is_listed};

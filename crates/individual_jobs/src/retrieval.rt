@@ -1,7 +1,7 @@
 // From the text of a class expression and the bytes of a document to the individuals that are in it.
 ghost use Rattle.std.specs.Prelude.{◌≡◌, ◌≤◌, false, [], IsTrue, IfOk, IfErr, OnOk, length};
 ghost use Rattle.std.specs.List.{list_any};
-ghost use Rattle.ontology_limits.specs.Limits.{IsInLimit};
+ghost use Rattle.job_inputs.specs.Limits.{IsInLimit};
 ghost use Rattle.realizer.specs.Entries.{is_spent};
 ghost use Rattle.realizer.specs.Stops.{IsStop};
 ghost use Rattle.realizer.specs.ClassNames.{are_listed};

@@ -1,7 +1,7 @@
 // The searches for the justifications of all individuals.
 ghost use Rattle.std.specs.Prelude.{◌≡◌, ◌+◌, ◌<◌, [], ◌++◌, length, IfOk, OnOk, OnErr};
 ghost use Rattle.std.specs.Result.{result_map_both};
-ghost use Rattle.ontology_limits.specs.Limits.{IsInLimit};
+ghost use Rattle.job_inputs.specs.Limits.{IsInLimit};
 ghost use Rattle.pinpointing_specs.specs.LocalModule.{IsLocalModule};
 ghost use Rattle.realizer.specs.Instances.{instance_query};
 ghost use Rattle.individual_jobs.specs.Searching.{instance_queries, AreInLimit, IsModuleOfEach, reasons_by};

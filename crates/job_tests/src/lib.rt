@@ -20,6 +20,8 @@ mod realization_tests;
 #[cfg(test)]
 mod reason_tests;
 #[cfg(test)]
+mod refuting_tests;
+#[cfg(test)]
 mod relation;
 #[cfg(test)]
 mod session_calls;

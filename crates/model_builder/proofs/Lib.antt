@@ -10,3 +10,5 @@ pub mod Gained
 pub mod NoChains
 pub mod Walked
 pub mod Ends
+pub use Rattle.finite_model.proofs.FirstLine
+pub use Rattle.finite_model.proofs.TextBack

@@ -9,3 +9,6 @@ pub use Rattle.blocking.specs.Trail
 pub use Rattle.search_laws.specs.Limits
 pub use Rattle.finite_model.specs.ModelLists
 pub use Rattle.finite_model.specs.Written
+pub use Rattle.finite_model.specs.ModelText
+pub use Rattle.finite_model.specs.Malformed
+pub use Rattle.finite_model.specs.ReadBack

@@ -7,7 +7,7 @@ use Rattle.shq_terms.specs.declared.axioms.Axiom.{Axiom as SomeAxiom}
 use Rattle.shq_terms.specs.declared.axioms.Query.{Query as Asked}
 use Rattle.shq_meaning.specs.Truth.{Entails}
 use Rattle.audit_jobs.proofs.Truth.{followed, not_followed}
-use Rattle.run_log.specs.declared.entry.Entry.{Entry}
+use Rattle.edit_session.specs.Entry.{Entry}
 use Rattle.audit_jobs.specs.Audited.{IsAuditEnd, IsJudgedOn, end_answer}
 use Rattle.audit_jobs.specs.AuditVerdict.{AuditVerdict}
 use Rattle.audit_jobs.specs.AuditVerdict.TheVariants as A

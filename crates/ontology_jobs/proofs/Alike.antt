@@ -3,7 +3,7 @@ use Rattle.std.proofs.Common.{◌≡◌, ◌⊎◌, ℕ, ◌<◌, ◌≤◌, ◌
 use Rattle.std.proofs.Common.{refl, ap, sym, ◌∙◌, subst, arith}
 use Rattle.ofn_reader.proofs.Unique.{documents_not_refused}
 use Rattle.ofn_reader.proofs.OneReason.{document_refusals}
-use Rattle.run_log.specs.declared.entry.Entry.{Entry}
+use Rattle.edit_session.specs.Entry.{Entry}
 use Rattle.classification_jobs.specs.Answer.{Answer}
 use Rattle.classification_jobs.specs.Asked.{Reply, refused_document}
 use Rattle.classification_jobs.specs.Questions.{has_element, follows, IsRefusedQuestion}

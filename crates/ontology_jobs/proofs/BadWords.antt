@@ -1,7 +1,7 @@
 -- Bad words are answered to the words of no job alone.
 use Rattle.std.proofs.Common.{◌≡◌, ℕ, List, [], Bool, true, false, Option, Some, None, MatchOption, inl, inr, refl, ap}
 use Rattle.std.proofs.Common.{sym, ◌∙◌}
-use Rattle.run_log.specs.declared.entry.Entry.{Entry}
+use Rattle.edit_session.specs.Entry.{Entry}
 use Rattle.classification_jobs.specs.Answer.{Answer}
 use Rattle.classification_jobs.specs.Asked.{Reply}
 use Rattle.classification_jobs.specs.Status.{Status}

@@ -6,8 +6,8 @@ use Rattle.shq_terms.specs.Listed.{Listed}
 use Rattle.shq_terms.specs.declared.axioms.Query.{Query as Asked}
 use Rattle.ofn_reader.specs.Queries.{query_start}
 use Rattle.ofn_reader.proofs.Unique.{documents, documents_not_refused, queries_not_refused}
-use Rattle.run_log.specs.declared.entry.Entry.{Entry}
-use Rattle.run_log.specs.Entries.{spent_of, is_spent}
+use Rattle.edit_session.specs.Entry.{Entry}
+use Rattle.edit_session.specs.Entries.{spent_of, is_spent}
 use Rattle.audit_jobs.specs.Audited.{Audited, IsAuditEnd, end_answer}
 use Rattle.audit_jobs.specs.AuditVerdict.{AuditVerdict}
 use Rattle.audit_jobs.specs.AuditVerdict.TheVariants as A

@@ -7,8 +7,8 @@ use Rattle.shq_terms.specs.Listed.{Listed}
 use Rattle.shq_terms.specs.declared.axioms.Query.{Query as Asked}
 use Rattle.ofn_reader.specs.DocumentContext.{DocumentContext}
 use Rattle.ofn_expressions.specs.declared.refusal.Refusal.{Refusal}
-use Rattle.run_log.specs.declared.entry.Entry.{Entry}
-use Rattle.run_log.specs.Entries.{spent_of, is_spent}
+use Rattle.edit_session.specs.Entry.{Entry}
+use Rattle.edit_session.specs.Entries.{spent_of, is_spent}
 use Rattle.audit_jobs.specs.Answer.{Answer as Decision}
 use Rattle.audit_jobs.specs.Answer.TheVariants as Answered
 use Rattle.audit_jobs.specs.Decisions.{decision_status, IsDecided, AnswersQuestion}
@@ -26,7 +26,7 @@ use Rattle.classification_jobs.specs.Status.TheVariants.{WriteFault, Undecided, 
 use Rattle.audit_jobs.specs.Answers.{IsEvidenced}
 use Rattle.audit_jobs.specs.Witnessed.{IsEvidenceLog}
 use Rattle.audit_jobs.specs.PinpointingAnswers.{IsPinpointed, IsMeasured, AnswersWorkload}
-use Rattle.run_log.specs.HonestLog.{IsPinpointingLog}
+use Rattle.edit_session.specs.HonestLog.{IsPinpointingLog}
 use Rattle.audit_jobs.specs.Memory.{UnlessNoMemory}
 use Rattle.audit_jobs.specs.Listings.{end_status}
 use Rattle.audit_jobs.specs.Wanted.{Wanted}

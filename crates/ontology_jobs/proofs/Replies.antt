@@ -7,7 +7,7 @@ use Rattle.std.proofs.lemmas.Bool.Decides.{nat_tests}
 use Rattle.shq_io.specs.Causes.{TakesOut, TakesPrefix}
 use Rattle.shq_io.specs.declared.whole.ReadEnd.{ReadEnd}
 use Rattle.shq_io.specs.declared.whole.ReadEnd.TheVariants as E
-use Rattle.run_log.specs.declared.entry.Entry.{Entry}
+use Rattle.edit_session.specs.Entry.{Entry}
 use Rattle.classification_jobs.specs.Answer.{Answer, IsAnswer, is_fault}
 use Rattle.classification_jobs.specs.Status.{Status}
 use Rattle.classification_jobs.specs.Status.TheVariants.{Done, Rejected, BadWords, BadText, Outside, Limit, ReadFault}

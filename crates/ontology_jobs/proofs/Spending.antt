@@ -7,11 +7,11 @@ use Rattle.std.proofs.lemmas.List.Folds.{list_any-append}
 use Rattle.axiom_sets.specs.Sets.{Limited}
 use Rattle.shq_terms.specs.Listed.{Listed}
 use Rattle.shq_terms.specs.declared.axioms.Query.{Query as Asked}
-use Rattle.run_log.specs.declared.entry.Entry.{Entry}
-use Rattle.run_log.specs.declared.entry.Entry.TheVariants.{Test}
-use Rattle.run_log.specs.declared.entry.TestEnd.{TestEnd}
-use Rattle.run_log.specs.declared.entry.TestEnd.TheVariants as E
-use Rattle.run_log.specs.Entries.{spent_of, is_spent, ended_spent}
+use Rattle.edit_session.specs.Entry.{Entry}
+use Rattle.edit_session.specs.Entry.TheVariants.{Test}
+use Rattle.edit_session.specs.TestEnd.{TestEnd}
+use Rattle.edit_session.specs.TestEnd.TheVariants as E
+use Rattle.edit_session.specs.Entries.{spent_of, is_spent, ended_spent}
 use Rattle.audit_jobs.specs.Answer.{Answer as Decision}
 use Rattle.audit_jobs.specs.Answer.TheVariants as Answered
 use Rattle.audit_jobs.specs.Decided.{Matches}

@@ -9,7 +9,7 @@ use Rattle.classification_jobs.specs.Answer.{line, no_memory, Answer, IsAnswer}
 use Rattle.classification_jobs.specs.Refusals.{IsOutOfMemory}
 use Rattle.classification_jobs.specs.Status.{Status}
 use Rattle.classification_jobs.specs.Status.TheVariants.{BadWords, Limit, ReadFault, WriteFault, NoMemory}
-use Rattle.run_log.specs.declared.entry.Entry.{Entry}
+use Rattle.edit_session.specs.Entry.{Entry}
 use Rattle.audit_jobs.specs.Checked.{Checked}
 use Rattle.audit_jobs.specs.Decisions.{AnswersQuestion}
 use Rattle.classification_jobs.specs.Classifications.{AnswersClassification}

@@ -6,8 +6,8 @@ use Rattle.shq_terms.specs.declared.axioms.Query.{Query as Asked}
 use Rattle.ofn_expressions.specs.Counts.{Counts}
 use Rattle.ofn_reader.specs.DocumentContext.{DocumentContext}
 use Rattle.ofn_reader.specs.Documents.{IsDocument}
-use Rattle.run_log.specs.declared.entry.Entry.{Entry}
-use Rattle.run_log.specs.Entries.{spent_of, is_spent}
+use Rattle.edit_session.specs.Entry.{Entry}
+use Rattle.edit_session.specs.Entries.{spent_of, is_spent}
 use Rattle.classification_jobs.specs.Asked.{IsAsked}
 use Rattle.classification_jobs.specs.Questions.{has_element, follows, IsDocumentAlone, IsQuestion}
 use Rattle.classification_jobs.specs.Status.{Status}

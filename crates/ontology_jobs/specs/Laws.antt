@@ -8,8 +8,8 @@ use Rattle.shq_meaning.specs.Truth.{Entails}
 use Rattle.ofn_expressions.specs.Counts.{Counts}
 use Rattle.ofn_reader.specs.DocumentContext.{DocumentContext}
 use Rattle.ofn_reader.specs.Documents.{IsDocument}
-use Rattle.run_log.specs.declared.entry.Entry.{Entry}
-use Rattle.run_log.specs.Entries.{spent_of}
+use Rattle.edit_session.specs.Entry.{Entry}
+use Rattle.edit_session.specs.Entries.{spent_of}
 use Rattle.ontology_jobs.specs.Words.{Job, check, audit, decide, classify, realize, instances, reasons, session}
 use Rattle.ontology_jobs.specs.Words.{pinpoint, evidence, Request, on_input, generated, request_of}
 use Rattle.audit_jobs.specs.AuditLists.{AuditLists}

@@ -3,4 +3,4 @@ pub mod Answers
 pub mod Laws
 pub mod Complete
 pub use Rattle.classification_jobs.specs.Status
-pub use Rattle.run_log.specs.declared.entry.Entry
+pub use Rattle.edit_session.specs.Entry

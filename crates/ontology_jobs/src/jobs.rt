@@ -12,9 +12,8 @@ ghost use Rattle.ontology_jobs.specs.Answers.{LeavesFor, Leaves};
 use crate::words::{Command, Job, read_words};
 use audit_jobs::{answer, find_evidence, pinpoint, run_workload, verify, verify_audit};
 use classification_jobs::{Status, Text, classify};
-use edit_session::answer_script;
+use edit_session::{RunLog, answer_script};
 use individual_jobs::{instances, realize, why};
-use run_log::RunLog;
 use shq_io::{ReadEnd, Sink, Source, WriteFailed, read_all, write_whole};
 use std::alloc::Global;
 

@@ -16,12 +16,12 @@ mod words;
 mod workload_number;
 
 pub use classification_jobs::Status;
+pub use edit_session::RunLog;
 pub use jobs::run;
 pub use laws::{
     accepted_audits_list_all, accepted_queries_do_not_follow, accepted_queries_follow,
     answers_are_unique, bad_words_ask_for_nothing, refusals_are_answered_alike, runs_are_complete,
     undecided_spends_all,
 };
-pub use run_log::RunLog;
 pub use words::{Command, Job, read_words};
 pub use workload_number::WorkloadNumber;

@@ -29,6 +29,7 @@ pub use counting::count_answer;
 pub use laws::{lists_are_unique, workloads_are_questions};
 pub use list_laws::{counts_are_right, lists_are_right, whole_lists_are_done};
 pub use listing::list_answer;
+pub use module_extract::module;
 pub use pinpointing::pinpoint;
 pub use query_asker::{Answer, Asker, Known, Oracle};
 pub use repair_list::{Found, enumerate, repairs};

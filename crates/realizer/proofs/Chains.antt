@@ -9,7 +9,7 @@ use Rattle.shq_terms.specs.declared.axioms.On.TheVariants.{Any, Individual}
 use Rattle.shq_terms.specs.declared.axioms.Query.{Query}
 use Rattle.shq_terms.proofs.Bools.{none_outside}
 use Rattle.shq_meaning.specs.Truth.{holds, Entails}
-use Rattle.refutation_truth.specs.Theory.{all_axioms}
+use Rattle.subsumption.specs.Theory.{all_axioms}
 use Rattle.subsumption.specs.Entry.{Entry}
 use Rattle.subsumption.specs.Entry.TheVariants.{Test, Node}
 use Rattle.subsumption.specs.TestEnd.TheVariants.{Yes}

@@ -14,7 +14,7 @@ use Rattle.shq_terms.specs.declared.axioms.On.TheVariants.{Any, Individual}
 use Rattle.shq_terms.specs.declared.axioms.Query.{Query}
 use Rattle.shq_meaning.specs.Truth.{holds}
 use Rattle.finite_model.specs.ModelLists.{ModelLists, meaning}
-use Rattle.ontology_limits.specs.Limits.{IsInLimit}
+use Rattle.subsumption.specs.Limits.{IsInLimit}
 use Rattle.subsumption.specs.Entry.{Entry}
 use Rattle.subsumption.specs.Entry.TheVariants.{Test, Node}
 use Rattle.subsumption.specs.TestEnd.{TestEnd}

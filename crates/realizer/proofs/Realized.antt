@@ -9,7 +9,7 @@ use Rattle.shq_terms.specs.Concept.{Concept, top, bottom, name}
 use Rattle.shq_terms.specs.Listed.{Listed}
 use Rattle.shq_terms.specs.declared.axioms.On.TheVariants.{Any}
 use Rattle.shq_meaning.specs.Truth.{Entails}
-use Rattle.refutation_truth.specs.Theory.{all_axioms}
+use Rattle.subsumption.specs.Theory.{all_axioms}
 use Rattle.subsumption.specs.Entry.{Entry}
 use Rattle.subsumption.specs.OracleLists.{OracleLists}
 use Rattle.subsumption.specs.Rows.{Rows, holds}

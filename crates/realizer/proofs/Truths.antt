@@ -10,7 +10,7 @@ use Rattle.shq_terms.specs.declared.axioms.On.TheVariants.{Any}
 use Rattle.shq_terms.specs.declared.axioms.Query.{Query}
 use Rattle.shq_meaning.specs.Truth.{Interpretation, holds, meets_all, refutes_at, Entails}
 use Rattle.finite_model.specs.ModelLists.{ModelLists, meaning}
-use Rattle.refutation_truth.specs.Theory.{all_axioms}
+use Rattle.subsumption.specs.Theory.{all_axioms}
 use Rattle.subsumption.specs.Entry.TheVariants.{Test}
 use Rattle.subsumption.specs.TestEnd.TheVariants.{Yes}
 use Rattle.subsumption.specs.HonestLog.{IsWhole, IsHonestEntry}

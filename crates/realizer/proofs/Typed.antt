@@ -16,7 +16,7 @@ use Rattle.shq_terms.specs.declared.axioms.On.TheVariants.{Any, Individual}
 use Rattle.shq_terms.specs.declared.axioms.Query.{Query}
 use Rattle.shq_meaning.specs.Truth.{holds as has_element, Entails}
 use Rattle.finite_model.specs.ModelLists.{ModelLists, meaning}
-use Rattle.refutation_truth.specs.Theory.{all_axioms}
+use Rattle.subsumption.specs.Theory.{all_axioms}
 use Rattle.subsumption.specs.Entry.{Entry}
 use Rattle.subsumption.specs.Entry.TheVariants.{Test, Node}
 use Rattle.subsumption.specs.TestEnd.{TestEnd}

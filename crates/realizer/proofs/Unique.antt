@@ -7,10 +7,10 @@ use Rattle.std.proofs.lemmas.Bool.{and_parts}
 use Rattle.std.proofs.lemmas.List.Folds.{list_all-append}
 use Rattle.lane_sieve.proofs.Ranges.{passing_same}
 use Rattle.shq_terms.specs.Uses.{uses_listed}
-use Rattle.role_box.specs.Counted.{counted_roles}
-use Rattle.role_box.specs.Simple.{is_simple, all_role_axioms}
+use Rattle.subsumption.specs.Counted.{counted_roles}
+use Rattle.subsumption.specs.Simple.{is_simple, all_role_axioms}
 use Rattle.shq_nnf.specs.Counts.{has_counts_within}
-use Rattle.ontology_limits.specs.Limits.{has_enough_parts}
+use Rattle.subsumption.specs.Limits.{has_enough_parts}
 use Rattle.subsumption.specs.Groups.{Parthood}
 use Rattle.subsumption.proofs.Same.{first_same, lowest_same}
 use Rattle.realizer.specs.TypeLists.{TypeLists}

@@ -6,7 +6,7 @@ use Rattle.shq_terms.specs.Concept.{Concept, name}
 use Rattle.shq_terms.specs.Listed.{Listed}
 use Rattle.shq_terms.specs.declared.axioms.On.{On}
 use Rattle.shq_terms.specs.declared.axioms.On.TheVariants.{Any, Individual}
-use Rattle.ontology_limits.specs.Limits.{IsOntologyInLimit, IsInLimit}
+use Rattle.subsumption.specs.Limits.{IsOntologyInLimit, IsInLimit}
 use Rattle.subsumption.specs.Entry.{Entry}
 use Rattle.subsumption.specs.Entry.TheVariants.{Test, Node}
 use Rattle.subsumption.specs.TestEnd.{TestEnd}

@@ -6,7 +6,7 @@ use Rattle.shq_terms.specs.Listed.{Listed}
 use Rattle.shq_terms.specs.declared.axioms.On.TheVariants.{Individual}
 use Rattle.shq_terms.specs.declared.axioms.Query.{Query}
 use Rattle.shq_meaning.specs.Truth.{Entails}
-use Rattle.refutation_truth.specs.Theory.{all_axioms}
+use Rattle.subsumption.specs.Theory.{all_axioms}
 use Rattle.ofn_writer.specs.Canonical.{individual_text, line}
 
 -- ---- instances

@@ -17,3 +17,4 @@ pub use Rattle.subsumption.specs.Entries
 pub use Rattle.subsumption.specs.Entry
 pub use Rattle.subsumption.specs.TestEnd
 pub use Rattle.subsumption.specs.HonestLog
+pub use Rattle.subsumption.specs.Theory

@@ -3,7 +3,7 @@ use Rattle.std.specs.Prelude.{◌≡◌, ℕ, ◌<◌, List, length}
 use Rattle.shq_terms.specs.Concept.{Concept}
 use Rattle.shq_terms.specs.Listed.{Listed}
 use Rattle.shq_terms.specs.declared.axioms.Query.{Query}
-use Rattle.ontology_limits.specs.Limits.{IsInLimit}
+use Rattle.subsumption.specs.Limits.{IsInLimit}
 use Rattle.realizer.specs.Instances.{instance_query, AreInstances}
 use Rattle.realizer.specs.Realization.{AreTypes}
 use Rattle.realizer.specs.declared.types.Types.{Types}

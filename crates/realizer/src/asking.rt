@@ -4,7 +4,7 @@ ghost use Rattle.std.specs.List.{list_any};
 ghost use Rattle.shq_terms.specs.Concept.{name};
 ghost use Rattle.shq_meaning.specs.Truth.{holds};
 ghost use Rattle.finite_model.specs.ModelLists.{meaning};
-ghost use Rattle.ontology_limits.specs.Limits.{IsInLimit};
+ghost use Rattle.subsumption.specs.Limits.{IsInLimit};
 ghost use Rattle.subsumption.specs.Entries.{spent_of, is_spent, IsAnswered};
 ghost use Rattle.subsumption.specs.Decided.{IsAnswer, AppendsTest, LeavesNothing};
 ghost use Rattle.subsumption.specs.ClassSets.{has_class, HoldsClasses};

@@ -1,7 +1,7 @@
 // The realization of an ontology.
 ghost use Rattle.std.specs.Prelude.{◌≡◌, false, [], IsTrue, IfOk, IfErr, OnOk, length};
 ghost use Rattle.std.specs.List.{list_any};
-ghost use Rattle.ontology_limits.specs.Limits.{IsOntologyInLimit};
+ghost use Rattle.subsumption.specs.Limits.{IsOntologyInLimit};
 ghost use Rattle.subsumption.specs.Entries.{is_spent};
 ghost use Rattle.subsumption.specs.HonestLog.{IsClassificationLog};
 ghost use Rattle.subsumption.specs.Rows.{holds};

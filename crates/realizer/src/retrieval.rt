@@ -4,7 +4,7 @@ ghost use Rattle.std.specs.Prelude.{length};
 ghost use Rattle.std.specs.List.{list_any};
 ghost use Rattle.shq_terms.specs.Concept.{top};
 ghost use Rattle.lane_sieve.specs.Sets.{passing};
-ghost use Rattle.ontology_limits.specs.Limits.{IsInLimit};
+ghost use Rattle.subsumption.specs.Limits.{IsInLimit};
 ghost use Rattle.subsumption.specs.Entries.{is_spent};
 ghost use Rattle.subsumption.specs.HonestLog.{IsWhole};
 ghost use Rattle.subsumption.specs.Stops.{IsStop};

@@ -1,7 +1,7 @@
 // The classes of each individual.
 ghost use Rattle.std.specs.Prelude.{◌≡◌, ◌+◌, ◌<◌, ◌≤◌, ℕ, true, IfOk, IfErr, OnOk, length};
 ghost use Rattle.finite_model.specs.ModelLists.{meaning};
-ghost use Rattle.ontology_limits.specs.Limits.{IsOntologyInLimit};
+ghost use Rattle.subsumption.specs.Limits.{IsOntologyInLimit};
 ghost use Rattle.subsumption.specs.HonestLog.{IsWhole};
 ghost use Rattle.subsumption.specs.ClassSets.{HoldsClasses};
 ghost use Rattle.realizer.specs.TypeRows.{AreTypeRows, typed_by};

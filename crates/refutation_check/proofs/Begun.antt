@@ -9,7 +9,7 @@ use Rattle.calculus_specs.specs.Shape.{Shape}
 use Rattle.calculus_specs.specs.Rows.{Part, Theory, part_at, are_name_positions}
 use Rattle.calculus_specs.specs.Rows.Part.{inclusion, range}
 use Rattle.calculus_specs.specs.declared.facts.Fact.{Fact}
-use Rattle.branch_facts.specs.NumberedBranch.{NumberedBranch as Branch}
+use Rattle.refutation_rules.specs.NumberedBranch.{NumberedBranch as Branch}
 use Rattle.calculus_specs.specs.Line.{Line}
 use Rattle.calculus_specs.specs.Line.Line.{start_line, and_line, or_line, all_line, carry_line, row_line, range_line}
 use Rattle.calculus_specs.specs.Line.Line.{some_line, least_line, choose_line, pair_line, bottom_line, clash_line}

@@ -9,7 +9,7 @@ use Rattle.calculus_specs.specs.declared.facts.Fact.{Fact}
 use Rattle.calculus_specs.specs.declared.facts.Fact.TheVariants.{Has}
 use Rattle.calculus_specs.specs.State.{new_nodes, apart_from, pairwise_apart}
 use Rattle.calculus_specs.specs.Reading.{is_fact_listed, are_listed}
-use Rattle.branch_facts.specs.NumberedBranch.{NumberedBranch as Branch}
+use Rattle.refutation_rules.specs.NumberedBranch.{NumberedBranch as Branch}
 use Rattle.refutation_rules.specs.declared.outcome.Outcome.{Outcome}
 use Rattle.refutation_rules.specs.declared.outcome.Outcome.TheVariants.{Closed, Started, More, Nodes, Branches}
 use Rattle.refutation_rules.specs.Outcomes.{branch_with_facts, branches_after, IsFit, IsFitIfSome, IsBranch}

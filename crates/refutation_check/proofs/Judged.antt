@@ -1,7 +1,7 @@
 -- What lines say of a refutation whose axioms are in the set.
 use Rattle.std.proofs.Common.{◌≡◌, ℕ, zero, suc, List, length, Result, Ok, Err, subst, arith}
 use Rattle.std.specs.Prelude.{IfOk}
-use Rattle.lane_sieve.specs.Sets.{IsPart}
+use Rattle.axiom_sets.specs.NumberSets.{IsPart}
 use Rattle.axiom_sets.specs.Sets.{Limited, member_list}
 use Rattle.shq_terms.specs.NoMemory.{NoMemory}
 use Rattle.shq_terms.specs.Listed.{Listed}
@@ -9,7 +9,7 @@ use Rattle.shq_terms.specs.declared.axioms.Query.{Query}
 use Rattle.calculus_specs.specs.Line.{Line}
 use Rattle.calculus_specs.specs.Valid.{concept_at, IsBrokenAt}
 use Rattle.calculus_specs.proofs.Stack.{run_refutes}
-use Rattle.refutation_tree.specs.RefutationLists.{RefutationLists}
+use Rattle.refutation_rules.specs.RefutationLists.{RefutationLists}
 use Rattle.refutation_rules.specs.RefutationContext.{RefutationContext}
 use Rattle.refutation_check.specs.declared.checking.Verdict.{Verdict}
 use Rattle.refutation_check.specs.declared.checking.Verdict.TheVariants.{Accepted, Rejected}

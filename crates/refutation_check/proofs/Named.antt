@@ -7,7 +7,7 @@ use Rattle.std.specs.FinSet as sets
 use Rattle.std.proofs.lemmas.Bool.{cases_Bool}
 use Rattle.std.proofs.lemmas.List.Elements.{All-get_or, All-from_get_or}
 use Rattle.std.proofs.lemmas.List.Sums.{AllPass-from_list_all, list_all-from_AllPass}
-use Rattle.lane_sieve.specs.Sets.{IsPart}
+use Rattle.axiom_sets.specs.NumberSets.{IsPart}
 use Rattle.axiom_sets.specs.Sets.{Limited, IsWithin, member_list}
 use Rattle.axiom_sets.proofs.Listed.{member_list-at, member_list-place}
 

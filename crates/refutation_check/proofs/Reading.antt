@@ -4,8 +4,8 @@ use Rattle.std.proofs.Common.{get_or, Option, Some, None, refl, ap, ◌∙◌, s
 use Rattle.std.specs.Option.{option_and_then}
 use Rattle.std.proofs.lemmas.List.{take_more, get_or-map, length-map}
 use Rattle.shq_terms.specs.Concept.{Concept}
-use Rattle.refutation_tree.specs.RuleLine.{line_of}
-use Rattle.refutation_tree.specs.declared.line.Line.{Line as Kept}
+use Rattle.refutation_rules.specs.RuleLine.{line_of}
+use Rattle.refutation_rules.specs.Line.{Line as Kept}
 use Rattle.calculus_specs.specs.Line.{Line}
 use Rattle.calculus_specs.specs.Rules.{Question, Known, nothing_known}
 use Rattle.calculus_specs.specs.Valid.{concept_at, open_after, open_after_all, Breaks}

@@ -7,8 +7,8 @@ use Rattle.std.proofs.lemmas.List.{map-append}
 use Rattle.std.proofs.lemmas.List.Elements.{All-head, All-tail, All-append}
 use Rattle.shq_terms.specs.NoMemory.{NoMemory}
 use Rattle.calculus_specs.specs.Shape.{Shape}
-use Rattle.shq_nnf.specs.Numbers.{Extends}
-use Rattle.branch_facts.specs.NumberedBranch.{NumberedBranch as Branch}
+use Rattle.ontology_limits.specs.Numbers.{Extends}
+use Rattle.refutation_rules.specs.NumberedBranch.{NumberedBranch as Branch}
 use Rattle.calculus_specs.specs.Line.{Line}
 use Rattle.calculus_specs.specs.Rules.{Known}
 use Rattle.calculus_specs.specs.Valid.{concept_at, open_after}
@@ -18,7 +18,7 @@ use Rattle.refutation_rules.specs.RefutationContext.{RefutationContext, question
 use Rattle.refutation_rules.proofs.Reading.{known_stays, branch_stays}
 use Rattle.refutation_rules.proofs.Contexts.{line_stays}
 use Rattle.refutation_check.specs.Open.{Open, branches, branches_of, are_known, AreNumberedBranches}
-use Rattle.refutation_check.specs.Steps.{left_by_line, IsLeft, IsLeftIf, IsPutIf, IsReadyIf}
+use Rattle.refutation_check.specs.Steps.{left_by_line, IsLeft, IsLeftIf, IsPutIf, IsReadyIf, IsGoingOn}
 use Rattle.refutation_check.proofs.Begun.{all_begun}
 use Rattle.refutation_check.proofs.Children.{ready_if, children_are}
 
@@ -108,6 +108,17 @@ module _ (f g : RefutationContext) (o : Open) (line : Line) where
       → IfOk r (λ b. IsPutIf o out b p) → IfOk r (λ b. IsLeftIf b (left_by_line f o line) g p)
   left_ok out (Ok b) p h e = left_if out b p h e
   left_ok out (Err e) p h i = tt
+
+  going_on_if : (h : RefutationContext) (out : Option Outcome) (b : Bool) (p : Open) → IsMove f g o line out
+      → Extends g.table h.table → IsPutIf o out b p → IsGoingOn h p b
+  going_on_if h out true p m kept e =
+      all_stay g.table h.table (branches p) kept (left_if out true p m e).listed
+  going_on_if h out false p m kept e = tt
+
+  pub going_on : (h : RefutationContext) (out : Option Outcome) (r : Result Bool NoMemory) (p : Open)
+      → IsMove f g o line out → Extends g.table h.table → IfOk r (λ b. IsPutIf o out b p) → IfOk r (IsGoingOn h p)
+  going_on h out (Ok b) p m kept e = going_on_if h out b p m kept e
+  going_on h out (Err e) p m kept i = tt
 
   pub ready : (out : Option Outcome) → IsMove f g o line out → IsReadyIf o out
   ready out h =

@@ -4,7 +4,7 @@ use Rattle.std.proofs.Common.{sym, subst, arith, length-append}
 use Rattle.std.proofs.lemmas.List.{take-take, take_at, length-take-le, reverse-append}
 use Rattle.std.proofs.Math.Seq.{take-length, take-append_seam}
 use Rattle.calculus_specs.specs.declared.facts.Fact.{Fact}
-use Rattle.branch_facts.specs.NumberedBranch.{NumberedBranch as Branch}
+use Rattle.refutation_rules.specs.NumberedBranch.{NumberedBranch as Branch}
 use Rattle.refutation_rules.specs.Outcomes.{branch_with_facts}
 use Rattle.refutation_check.specs.declared.open_branches.Pending.{Pending}
 use Rattle.refutation_check.specs.Open.{Open, branch_at, branches_at, knowing, knowing_nodes, AreWithin}

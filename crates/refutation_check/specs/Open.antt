@@ -2,7 +2,7 @@
 use Rattle.std.specs.Prelude.{◌≡◌, ℕ, ◌+◌, ◌^◌, ◌≤◌, Bool, true, false, List, [], ◌∷◌, ◌++◌, map, take, reverse, All}
 use Rattle.std.specs.List.{list_any, range_with_len}
 use Rattle.calculus_specs.specs.Shape.{Shape}
-use Rattle.branch_facts.specs.NumberedBranch.{NumberedBranch as Branch, has_node}
+use Rattle.refutation_rules.specs.NumberedBranch.{NumberedBranch as Branch, has_node}
 use Rattle.calculus_specs.specs.Rules.{Known}
 use Rattle.calculus_specs.specs.declared.facts.Fact.{Fact}
 use Rattle.calculus_specs.specs.State.{new_nodes}

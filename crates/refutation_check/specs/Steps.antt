@@ -49,3 +49,8 @@ IsReadAs f lines (Rejected place) = IsBrokenAt (question f) (concept_at f.shapes
 abbrev pub IsEnd : Open → ℕ → Verdict → Type 0
 IsEnd o count Accepted = o.closed ≡ true
 IsEnd o count (Rejected place) = (o.closed ≡ false) × (place ≡ count + 1)
+
+-- where a line could be read, the concepts of the branches are numbers of the table
+abbrev pub IsGoingOn : RefutationContext → Open → Bool → Type 0
+IsGoingOn f o true = AreNumberedBranches (length f.table) (branches o)
+IsGoingOn f o false = Unit {0}

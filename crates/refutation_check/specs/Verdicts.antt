@@ -1,13 +1,13 @@
 -- When a refutation is valid over a set of axioms, and where it breaks the rules.
 use Rattle.std.specs.Prelude.{ℕ, zero, suc}
-use Rattle.lane_sieve.specs.Sets.{IsPart}
+use Rattle.axiom_sets.specs.NumberSets.{IsPart}
 use Rattle.axiom_sets.specs.Sets.{Limited, member_list}
 use Rattle.shq_terms.specs.Listed.{Listed}
 use Rattle.shq_terms.specs.declared.axioms.Query.{Query}
 use Rattle.calculus_specs.specs.Rules.{Question}
 use Rattle.calculus_specs.specs.Valid.{concept_at, IsBrokenAt, IsRefutation}
 use Rattle.refutation_rules.specs.Theory.{question_in}
-use Rattle.refutation_tree.specs.RefutationLists.{RefutationLists}
+use Rattle.refutation_rules.specs.RefutationLists.{RefutationLists}
 use Rattle.refutation_check.specs.declared.checking.Verdict.{Verdict}
 use Rattle.refutation_check.specs.declared.checking.Verdict.TheVariants.{Accepted, Rejected}
 

@@ -2,7 +2,7 @@
 ghost use Rattle.std.specs.FinSet as sets;
 ghost use Rattle.std.specs.Prelude.{◌≡◌, ◌≤◌, ◌↔◌, IsTrue, IfOk, length};
 ghost use Rattle.std.specs.List.{list_all};
-ghost use Rattle.lane_sieve.specs.Sets.{IsPart};
+ghost use Rattle.axiom_sets.specs.NumberSets.{IsPart};
 ghost use Rattle.axiom_sets.specs.Sets.{member_list};
 ghost use Rattle.ontology_limits.specs.Limits.{IsInLimit};
 ghost use Rattle.refutation_check.specs.Verdicts.{IsJudgedAs};
@@ -10,8 +10,7 @@ ghost use Rattle.refutation_check.specs.Verdicts.{IsJudgedAs};
 use crate::NoMemory;
 use crate::lines::read;
 use axiom_sets::AxiomSet;
-use refutation_rules::Rules;
-use refutation_tree::Refutation;
+use refutation_rules::{Refutation, Rules};
 use shq_terms::{Ontology, Query};
 use std::alloc::Global;
 
@@ -52,7 +51,7 @@ pub fn check(
 }
 
 // Whether each axiom that is named is in the set, whatever the greatest numbers of the two may be.
-fn are_in(named: &AxiomSet, set: &AxiomSet) -> bool
+pub(crate) fn are_in(named: &AxiomSet, set: &AxiomSet) -> bool
     ensures { IsTrue result ↔ IsPart named.now.members set.now.members }
 {
     let _limit = named.limit();

@@ -9,7 +9,11 @@
 
 mod checking;
 mod lines;
+mod needed;
 mod open_branches;
+mod path;
+mod support;
 
 pub use checking::{Verdict, check};
+pub use needed::needed_lines;
 pub use shq_terms::NoMemory;

@@ -1,6 +1,6 @@
 // Lines in order.
 ghost use Rattle.std.specs.Prelude.{◌≡◌, ◌≤◌, false, [], ◌∷◌, IfOk, length, map};
-ghost use Rattle.refutation_tree.specs.RuleLine.{line_of};
+ghost use Rattle.refutation_rules.specs.RuleLine.{line_of};
 ghost use Rattle.refutation_rules.specs.RefutationContext.{IsSameButTable};
 ghost use Rattle.refutation_check.specs.Open.{branches, AreNumberedBranches};
 ghost use Rattle.refutation_check.specs.Steps.{IsStep, IsPutIf, IsReadAs, IsReadyIf, IsEnd};
@@ -8,8 +8,7 @@ ghost use Rattle.refutation_check.specs.Steps.{IsStep, IsPutIf, IsReadAs, IsRead
 use crate::NoMemory;
 use crate::checking::Verdict;
 use crate::open_branches::OpenBranches;
-use refutation_rules::{Outcome, Rules};
-use refutation_tree::Line;
+use refutation_rules::{Line, Outcome, Rules};
 use std::alloc::Global;
 
 /// The verdict on the lines of a refutation, as far as they alone decide it.
@@ -73,7 +72,7 @@ fn step(rules: &mut Rules<'_>, stack: &mut OpenBranches, line: &Line) -> Result<
 }
 
 // Puts what a line leaves of the branch in its place, if its premises held.
-fn put(stack: &mut OpenBranches, outcome: Option<Outcome>) -> Result<bool, NoMemory>
+pub(crate) fn put(stack: &mut OpenBranches, outcome: Option<Outcome>) -> Result<bool, NoMemory>
     requires open { stack.old.closed ≡ false }
     requires ready { IsReadyIf stack.old outcome }
     ensures { IfOk result (λ put. IsPutIf stack.old outcome put stack.new) }

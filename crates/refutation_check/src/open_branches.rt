@@ -2,14 +2,13 @@
 ghost use Rattle.std.specs.Prelude.{◌≡◌, ◌+◌, ◌^◌, ◌≤◌, false, [], ◌∷◌, ◌++◌, OnOk, length, map};
 ghost use Rattle.std.specs.List.{list_any, range_with_len};
 ghost use Rattle.calculus_specs.specs.State.{apart_from, pairwise_apart};
-ghost use Rattle.branch_facts.specs.NumberedBranch.{has_node};
+ghost use Rattle.refutation_rules.specs.NumberedBranch.{has_node};
 ghost use Rattle.refutation_rules.specs.Outcomes.{branches_after, started_branch};
 ghost use Rattle.refutation_check.specs.Open.{branches, branches_for, waiting_with, with_new_nodes, facts_of_new};
 ghost use Rattle.refutation_check.specs.Open.{knowing, knowing_nodes, IsReady};
 
 use crate::NoMemory;
-use branch_facts::{BranchFacts, Fact, Mark};
-use refutation_rules::{FirstNodes, NewNodes, Outcome};
+use refutation_rules::{BranchFacts, Fact, FirstNodes, Mark, NewNodes, Outcome};
 use std::alloc::Global;
 use std::marker::Model;
 

@@ -4,3 +4,7 @@ pub mod Numbers
 pub mod RefutationContext
 pub mod Tests
 pub use Rattle.row_cache.specs.Theory
+pub use Rattle.refutation_tree.specs.RuleLine
+pub use Rattle.refutation_tree.specs.RefutationLists
+pub use Rattle.refutation_tree.specs.declared.line.Line
+pub use Rattle.branch_facts.specs.NumberedBranch

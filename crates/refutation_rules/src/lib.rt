@@ -20,9 +20,13 @@ mod individual_lines;
 mod new_nodes;
 mod numbering;
 mod outcome;
+mod premises;
 mod row_lines;
 mod rules;
 
+pub use branch_facts::{BranchFacts, Fact, Mark};
 pub use outcome::{FirstNodes, NewNodes, Outcome};
+pub use premises::Premise;
+pub use refutation_tree::{Line, Refutation};
 pub use rules::Rules;
 pub use shq_terms::NoMemory;

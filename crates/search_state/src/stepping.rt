@@ -130,6 +130,13 @@ impl<'b, A: Allocator + Copy> Progress<'b, A> {
         mem::replace(&mut self.trace, Trace::new(heap))
     }
 
+    /// What is asked.
+    pub fn query(&self) -> &'b Query
+        ensures { result.now ≡ self.now.query }
+    {
+        self.query
+    }
+
     /// The tree of the search.
     pub fn tree(&self) -> &Tree<A>
         ensures { result.now ≡ tree_in self.now }

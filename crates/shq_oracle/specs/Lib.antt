@@ -10,3 +10,10 @@ pub use Rattle.run_log.specs.Entries
 pub use Rattle.run_log.specs.declared.entry.TestEnd
 pub use Rattle.run_log.specs.Trails
 pub use Rattle.run_log.specs.LogExamples
+pub use Rattle.tableau.specs.Verdicts
+pub use Rattle.tableau.specs.Verdict
+pub use Rattle.model_builder.specs.ModelLists
+pub use Rattle.model_builder.specs.Written
+pub use Rattle.model_builder.specs.ModelText
+pub use Rattle.model_builder.specs.Malformed
+pub use Rattle.model_builder.specs.ReadBack

@@ -21,6 +21,8 @@ mod tested;
 
 pub use answer::{Answer, Outcome, Shown};
 pub use apart::Apart;
+pub use model_builder::{Interp, read_text};
 pub use oracle::Oracle;
 pub use run_log::{Entry, KeptTrail, RunLog, TestEnd};
 pub use shq_terms::NoMemory;
+pub use tableau::{Verdict, check};

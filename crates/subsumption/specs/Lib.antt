@@ -22,3 +22,7 @@ pub use Rattle.shq_oracle.specs.Shown
 pub use Rattle.shq_oracle.specs.Entries
 pub use Rattle.shq_oracle.specs.TestEnd
 pub use Rattle.shq_oracle.specs.LogExamples
+pub use Rattle.shq_oracle.specs.Limits
+pub use Rattle.shq_oracle.specs.Theory
+pub use Rattle.role_box.specs.Counted
+pub use Rattle.role_box.specs.Simple

@@ -13,3 +13,5 @@ pub use Rattle.search_laws.specs.ComputedClosure
 pub use Rattle.search_laws.specs.BoundLaws
 pub use Rattle.search_laws.specs.CounterModelLaws
 pub use Rattle.search_laws.specs.ReuseLaws
+pub use Rattle.closed_search.specs.Verdicts
+pub use Rattle.closed_search.specs.Verdict

@@ -20,6 +20,14 @@ pub(crate) fn refutation<A: Allocator + Copy>(
     ensures left { progress.new ≡ record progress.old { trace = begun } }
     ensures refutes { IfOk result (Refutes rules.now progress.old.query) }
 {
+    let query = progress.query();
     let trace = progress.take_trace();
-    refutation_of(heap, trace, rules.ontology(), rules.set(), rules.concepts())
+    refutation_of(
+        heap,
+        trace,
+        rules.ontology(),
+        rules.set(),
+        query,
+        rules.concepts(),
+    )
 }

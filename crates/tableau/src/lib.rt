@@ -13,7 +13,7 @@ mod search;
 mod seen;
 mod walker;
 
-pub use closed_search::Refutation;
+pub use closed_search::{Refutation, Verdict, check};
 pub use search::{End, Event, Search};
 pub use search_laws::legal_runs_are_bounded;
 pub use search_rules::SearchRules;

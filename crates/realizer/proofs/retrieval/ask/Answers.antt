@@ -1,6 +1,6 @@
 use Rattle.std.proofs.Common.{◌≡◌, sym, subst}
 use Rattle.shq_terms.specs.declared.axioms.Query.{Query}
-use Rattle.ontology_limits.specs.Limits.{IsInLimit}
+use Rattle.subsumption.specs.Limits.{IsInLimit}
 use Rattle.subsumption.specs.Entries.{spent_of}
 use Rattle.subsumption.specs.Outcome.TheVariants as O
 use Rattle.subsumption.specs.Decided.{IsAnswer, IsRefuting, AddsTest, AppendsTest, LeavesNothing}

@@ -1,10 +1,10 @@
 use Rattle.std.proofs.Common.{ℕ, map, length, subst}
 use Rattle.std.proofs.lemmas.Bool.{and_parts}
-use Rattle.lane_sieve.specs.Sets.{IsPart}
+use Rattle.axiom_sets.specs.NumberSets.{IsPart}
 use Rattle.axiom_sets.specs.Sets.{Limited, IsWithin}
-use Rattle.shq_nnf.specs.Counts.{has_counts_within}
+use Rattle.ontology_limits.specs.Counts.{has_counts_within}
 use Rattle.ontology_limits.proofs.Each.{each_is_within}
-use Rattle.refutation_tree.specs.RuleLine.{line_of}
+use Rattle.refutation_rules.specs.RuleLine.{line_of}
 use Rattle.refutation_check.proofs.Judged.{judged_ok}
 use Rattle.refutation_check.proofs.checking.check.Goals as goal
 

@@ -1,5 +1,5 @@
 use Rattle.std.proofs.Common.{map}
-use Rattle.refutation_tree.specs.RuleLine.{line_of}
+use Rattle.refutation_rules.specs.RuleLine.{line_of}
 use Rattle.refutation_check.proofs.Reading.{IsRead}
 use Rattle.refutation_check.proofs.lines.read_on.Given as goal
 

@@ -1,4 +1,4 @@
-use Rattle.refutation_tree.specs.RuleLine.{line_of}
+use Rattle.refutation_rules.specs.RuleLine.{line_of}
 use Rattle.refutation_check.proofs.Steps.{move, ready, left_ok}
 use Rattle.refutation_check.proofs.lines.step.Goals as goal
 

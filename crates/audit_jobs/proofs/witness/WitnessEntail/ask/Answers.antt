@@ -3,7 +3,7 @@ use Rattle.std.specs.Prelude.{IfOk, OnOk, OnErr}
 use Rattle.set_questions.specs.Asked.{ShowsNoOther}
 use Rattle.set_questions.specs.Meaning.{Keeps, one_more}
 use Rattle.lane_sieve.specs.Sets.{IsPart}
-use Rattle.run_log.specs.Entries.{nodes_of, IsAnswered}
+use Rattle.decision_jobs.specs.Entries.{nodes_of, IsAnswered}
 use Rattle.pinpointing_jobs.specs.AskerLists.{AskerLists, origin_of}
 use Rattle.pinpointing_jobs.specs.Told.{asker_meaning}
 use Rattle.pinpointing_jobs.proofs.Answering.{left_out, shows_counted, local_inside}

@@ -1,5 +1,5 @@
 use Rattle.std.proofs.Common.{◌≡◌, Bool, false, [], ◌∷◌, ap, ◌∙◌, reverse}
-use Rattle.branch_facts.specs.NumberedBranch.{NumberedBranch as Branch}
+use Rattle.refutation_rules.specs.NumberedBranch.{NumberedBranch as Branch}
 use Rattle.refutation_rules.specs.Outcomes.{branch_with_facts}
 use Rattle.refutation_check.specs.Open.{Open, branches_of, branch_at, branches_at}
 use Rattle.refutation_check.proofs.Within.{taken, undone_within, facts_within, next_waits}

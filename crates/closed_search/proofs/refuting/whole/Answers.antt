@@ -7,7 +7,7 @@ use Rattle.search_trace.specs.Line.{Line as Kept}
 use Rattle.search_trace.specs.RuleLine.{line_of}
 use Rattle.closed_search.specs.Named.{NamesAxioms}
 use Rattle.closed_search.proofs.Refuted.{numbered_names, names_listed, named_are_part, written}
-use Rattle.closed_search.proofs.refuting.refutation_of.Goals as goal
+use Rattle.closed_search.proofs.refuting.whole.Goals as goal
 
 pub returns-clause-axioms : goal.returns-clause-axioms
 returns-clause-axioms c =
@@ -16,7 +16,7 @@ returns-clause-axioms c =
     (λ (ls : List Kept). NamesAxioms c.args.ontology.now.axioms c.args.set.now (map line_of ls) c.in_ok-named.named)
     c.deref.ensures.value c.in_ok-named.ensures in
     numbered_names c.args.ontology.now.axioms c.args.set.now c.in_ok-named.named c.args.concepts.now
-    (map line_of c.in_ok-lines.lines.items) c.in_ok-refutation.refutation names c.in_ok-refutation.ensures
+    (map line_of c.args.lines.items) c.in_ok-refutation.refutation names c.in_ok-refutation.ensures
 
 pub returns-clause-part : goal.returns-clause-part
 returns-clause-part c =
@@ -25,10 +25,9 @@ returns-clause-part c =
 
 pub returns-clause-listed : goal.returns-clause-listed
 returns-clause-listed c =
-    names_listed c.args.ontology.now c.args.set.now c.in_ok-named.named c.args.concepts.now c.args.trace
-    (map line_of c.in_ok-lines.lines.items) c.in_ok-refutation.refutation c.in_ok-lines.ensures
-    c.in_ok-refutation.ensures
-    c.requires.listed c.len.ensures.table c.shape_count.ensures.kept
+    names_listed c.args.ontology.now c.args.set.now c.in_ok-named.named c.args.concepts.now
+    (map line_of c.args.lines.items) c.in_ok-refutation.refutation c.in_ok-refutation.ensures c.requires.listed
+    c.len.ensures.table c.shape_count.ensures.kept
 
 pub returns-clause-refutes : goal.returns-clause-refutes
 returns-clause-refutes c =
@@ -39,7 +38,6 @@ returns-clause-refutes c =
     omega (arith, c.limit.type_inv, c.limit.ensures.limit, ap (λ (s : Limited). s.limit) same) in
     let small : list_all is_small r.lines ≡ true =
     subst (λ (ls : List Line). list_all is_small ls ≡ true) c.lines.ensures.lines c.show_small.ensures in
-    written c.args.ontology.now c.args.set.now c.in_ok-named.named c.args.concepts.now c.args.trace
-    (map line_of c.in_ok-lines.lines.items) r c.in_ok-lines.ensures c.in_ok-refutation.ensures
-    c.requires.listed c.len.ensures.table c.shape_count.ensures.kept c.requires.set (returns-clause-axioms c) within few
-    small
+    written c.args.ontology.now c.args.set.now c.in_ok-named.named c.args.concepts.now
+    (map line_of c.args.lines.items) r c.in_ok-refutation.ensures c.requires.listed c.len.ensures.table
+    c.shape_count.ensures.kept c.requires.set (returns-clause-axioms c) within few small

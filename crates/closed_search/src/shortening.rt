@@ -1,0 +1,124 @@
+// From a refutation to one without the lines on which nothing rests.
+ghost use Rattle.std.specs.Prelude.{◌≡◌, true, IfOk, IfSome, length, map};
+ghost use Rattle.std.specs.List.{list_all};
+ghost use Rattle.refutation_check.specs.Limits.{IsInLimit};
+ghost use Rattle.search_trace.specs.ReadBack.{has_nodes};
+ghost use Rattle.search_trace.specs.RuleLine.{line_of};
+ghost use Rattle.closed_search.specs.Finished.{are_over};
+ghost use Rattle.closed_search.specs.Refuted.{uses_names};
+ghost use Rattle.closed_search.specs.Shorter.{IsOver, IsShorter};
+
+use crate::copying::kept_lines;
+use crate::naming::axioms_named;
+use crate::small::show_small;
+use crate::{NoMemory, Refutation, numbered_refutation};
+use axiom_sets::AxiomSet;
+use refutation_check::{Verdict, check, needed_lines};
+use refutation_truth::Concepts;
+use search_trace::Line;
+use shq_terms::{Ontology, Query};
+use std::alloc::Global;
+
+const MOST_LINES: usize = 4294967293;
+
+/// The refutation of those lines of the whole one on which the ends of its branches rest, if it is shorter and valid.
+/// Where nodes are joined it may not be valid.
+///
+/// # Errors
+///
+/// Out of memory.
+pub(crate) fn shorter(
+    alloc: Global,
+    lines: &[Line],
+    ontology: &Ontology,
+    set: &AxiomSet,
+    query: &Query,
+    concepts: &Concepts,
+    whole: &Refutation,
+) -> Result<Option<Refutation>, NoMemory>
+    requires set { set.now.limit ≡ length ontology.now.axioms }
+    requires in_limit { IsInLimit ontology.now query.now }
+    requires over { are_over (length concepts.now) (map line_of lines.now) ≡ true }
+    requires listed { list_all (uses_names ontology.now concepts.now) (map line_of lines.now) ≡ true }
+    ensures { IfOk result (λ found. IfSome found (IsShorter ontology.now set.now query.now)) }
+{
+    if whole.lines().len() > MOST_LINES {
+        return Ok(None);
+    }
+    let keep = needed_lines(alloc, ontology, set, query, whole)?;
+    let kept = kept_lines(alloc, lines, &keep)?;
+    if kept.len() == lines.len() || !have_nodes(&kept) {
+        return Ok(None);
+    }
+    let found = of_lines(alloc, kept, ontology, set, concepts)?;
+    if_valid(alloc, ontology, set, query, found)
+}
+
+// The refutation of the lines, whether it is valid or not.
+fn of_lines(
+    alloc: Global,
+    lines: Vec<Line>,
+    ontology: &Ontology,
+    set: &AxiomSet,
+    concepts: &Concepts,
+) -> Result<Refutation, NoMemory>
+    requires set { set.now.limit ≡ length ontology.now.axioms }
+    requires over { are_over (length concepts.now) (map line_of lines.items) ≡ true }
+    requires listed { list_all (uses_names ontology.now concepts.now) (map line_of lines.items) ≡ true }
+    requires nodes { list_all has_nodes (map line_of lines.items) ≡ true }
+    ensures { IfOk result (IsOver ontology.now set.now) }
+{
+    let _ = concepts.len();
+    let named = axioms_named(alloc, ontology, set, &lines)?;
+    let refutation = numbered_refutation(alloc, named, concepts, lines)?;
+    let _ = refutation.shape_count();
+    let _ = refutation.axioms_used().limit();
+    show_small(refutation.lines());
+    Ok(refutation)
+}
+
+// The refutation, if it is valid.
+fn if_valid(
+    alloc: Global,
+    ontology: &Ontology,
+    set: &AxiomSet,
+    query: &Query,
+    refutation: Refutation,
+) -> Result<Option<Refutation>, NoMemory>
+    requires set { set.now.limit ≡ length ontology.now.axioms }
+    requires in_limit { IsInLimit ontology.now query.now }
+    requires over { IsOver ontology.now set.now refutation }
+    ensures { IfOk result (λ found. IfSome found (IsShorter ontology.now set.now query.now)) }
+{
+    if refutation.lines().len() > MOST_LINES {
+        return Ok(None);
+    }
+    match check(alloc, ontology, set, query, &refutation)? {
+        Verdict::Accepted => Ok(Some(refutation)),
+        Verdict::Rejected(_) => Ok(None),
+    }
+}
+
+// Whether each line of an "at most" restriction has a successor.
+fn have_nodes(lines: &[Line]) -> bool
+    ensures { result ≡ list_all has_nodes (map line_of lines.now) }
+{
+    for line in lines {
+        if !line_has_nodes(line) {
+            return false;
+        }
+    }
+    true
+}
+
+fn line_has_nodes(line: &Line) -> bool
+    ensures { result ≡ has_nodes (line_of line.now) }
+{
+    match line {
+        Line::Most(_, _, ends) => !ends.items().is_empty(),
+        Line::Start | Line::And(..) | Line::Or(..) | Line::All(..) | Line::Carry(..) => true,
+        Line::Row(..) | Line::Range(..) | Line::SomeOf(..) | Line::Least(..) => true,
+        Line::Choose(..) | Line::Pair(..) | Line::Bottom(..) | Line::Clash(..) => true,
+        Line::Fact(..) | Line::Differ(..) => true,
+    }
+}
