@@ -1,3 +1,4 @@
+pub mod Grown
 pub mod AskerLists
 pub mod Told
 pub mod Memory

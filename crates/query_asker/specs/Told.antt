@@ -11,7 +11,7 @@ use Rattle.set_questions.specs.Meaning.{Meaning}
 use Rattle.set_questions.specs.declared.entail.Reply.{Reply}
 use Rattle.set_questions.specs.declared.entail.Reply.TheVariants.{Yes, No as NoReply, Spent}
 use Rattle.pinpointing_specs.specs.LocalModule.{FollowsFrom, IsLocalModule}
-use Rattle.pinpointing_specs.proofs.Kept.{grows}
+use Rattle.query_asker.specs.Grown.{grows}
 use Rattle.shq_oracle.specs.Entry.{Entry}
 use Rattle.shq_oracle.specs.Entry.TheVariants.{Test, Node}
 use Rattle.shq_oracle.specs.TestEnd.TheVariants.{No}
