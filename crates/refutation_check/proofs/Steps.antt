@@ -1,11 +1,10 @@
 -- One line more.
-use Rattle.std.proofs.Common.{◌≡◌, Bool, true, false, List, [], ◌∷◌, ◌++◌, map, length, Result, Ok, Err, Option, Some}
+use Rattle.std.proofs.Common.{◌≡◌, Bool, true, false, List, [], ◌∷◌, ◌++◌, map, length, Option, Some}
 use Rattle.std.proofs.Common.{None, refl, ap, ◌∙◌, sym, subst}
-use Rattle.std.specs.Prelude.{IfOk}
+use Rattle.std.specs.Prelude.{is_some}
 use Rattle.std.specs.Option.{option_map}
 use Rattle.std.proofs.lemmas.List.{map-append}
 use Rattle.std.proofs.lemmas.List.Elements.{All-head, All-tail, All-append}
-use Rattle.shq_terms.specs.NoMemory.{NoMemory}
 use Rattle.calculus_specs.specs.Shape.{Shape}
 use Rattle.ontology_limits.specs.Numbers.{Extends}
 use Rattle.refutation_rules.specs.NumberedBranch.{NumberedBranch as Branch}
@@ -18,7 +17,7 @@ use Rattle.refutation_rules.specs.RefutationContext.{RefutationContext, question
 use Rattle.refutation_rules.proofs.Reading.{known_stays, branch_stays}
 use Rattle.refutation_rules.proofs.Contexts.{line_stays}
 use Rattle.refutation_check.specs.Open.{Open, branches, branches_of, are_known, AreNumberedBranches}
-use Rattle.refutation_check.specs.Steps.{left_by_line, IsLeft, IsLeftIf, IsPutIf, IsReadyIf, IsGoingOn}
+use Rattle.refutation_check.specs.Steps.{left_by_line, IsLeft, IsLeftIf, IsPutIf, IsReadyIf}
 use Rattle.refutation_check.proofs.Begun.{all_begun}
 use Rattle.refutation_check.proofs.Children.{ready_if, children_are}
 
@@ -32,7 +31,7 @@ all_known a b (k ∷ ks) e h =
     let tail = all_known a b ks e (All-tail (IsBranch (length a)) k ks h) in
     λ i. head i ∷ tail i
 
-all_stay : (a b : List Shape) (ks : List Branch) → Extends a b → AreNumberedBranches (length a) ks
+pub all_stay : (a b : List Shape) (ks : List Branch) → Extends a b → AreNumberedBranches (length a) ks
     → AreNumberedBranches (length b) ks
 all_stay a b ks e h i d l = branch_stays a b _ e (h i d l)
 
@@ -98,27 +97,10 @@ module _ (f g : RefutationContext) (o : Open) (line : Line) where
             (all_stay f.table g.table o.waiting h.kept rest));
       }
 
-  left_if : (out : Option Outcome) (b : Bool) (p : Open) → IsMove f g o line out → IsPutIf o out b p
-      → IsLeftIf b (left_by_line f o line) g p
-  left_if None b p h e = subst (λ (c : Bool). IsLeftIf c (left_by_line f o line) g p) (sym e) (left_is None h)
-  left_if (Some out) b p h e =
-      subst (λ (c : Bool). IsLeftIf c (left_by_line f o line) g p) (sym e.0) (left_some out p h e.1)
-
-  pub left_ok : (out : Option Outcome) (r : Result Bool NoMemory) (p : Open) → IsMove f g o line out
-      → IfOk r (λ b. IsPutIf o out b p) → IfOk r (λ b. IsLeftIf b (left_by_line f o line) g p)
-  left_ok out (Ok b) p h e = left_if out b p h e
-  left_ok out (Err e) p h i = tt
-
-  going_on_if : (h : RefutationContext) (out : Option Outcome) (b : Bool) (p : Open) → IsMove f g o line out
-      → Extends g.table h.table → IsPutIf o out b p → IsGoingOn h p b
-  going_on_if h out true p m kept e =
-      all_stay g.table h.table (branches p) kept (left_if out true p m e).listed
-  going_on_if h out false p m kept e = tt
-
-  pub going_on : (h : RefutationContext) (out : Option Outcome) (r : Result Bool NoMemory) (p : Open)
-      → IsMove f g o line out → Extends g.table h.table → IfOk r (λ b. IsPutIf o out b p) → IfOk r (IsGoingOn h p)
-  going_on h out (Ok b) p m kept e = going_on_if h out b p m kept e
-  going_on h out (Err e) p m kept i = tt
+  pub left_if : (out : Option Outcome) (p : Open) → IsMove f g o line out → IsPutIf o out p
+      → IsLeftIf (is_some out) (left_by_line f o line) g p
+  left_if None p h e = left_is None h
+  left_if (Some out) p h e = left_some out p h e
 
   pub ready : (out : Option Outcome) → IsMove f g o line out → IsReadyIf o out
   ready out h =

@@ -36,9 +36,9 @@ IsReadyIf o None = Unit {0}
 IsReadyIf o (Some outcome) = IsReady o.branch outcome
 
 -- the outcome, if there is one, has taken the place of the branch
-abbrev pub IsPutIf : Open → Option Outcome → Bool → Open → Type 0
-IsPutIf o None put p = put ≡ false
-IsPutIf o (Some outcome) put p = (put ≡ true) × (branches p ≡ branches_after o.branch outcome ++ o.waiting)
+abbrev pub IsPutIf : Open → Option Outcome → Open → Type 0
+IsPutIf o None p = Unit {0}
+IsPutIf o (Some outcome) p = branches p ≡ branches_after o.branch outcome ++ o.waiting
 
 -- lines are accepted where they leave no branch open, and rejected where they break the rules
 abbrev pub IsReadAs : RefutationContext → List Line → Verdict → Type 0

@@ -7,12 +7,16 @@
 //! begins with, so that a branch costs what it adds.
 #![tactic(auto)]
 
+mod chains;
 mod checking;
+mod joined;
 mod lines;
 mod needed;
 mod open_branches;
 mod path;
+mod resting;
 mod support;
+mod supporters;
 
 pub use checking::{Verdict, check};
 pub use needed::needed_lines;

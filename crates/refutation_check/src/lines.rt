@@ -1,5 +1,5 @@
 // Lines in order.
-ghost use Rattle.std.specs.Prelude.{◌≡◌, ◌≤◌, false, [], ◌∷◌, IfOk, length, map};
+ghost use Rattle.std.specs.Prelude.{◌≡◌, ◌≤◌, false, [], ◌∷◌, IfOk, OnOk, is_some, length, map};
 ghost use Rattle.refutation_rules.specs.RuleLine.{line_of};
 ghost use Rattle.refutation_rules.specs.RefutationContext.{IsSameButTable};
 ghost use Rattle.refutation_check.specs.Open.{branches, AreNumberedBranches};
@@ -64,24 +64,41 @@ fn step(rules: &mut Rules<'_>, stack: &mut OpenBranches, line: &Line) -> Result<
     ensures left { IfOk result (IsStep rules.old stack.old (line_of line.now) rules.new stack.new) }
     ensures same { IsSameButTable rules.old rules.new }
 {
+    let outcome = advance(rules, stack, line)?;
+    Ok(outcome.is_some())
+}
+
+/// Reads one line more, and answers what it leaves of the branch that is read. `None` where no branch is open, or where
+/// the premises of the line do not hold in the first one.
+///
+/// # Errors
+///
+/// Out of memory. What is open then is no longer that of the lines that were read.
+pub(crate) fn advance(
+    rules: &mut Rules<'_>,
+    stack: &mut OpenBranches,
+    line: &Line,
+) -> Result<Option<Outcome>, NoMemory>
+    requires { AreNumberedBranches (length rules.old.table) (branches stack.old) }
+    ensures left { IfOk result (λ o. IsStep rules.old stack.old (line_of line.now) rules.new stack.new (is_some o)) }
+    ensures same { IsSameButTable rules.old rules.new }
+{
     if stack.is_closed() {
-        return Ok(false);
+        return Ok(None);
     }
     let outcome = rules.outcome(stack.branch(), line)?;
-    put(stack, outcome)
+    put(stack, &outcome)?;
+    Ok(outcome)
 }
 
 // Puts what a line leaves of the branch in its place, if its premises held.
-pub(crate) fn put(stack: &mut OpenBranches, outcome: Option<Outcome>) -> Result<bool, NoMemory>
+fn put(stack: &mut OpenBranches, outcome: &Option<Outcome>) -> Result<(), NoMemory>
     requires open { stack.old.closed ≡ false }
-    requires ready { IsReadyIf stack.old outcome }
-    ensures { IfOk result (λ put. IsPutIf stack.old outcome put stack.new) }
+    requires ready { IsReadyIf stack.old outcome.now }
+    ensures { OnOk result (IsPutIf stack.old outcome.now stack.new) }
 {
     match outcome {
-        None => Ok(false),
-        Some(outcome) => {
-            stack.apply(&outcome)?;
-            Ok(true)
-        }
+        None => Ok(()),
+        Some(outcome) => stack.apply(outcome),
     }
 }

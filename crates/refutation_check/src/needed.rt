@@ -1,4 +1,6 @@
-// Which lines of a refutation are needed.
+// Which lines of a refutation are needed, by going back from the ends of its branches to what each line rests on, as
+// proofs of unsatisfiability are trimmed (M. J. H. Heule, W. A. Hunt and N. Wetzler, *Trimming while Checking Clausal
+// Proofs*, FMCAD 2013).
 ghost use Rattle.std.specs.Prelude.{◌≡◌, ◌≤◌, [], ◌∷◌, OnOk, IfOk, length};
 ghost use Rattle.ontology_limits.specs.Limits.{IsInLimit};
 ghost use Rattle.ontology_limits.specs.Numbers.{Extends};
@@ -7,7 +9,7 @@ ghost use Rattle.refutation_check.specs.Steps.{IsGoingOn};
 
 use crate::NoMemory;
 use crate::checking::are_in;
-use crate::lines::put;
+use crate::lines::advance;
 use crate::open_branches::OpenBranches;
 use crate::support::Support;
 use axiom_sets::AxiomSet;
@@ -15,8 +17,8 @@ use refutation_rules::{Line, Outcome, Premise, Refutation, Rules};
 use shq_terms::{Ontology, Query};
 use std::alloc::Global;
 
-/// For each line of a refutation whether a branching or the end of a branch rests on it, by whichever lines between. The
-/// others can be left out of a valid refutation, but for some where nodes are joined; [`check`](crate::check) tells.
+/// For each line of a refutation whether a branching or the end of a branch rests on it, by whichever lines between.
+/// The others can be left out of a valid refutation; [`check`](crate::check) tells whether what is left is one.
 ///
 /// # Errors
 ///
@@ -39,7 +41,7 @@ pub fn needed_lines(
     let mut rules = Rules::new(alloc, ontology, query, refutation)?;
     let mut support = Support::new(alloc);
     follow_all(alloc, &mut rules, refutation.lines(), &mut support)?;
-    Ok(support.needed())
+    support.needed()
 }
 
 // Reads lines from one branch that knows nothing, as far as they can be read.
@@ -73,7 +75,8 @@ fn follow_on(
     Ok(())
 }
 
-// Reads one line more. `false` where no branch is open, or where the premises of the line do not hold in the first one.
+// Reads one line more, and notes what it rests on. `false` where no branch is open, or where the premises of the line
+// do not hold in the first one.
 fn follow(
     rules: &mut Rules<'_>,
     stack: &mut OpenBranches,
@@ -84,19 +87,20 @@ fn follow(
     requires { AreNumberedBranches (length rules.old.table) (branches stack.old) }
     ensures { IfOk result (IsGoingOn rules.new stack.new) }
 {
-    if stack.is_closed() {
-        return Ok(false);
+    match advance(rules, stack, line)? {
+        Some(outcome) => {
+            note(rules, line, &outcome, premises, support)?;
+            Ok(true)
+        }
+        None => Ok(false),
     }
-    let outcome = rules.outcome(stack.branch(), line)?;
-    note(rules, line, &outcome, premises, support)?;
-    put(stack, outcome)
 }
 
 // Notes what the line rests on, and what it leaves.
 fn note(
     rules: &mut Rules<'_>,
     line: &Line,
-    outcome: &Option<Outcome>,
+    outcome: &Outcome,
     premises: &mut Vec<Premise>,
     support: &mut Support,
 ) -> Result<(), NoMemory>
@@ -104,8 +108,5 @@ fn note(
 {
     premises.clear();
     rules.put_premises(line, premises)?;
-    match outcome {
-        Some(left) => support.put(premises, left),
-        None => Ok(()),
-    }
+    support.put(premises, outcome)
 }

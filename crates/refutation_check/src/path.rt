@@ -1,86 +1,71 @@
 // The way from the first line of a refutation to the one that is read.
 use crate::NoMemory;
+use refutation_rules::Fact;
 use std::alloc::Global;
 
-// A branching: how many lines lead to each of its branches, and how many branches are still to come.
+// A branch that waits: how many entries lead to it, and the fact that it has of its own.
 #[derive(Clone, Copy, Debug)]
-struct Branching {
+struct Pending {
     depth: usize,
-    left: usize,
+    fact: Fact<u32>,
 }
 
-/// Which of the lines that were read stand above the next one in the tree.
+/// Which entries stand above the next line in the tree. An entry is a line, or the beginning of a branch.
 #[derive(Drop)]
 pub(crate) struct Path {
-    lines: Vec<u32>,
-    // How many lines stand above each line that was read.
+    entries: Vec<u32>,
+    // How many entries stand above each one that there was.
     depths: Vec<usize>,
-    branchings: Vec<Branching>,
+    pending: Vec<Pending>,
 }
 
 impl Path {
     pub(crate) fn new(alloc: Global) -> Path {
         Path {
-            lines: Vec::new(alloc),
+            entries: Vec::new(alloc),
             depths: Vec::new(alloc),
-            branchings: Vec::new(alloc),
+            pending: Vec::new(alloc),
         }
     }
 
-    /// Whether the line stands above the next one.
-    pub(crate) fn has(&self, line: u32) -> bool {
-        match self.depths.get(line as usize) {
-            Some(depth) => self.lines.get(*depth) == Some(&line),
+    /// Whether the entry stands above the next line.
+    pub(crate) fn has(&self, entry: u32) -> bool {
+        match self.depths.get(entry as usize) {
+            Some(depth) => self.entries.get(*depth) == Some(&entry),
             None => false,
         }
     }
 
-    /// Reads one line more, and answers its number. Out of memory where there are no numbers left.
-    pub(crate) fn put_line(&mut self) -> Result<u32, NoMemory> {
+    /// Goes on with one entry more, and answers its number. Out of memory where there are no numbers left.
+    pub(crate) fn put(&mut self) -> Result<u32, NoMemory> {
         let count = self.depths.len();
         if count > u32::MAX as usize {
             return Err(NoMemory);
         }
-        let line = count as u32;
-        self.depths.push(self.lines.len())?;
-        self.lines.push(line)?;
-        Ok(line)
+        let entry = count as u32;
+        self.depths.push(self.entries.len())?;
+        self.entries.push(entry)?;
+        Ok(entry)
     }
 
-    /// The line that was read leaves so many branches.
-    pub(crate) fn branch_out(&mut self, count: usize) -> Result<(), NoMemory> {
-        let depth = self.lines.len();
-        self.branchings.push(Branching { depth, left: count })?;
-        self.close();
+    /// Lets a branch wait for each fact, the first of them to come first.
+    pub(crate) fn branch_out(&mut self, facts: &[Fact<u32>]) -> Result<(), NoMemory> {
+        let depth = self.entries.len();
+        for place in 0..facts.len() {
+            let fact = facts[facts.len() - 1 - place];
+            self.pending.push(Pending { depth, fact })?;
+        }
         Ok(())
     }
 
-    /// The branch is at its end: the next line is the first one of the next branch.
-    pub(crate) fn close(&mut self) {
-        for _ in 0..self.branchings.len() {
-            match self.branchings.last() {
-                Some(latest) => {
-                    if latest.left > 0 {
-                        self.turn();
-                        return;
-                    }
-                }
-                None => return,
+    /// Goes to where the next branch begins that waits, and answers the fact that it has of its own.
+    pub(crate) fn turn(&mut self) -> Option<Fact<u32>> {
+        match self.pending.pop() {
+            Some(next) => {
+                self.entries.truncate(next.depth);
+                Some(next.fact)
             }
-            self.branchings.pop();
-        }
-    }
-
-    // Goes on with the next branch of the latest branching.
-    fn turn(&mut self) {
-        let count = self.branchings.len();
-        if count > 0 {
-            let Branching { depth, left } = self.branchings[count - 1];
-            self.lines.truncate(depth);
-            self.branchings[count - 1] = Branching {
-                depth,
-                left: left.saturating_sub(1),
-            };
+            None => None,
         }
     }
 }

@@ -1,142 +1,88 @@
 // The lines that the lines of a refutation rest on.
 use crate::NoMemory;
+use crate::chains::Chains;
 use crate::path::Path;
+use crate::supporters::Supporters;
 use indexmap::IndexMap;
 use refutation_rules::{Fact, FirstNodes, NewNodes, Outcome, Premise};
 use std::alloc::Global;
 
-// A line that made an edge, and the place of the one before it between the same nodes.
-#[derive(Clone, Copy, Debug)]
-struct Link {
-    line: u32,
-    before: Option<usize>,
-}
-
-// Two nodes that a line has joined.
-#[derive(Clone, Copy, Debug)]
-struct Join {
-    line: u32,
-    first: u32,
-    second: u32,
-}
-
-/// What the lines that were read rest on: each on those lines before it in its branch that made what it asks for.
-///
-/// What a branching leaves to its branches is not noted, since such a line is never left out.
+/// What the lines that were read rest on: each on those before it in its branch that made what it asks for.
 #[derive(Drop)]
 pub(crate) struct Support {
-    path: Path,
-    // Of each line whether it stays in any case, and where the lines begin that it rests on.
-    stays: Vec<bool>,
-    begins: Vec<usize>,
-    supporters: Vec<u32>,
-    // Which line made what a line may ask for, but for edges.
-    made: IndexMap<Premise, u32>,
-    // The place of the latest link between two nodes.
-    edges: IndexMap<Premise, usize>,
-    links: Vec<Link>,
-    joins: Vec<Join>,
+    pub(crate) alloc: Global,
+    pub(crate) path: Path,
+    pub(crate) supporters: Supporters,
+    // Which entry made what a line may ask for, but for edges and joins.
+    pub(crate) made: IndexMap<Premise, u32>,
+    // Edges by their two nodes, and joins by either node.
+    pub(crate) edges: Chains,
+    pub(crate) joins: Chains,
 }
 
 impl Support {
     pub(crate) fn new(alloc: Global) -> Support {
         Support {
+            alloc,
             path: Path::new(alloc),
-            stays: Vec::new(alloc),
-            begins: Vec::new(alloc),
-            supporters: Vec::new(alloc),
+            supporters: Supporters::new(alloc),
             made: IndexMap::new(alloc),
-            edges: IndexMap::new(alloc),
-            links: Vec::new(alloc),
-            joins: Vec::new(alloc),
+            edges: Chains::new(alloc),
+            joins: Chains::new(alloc),
         }
     }
 
     /// Reads a line with these premises, which leaves this of its branch.
     pub(crate) fn put(&mut self, premises: &[Premise], outcome: &Outcome) -> Result<(), NoMemory> {
-        self.begins.push(self.supporters.len())?;
+        self.supporters.begin(true, stays(outcome))?;
         for premise in premises {
             self.rest_on(*premise)?;
         }
-        let line = self.path.put_line()?;
+        let line = self.path.put()?;
         match outcome {
-            Outcome::Closed => {
-                self.stays.push(true)?;
-                self.path.close();
-                Ok(())
-            }
-            Outcome::Started(nodes) => {
-                self.stays.push(true)?;
-                self.make_first(line, *nodes)
-            }
-            Outcome::More(facts) => {
-                self.stays.push(false)?;
-                self.make_all(line, facts)
-            }
-            Outcome::Nodes(nodes) => {
-                self.stays.push(false)?;
-                self.make_nodes(line, *nodes)
-            }
+            Outcome::Closed => self.turn(),
+            Outcome::Started(nodes) => self.make_first(line, *nodes),
+            Outcome::More(facts) => self.make_all(line, facts),
+            Outcome::Nodes(nodes) => self.make_nodes(line, *nodes),
             Outcome::Branches(facts) => {
-                self.stays.push(true)?;
-                self.path.branch_out(facts.len())
+                self.path.branch_out(facts)?;
+                self.turn()
             }
         }
     }
 
     /// Of each line that was read whether a branching or the end of a branch rests on it, by whichever lines between.
-    pub(crate) fn needed(self) -> Vec<bool> {
+    ///
+    /// # Errors
+    ///
+    /// Out of memory.
+    pub(crate) fn needed(self) -> Result<Vec<bool>, NoMemory> {
         let Support {
-            mut stays,
-            begins,
+            alloc,
             supporters,
             ..
         } = self;
-        let mut end = supporters.len();
-        for step in 0..begins.len() {
-            let line = begins.len() - 1 - step;
-            let begin = begins[line];
-            if stays.get(line) == Some(&true) {
-                keep_all(&mut stays, &supporters, begin, end);
-            }
-            end = begin;
-        }
-        stays
+        supporters.needed(alloc)
     }
 
-    // Rests on the lines that made what is asked for.
-    fn rest_on(&mut self, premise: Premise) -> Result<(), NoMemory> {
-        match premise {
-            Premise::Edge(..) => self.rest_on_edges(premise),
-            Premise::Has(node, number) => {
-                if !self.rest_on_made(premise)? {
-                    self.rest_on_joined(node, number)?;
-                }
-                Ok(())
+    // Goes on with the next branch that waits, if there is one. Its beginning makes the fact that it has of its own.
+    fn turn(&mut self) -> Result<(), NoMemory> {
+        match self.path.turn() {
+            Some(fact) => {
+                self.supporters.begin(false, true)?;
+                let branch = self.path.put()?;
+                self.make_fact(branch, fact)
             }
-            Premise::Node(_) | Premise::Apart(..) => {
-                self.rest_on_made(premise)?;
-                Ok(())
-            }
+            None => Ok(()),
         }
     }
 
-    // Rests on the line that made the premise, if there is one on the path.
-    fn rest_on_made(&mut self, premise: Premise) -> Result<bool, NoMemory> {
-        match self.maker(premise) {
-            Some(line) => {
-                self.supporters.push(line)?;
-                Ok(true)
-            }
-            None => Ok(false),
-        }
-    }
-
-    fn maker(&self, premise: Premise) -> Option<u32> {
+    /// The entry on the path that made the premise.
+    pub(crate) fn maker(&self, premise: Premise) -> Option<u32> {
         match self.made.get(&premise) {
-            Some(line) => {
-                if self.path.has(*line) {
-                    Some(*line)
+            Some(entry) => {
+                if self.path.has(*entry) {
+                    Some(*entry)
                 } else {
                     None
                 }
@@ -145,81 +91,34 @@ impl Support {
         }
     }
 
-    // Rests on a line that gave the concept to a node that is joined with this one.
-    fn rest_on_joined(&mut self, node: u32, number: u32) -> Result<(), NoMemory> {
-        for place in 0..self.joins.len() {
-            match self.joins.get(place).copied() {
-                Some(join) => self.rest_on_other(node, number, join)?,
-                None => {}
-            }
-        }
-        Ok(())
-    }
-
-    // The same for one of the lines that joined nodes, if it is on the path.
-    fn rest_on_other(&mut self, node: u32, number: u32, join: Join) -> Result<(), NoMemory> {
-        if !self.path.has(join.line) {
-            return Ok(());
-        }
-        if join.first == node {
-            self.supporters.push(join.line)?;
-            self.rest_on_made(Premise::Has(join.second, number))?;
-        }
-        if join.second == node {
-            self.supporters.push(join.line)?;
-            self.rest_on_made(Premise::Has(join.first, number))?;
-        }
-        Ok(())
-    }
-
-    // Rests on all lines that made an edge between the nodes, since the premise does not tell its role.
-    fn rest_on_edges(&mut self, premise: Premise) -> Result<(), NoMemory> {
-        let mut place = self.edges.get(&premise).copied();
-        for _ in 0..self.links.len() {
-            let Some(at) = place else { return Ok(()) };
-            let Some(link) = self.links.get(at).copied() else {
-                return Ok(())
-            };
-            if self.path.has(link.line) {
-                self.supporters.push(link.line)?;
-            }
-            place = link.before;
-        }
-        Ok(())
-    }
-
-    // Notes that the line made something, unless a line on the path made it before.
-    fn make(&mut self, line: u32, premise: Premise) -> Result<(), NoMemory> {
+    // Notes that the entry made something, unless one on the path made it before.
+    fn make(&mut self, entry: u32, premise: Premise) -> Result<(), NoMemory> {
         if self.maker(premise).is_none() {
-            self.made.insert(premise, line)?;
+            self.made.insert(premise, entry)?;
         }
         Ok(())
     }
 
-    fn make_edge(&mut self, line: u32, from: u32, to: u32) -> Result<(), NoMemory> {
-        let premise = Premise::Edge(from, to);
-        let before = self.edges.get(&premise).copied();
-        let place = self.links.len();
-        self.links.push(Link { line, before })?;
-        self.edges.insert(premise, place)?;
-        Ok(())
+    fn make_edge(&mut self, entry: u32, from: u32, to: u32) -> Result<(), NoMemory> {
+        self.edges
+            .put(&self.path, Premise::Edge(from, to), entry, to)
     }
 
-    fn make_fact(&mut self, line: u32, fact: Fact<u32>) -> Result<(), NoMemory> {
+    fn make_join(&mut self, entry: u32, first: u32, second: u32) -> Result<(), NoMemory> {
+        self.joins
+            .put(&self.path, Premise::Node(first), entry, second)?;
+        self.joins
+            .put(&self.path, Premise::Node(second), entry, first)
+    }
+
+    fn make_fact(&mut self, entry: u32, fact: Fact<u32>) -> Result<(), NoMemory> {
         match fact {
-            Fact::Has(node, number) => self.make(line, Premise::Has(node, number)),
-            Fact::Edge(_, from, to) => self.make_edge(line, from, to),
+            Fact::Has(node, number) => self.make(entry, Premise::Has(node, number)),
+            Fact::Edge(_, from, to) => self.make_edge(entry, from, to),
             Fact::Apart(first, second) => {
-                self.make(line, Premise::Apart(first.min(second), first.max(second)))
+                self.make(entry, Premise::Apart(first.min(second), first.max(second)))
             }
-            Fact::Same(first, second) => {
-                self.joins.push(Join {
-                    line,
-                    first,
-                    second,
-                })?;
-                Ok(())
-            }
+            Fact::Same(first, second) => self.make_join(entry, first, second),
         }
     }
 
@@ -259,18 +158,10 @@ impl Support {
     }
 }
 
-// Keeps the lines that stand in a list from one place to before another.
-fn keep_all(stays: &mut Vec<bool>, lines: &[u32], begin: usize, end: usize) {
-    for place in begin..end {
-        match lines.get(place) {
-            Some(line) => keep(stays, *line as usize),
-            None => {}
-        }
-    }
-}
-
-fn keep(stays: &mut Vec<bool>, line: usize) {
-    if line < stays.len() {
-        stays[line] = true;
+// Whether a line that leaves this of its branch stays in any case.
+fn stays(outcome: &Outcome) -> bool {
+    match outcome {
+        Outcome::Closed | Outcome::Started(_) | Outcome::Branches(_) => true,
+        Outcome::More(_) | Outcome::Nodes(_) => false,
     }
 }

@@ -18,6 +18,8 @@ pub enum Premise {
     Edge(u32, u32),
     /// Two nodes that differ, the smaller one first.
     Apart(u32, u32),
+    /// Two nodes that are one.
+    Same(u32, u32),
 }
 
 impl<'a> Rules<'a> {
@@ -48,8 +50,15 @@ impl<'a> Rules<'a> {
             }
             Line::Range(node, end, _) => put_edge(*node, *end, premises),
             Line::Choose(node, _) => put_node(*node, premises),
-            Line::Pair(first, second) => put_apart(*first, *second, premises),
-            Line::Differ(first, second) => put_apart(*first, *second, premises),
+            Line::Pair(first, second) => {
+                put_node(*first, premises)?;
+                put_node(*second, premises)
+            }
+            Line::Differ(first, second) => {
+                put_apart(*first, *second, premises)?;
+                premises.push(Premise::Same(*first, *second))?;
+                Ok(())
+            }
             Line::Bottom(node) => put_has(*node, self.bottom(), premises),
             Line::Clash(node, concept) => self.put_clash(*node, *concept, premises),
             Line::Most(node, concept, ends) => {
@@ -135,7 +144,9 @@ impl<'a> Rules<'a> {
         match self.number(concept) {
             Some(number) => match self.shape(number) {
                 Shape::Max(_, _, filler) => Some(filler),
-                _ => None,
+                Shape::Top | Shape::Bottom | Shape::Name(_) | Shape::NotName(_) => None,
+                Shape::And(_) | Shape::Or(_) | Shape::SomeOf(..) | Shape::AllOf(..) => None,
+                Shape::Min(..) => None,
             },
             None => None,
         }

@@ -1,6 +1,6 @@
 use Rattle.refutation_rules.specs.RuleLine.{line_of}
-use Rattle.refutation_check.proofs.Steps.{move, ready, left_ok}
-use Rattle.refutation_check.proofs.lines.step.Goals as goal
+use Rattle.refutation_check.proofs.Steps.{move, ready, left_if}
+use Rattle.refutation_check.proofs.lines.advance.Goals as goal
 
 pub put-requires-clause-ready : goal.put-requires-clause-ready
 put-requires-clause-ready c =
@@ -25,4 +25,4 @@ returns-clause-left c =
     let moved =
     move f g o line out c.branch-stack.result.now c.is_closed.result c.is_closed.ensures c.if-is_closed.false
     c.branch-stack.ensures c.requires left.same left.kept left.outcome.children left.outcome.fit in
-    left_ok f g o line out c.put.result c.put.new.stack moved c.put.ensures
+    left_if f g o line out c.put.new.stack moved c.in_ok-put.ensures
