@@ -1,11 +1,12 @@
 -- What is made of lines that close everything.
-use Rattle.std.proofs.Common.{◌≡◌, ℕ, ◌&&◌, ◌||◌, ◌<◌, ◌^◌, arith, Bool, true, List, [], ◌∷◌, map, length, refl, ap}
+use Rattle.std.proofs.Common.{◌≡◌, ℕ, ◌&&◌, ◌||◌, ◌<◌, ◌^◌, arith, Bool, true, not, List, [], ◌∷◌, map, length, refl, ap}
 use Rattle.std.proofs.Common.{sym, ◌∙◌, subst}
 use Rattle.std.specs.List.{list_any, list_all}
 use Rattle.std.specs.FinSet as sets
+use Rattle.std.specs.Cmp.{nat_cmp_total}
 use Rattle.std.proofs.lemmas.Bool.{and_parts, and_from}
 use Rattle.std.proofs.lemmas.List.Elements.{All-tail}
-use Rattle.lane_sieve.specs.Sets.{IsPart}
+use Rattle.lane_sieve.specs.Sets.{NumberSet, IsPart}
 use Rattle.axiom_sets.specs.Sets.{Limited, IsWithin, member_list}
 use Rattle.shq_terms.specs.declared.axioms.Numbered.{Numbered}
 use Rattle.shq_terms.specs.declared.axioms.Query.{Query}
@@ -30,7 +31,7 @@ use Rattle.search_trace.proofs.Named.{same_run}
 use Rattle.closed_search.specs.Finished.{IsNumbered}
 use Rattle.search_trace.specs.Trace.{TraceLists, lines_in}
 use Rattle.closed_search.specs.Refuted.{concept_is_listed, uses_names, CloseAll, IsWrittenRefutation}
-use Rattle.closed_search.specs.Named.{uses_axiom, is_role_number, names_axiom, NamesAxioms}
+use Rattle.closed_search.specs.Named.{uses_axiom, is_role_number, names_axiom, NamesAxioms, NamesNoOther}
 use Rattle.closed_search.proofs.SameTheory.{ask_the_same, have_same_parts}
 use Rattle.closed_search.proofs.Listed.{have_parts, shapes_listed, lines_listed, concepts_listed}
 use Rattle.closed_search.proofs.Nodes.{closing_has_nodes, have_nodes}
@@ -72,11 +73,41 @@ numbered_names axioms set named table lines r h is =
     subst (NamesAxioms axioms set r.lines) (sym is.axioms_are)
     (record { limit = h.limit; members = λ k. h.members k ∙ same k })
 
+pub no_others_named : (axioms : List Numbered) (set : Limited) (lines : List Line) (named : Limited)
+    → NamesAxioms axioms set lines named → NamesNoOther axioms set lines named
+no_others_named axioms set lines named h =
+    record { limit = h.limit; no_other = λ k member. sym (h.members k) ∙ member }
+
+-- also when some are taken out
+pub fewer_named : (axioms : List Numbered) (set : Limited) (lines : List Line) (old idle new : Limited)
+    → NamesAxioms axioms set lines old → new.limit ≡ old.limit → new.members ≡ sets.difference old.members idle.members
+    → NamesNoOther axioms set lines new
+fewer_named axioms set lines old idle new h limit is = record {
+  limit = limit ∙ h.limit;
+  no_other = λ k member.
+      let left : (sets.contains old.members k && not (sets.contains idle.members k)) ≡ true =
+      sym (sets.contains-difference nat_cmp_total old.members idle.members k)
+      ∙ ap (λ (s : NumberSet). sets.contains s k) (sym is) ∙ member in
+      sym (h.members k) ∙ (and_parts (sets.contains old.members k) (not (sets.contains idle.members k)) left).0;
+}
+
+-- the same of the lines as they are numbered
+pub no_others_numbered : (axioms : List Numbered) (set named : Limited) (table : List Shape) (lines : List Line)
+    (r : RefutationLists)
+    → NamesNoOther axioms set lines named → IsNumbered table named lines r
+    → NamesNoOther axioms set r.lines r.axioms
+no_others_numbered axioms set named table lines r h is =
+    let same : (k : ℕ) → names_axiom axioms set.members lines k ≡ names_axiom axioms set.members r.lines k =
+    λ k. ap (λ (b : Bool). sets.contains set.members k && (is_role_number axioms k || b))
+    (sym (ap (list_any (uses_axiom k)) is.lines_are ∙ same_axioms is.number' k lines)) in
+    subst (NamesNoOther axioms set r.lines) (sym is.axioms_are)
+    (record { limit = h.limit; no_other = λ k member. sym (same k) ∙ h.no_other k member })
+
 pub named_are_part : (axioms : List Numbered) (set : Limited) (lines : List Line) (named : Limited)
-    → NamesAxioms axioms set lines named → IsPart named.members set.members
+    → NamesNoOther axioms set lines named → IsPart named.members set.members
 named_are_part axioms set lines named h k member =
     (and_parts (sets.contains set.members k) (is_role_number axioms k || list_any (uses_axiom k) lines)
-    (sym (h.members k) ∙ member)).0
+    (h.no_other k member)).0
 
 -- ---- validity
 
@@ -101,7 +132,7 @@ closed_refutes o query set table named ls r limit is names close =
 
 -- ---- names
 
-module _ (o : Listed) (set named : Limited) (table : List Shape) (lines : List Line) (r : RefutationLists)
+module _ (o : Listed) (named : Limited) (table : List Shape) (lines : List Line) (r : RefutationLists)
     (is : IsNumbered table named lines r) (used : list_all (uses_names o table) lines ≡ true) (is_table : IsTable table)
     (kept : IsKept r.shapes r.lines) where
   pub names_listed : names_are_listed o r ≡ true
@@ -111,27 +142,32 @@ module _ (o : Listed) (set named : Limited) (table : List Shape) (lines : List L
       (is.kinds (concept_is_listed o table) (have_parts o table is_table) (concepts_listed o table lines used)))
       (ap (list_all (line_is_listed o)) is.lines_are ∙ lines_listed o table is.number' lines used)
 
-  pub writable : NamesAxioms o.axioms set r.lines r.axioms → IsWithin r.axioms.limit r.axioms.members
+  pub writable : named.limit ≡ length o.axioms → IsWithin r.axioms.limit r.axioms.members
       → r.axioms.limit < 2 ^ 32 → list_all is_small r.lines ≡ true → list_all has_nodes lines ≡ true → IsWritable o r
-  writable names within few small nodes = record {
-    kept = kept;
-    limit = names.limit;
-    within = within;
-    few_axioms = omega (arith, names.limit, few);
-    listed = names_listed;
-    have_nodes = ap (list_all has_nodes) is.lines_are ∙ have_nodes is.number' lines nodes;
-    are_small = small;
-  }
-
-  pub written : set.limit ≡ length o.axioms → NamesAxioms o.axioms set r.lines r.axioms
-      → IsWithin r.axioms.limit r.axioms.members → r.axioms.limit < 2 ^ 32 → list_all is_small r.lines ≡ true
-      → (trace : TraceLists) → lines ≡ start_line ∷ lines_in trace → (query : Query)
-      → CloseAll o set table query trace.lines → IsWrittenRefutation o query r
-  written limit names within few small trace begins query close =
-      let asked = question_in o (member_list set) query in
-      let plain = subst (λ (ls : List Line). IsNumbered table named ls r) begins is in
-      let nodes = closing_has_nodes asked (concept_in table) trace.lines (start_of asked ∷ []) [] close.closes in
+  writable limit within few small nodes =
+      let same : r.axioms.limit ≡ length o.axioms = ap (λ (s : Limited). s.limit) is.axioms_are ∙ limit in
       record {
-        refutes = closed_refutes o query set table named trace.lines r limit plain names close;
-        writable = writable names within few small (ap (list_all has_nodes) begins ∙ nodes);
+        kept = kept;
+        limit = same;
+        within = within;
+        few_axioms = omega (arith, same, few);
+        listed = names_listed;
+        have_nodes = ap (list_all has_nodes) is.lines_are ∙ have_nodes is.number' lines nodes;
+        are_small = small;
       }
+
+pub written : (o : Listed) (set named : Limited) (table : List Shape) (lines : List Line) (r : RefutationLists)
+    → IsNumbered table named lines r → set.limit ≡ length o.axioms → NamesAxioms o.axioms set lines named
+    → (list_all has_nodes lines ≡ true → IsWritable o r)
+    → (trace : TraceLists) → lines ≡ start_line ∷ lines_in trace → (query : Query)
+    → CloseAll o set table query trace.lines → IsWrittenRefutation o query r
+written o set named table lines r is limit names writes trace begins query close =
+    let asked = question_in o (member_list set) query in
+    let plain = subst (λ (ls : List Line). IsNumbered table named ls r) begins is in
+    let nodes = closing_has_nodes asked (concept_in table) trace.lines (start_of asked ∷ []) [] close.closes in
+    record {
+      refutes =
+          closed_refutes o query set table named trace.lines r limit plain
+          (numbered_names o.axioms set named table lines r names is) close;
+      writable = writes (ap (list_all has_nodes) begins ∙ nodes);
+    }

@@ -1,5 +1,5 @@
 -- The axioms that a refutation names: of those of a set, the role axioms and those that stand in its lines.
-use Rattle.std.specs.Prelude.{◌≡◌, ℕ, ◌-◌, ◌==◌, ◌&&◌, ◌||◌, Bool, false, List, length, Option, Some, None, slice_get}
+use Rattle.std.specs.Prelude.{◌≡◌, ℕ, ◌-◌, ◌==◌, ◌&&◌, ◌||◌, Bool, true, false, List, length, Option, Some, None, slice_get}
 use Rattle.std.specs.List.{list_any}
 use Rattle.std.specs.FinSet as sets
 use Rattle.lane_sieve.specs.Sets.{NumberSet}
@@ -54,6 +54,11 @@ names_axiom axioms members lines k =
 pub record NamesAxioms (axioms : List Numbered) (set : Limited) (lines : List Line) (named : Limited) : Type 0 where
   pub limit : named.limit ≡ length axioms
   pub members : (k : ℕ) → sets.contains named.members k ≡ names_axiom axioms set.members lines k
+
+-- it names no other axiom than such, though it may lack some
+pub record NamesNoOther (axioms : List Numbered) (set : Limited) (lines : List Line) (named : Limited) : Type 0 where
+  pub limit : named.limit ≡ length axioms
+  pub no_other : (k : ℕ) → sets.contains named.members k ≡ true → names_axiom axioms set.members lines k ≡ true
 
 -- ---- while they are put in
 

@@ -10,15 +10,15 @@ use Rattle.calculus_specs.specs.Valid.{IsRefutation}
 use Rattle.refutation_truth.specs.Theory.{question_in}
 use Rattle.search_trace.specs.RefutationLists.{RefutationLists}
 use Rattle.search_trace.specs.ReadBack.{IsWritable}
-use Rattle.closed_search.specs.Named.{NamesAxioms}
+use Rattle.closed_search.specs.Named.{NamesNoOther}
 
 -- what holds of each of all lines, holds of each of some
 abbrev pub AreAmong : List Line → List Line → Type 0
 AreAmong all some = (test : Line → Bool) → list_all test all ≡ true → list_all test some ≡ true
 
--- it can be written; of the set it names the role axioms, and those others alone that stand in its lines
+-- it can be written; of the set it names role axioms alone, and axioms that stand in its lines
 pub record IsOver (o : Listed) (set : Limited) (r : RefutationLists) : Type 0 where
-  pub axioms : NamesAxioms o.axioms set r.lines r.axioms
+  pub axioms : NamesNoOther o.axioms set r.lines r.axioms
   pub part : IsPart r.axioms.members set.members
   pub writable : IsWritable o r
 

@@ -1,7 +1,8 @@
 //! The refutation of a search that has closed.
 //!
-//! It names what its lines rest on and no more: of the axioms of the set, the role axioms, by which lines test roles,
-//! and those that stand in a line. So it tells which axioms an entailment was found to follow from.
+//! It names what its lines rest on, of the axioms of the set: those that stand in a line, and role axioms, by which
+//! lines test roles. So it tells which axioms an entailment was found to follow from. Lines on which nothing rests are
+//! left out, and role axioms that lead between no two roles of which the lines speak.
 //!
 //! Its concepts are numbered anew (`finished`), so that it costs what its lines name, and not what the search's table
 //! holds.
@@ -9,6 +10,8 @@
 
 mod copying;
 mod finished;
+mod gathering;
+mod idle_roles;
 mod naming;
 mod numbering;
 mod refuting;

@@ -6,26 +6,26 @@ ghost use Rattle.lane_sieve.specs.Sets.{IsPart};
 ghost use Rattle.calculus_specs.specs.Line.Line.{start_line};
 ghost use Rattle.refutation_check.specs.Limits.{IsInLimit};
 ghost use Rattle.search_trace.specs.Written.{names_are_listed};
-ghost use Rattle.closed_search.specs.Finished.{are_over};
 ghost use Rattle.search_trace.specs.RuleLine.{line_of};
 ghost use Rattle.search_trace.specs.Trace.{TraceLists, lines_in};
-ghost use Rattle.closed_search.specs.Named.{NamesAxioms};
+ghost use Rattle.closed_search.specs.Finished.{are_over, IsNumbered};
+ghost use Rattle.closed_search.specs.Named.{NamesAxioms, NamesNoOther};
 ghost use Rattle.closed_search.specs.Refuted.{uses_names, CloseAll, IsWrittenRefutation};
 
 use crate::copying::copies;
+use crate::gathering::refutation_by;
 use crate::naming::axioms_named;
 use crate::shortening::shorter;
-use crate::small::show_small;
-use crate::{NoMemory, Refutation, Trace, numbered_refutation};
+use crate::{NoMemory, Refutation, Trace};
 use axiom_sets::AxiomSet;
-use refutation_truth::Concepts;
+use refutation_truth::{Concepts, RoleBox};
 use search_trace::Line;
 use shq_terms::{Ontology, Query};
 use std::alloc::Global;
 
 /// A refutation of the query by lines of a search over a set of axioms, where these close everything: by those on which
-/// the ends of the branches rest, or by all. It names the role axioms of the set, and the others that stand in its
-/// lines. The concepts of the lines are numbers of the table.
+/// the ends of the branches rest, or by all. Of the set it names role axioms alone, and axioms that stand in its lines.
+/// The concepts of the lines are numbers of the table, and `roles` is the role box of the set.
 ///
 /// # Errors
 ///
@@ -37,12 +37,13 @@ pub fn refutation_of(
     set: &AxiomSet,
     query: &Query,
     concepts: &Concepts,
+    roles: &RoleBox,
 ) -> Result<Refutation, NoMemory>
     requires set { set.now.limit ≡ length ontology.now.axioms }
     requires in_limit { IsInLimit ontology.now query.now }
     requires over { are_over (length concepts.now) (lines_in trace) ≡ true }
     requires listed { list_all (uses_names ontology.now concepts.now) (lines_in trace) ≡ true }
-    ensures axioms { IfOk result (λ r. NamesAxioms ontology.now.axioms set.now r.lines r.axioms) }
+    ensures axioms { IfOk result (λ r. NamesNoOther ontology.now.axioms set.now r.lines r.axioms) }
     ensures part { IfOk result (λ r. IsPart r.axioms.members set.now.members) }
     ensures listed { IfOk result (λ r. IsTrue (names_are_listed ontology.now r)) }
     ensures refutes { IfOk result (λ r. CloseAll ontology.now set.now concepts.now query.now trace.lines
@@ -50,13 +51,14 @@ pub fn refutation_of(
 {
     let lines = trace.into_lines(alloc)?;
     let whole = whole(alloc, copies(alloc, &lines)?, ontology, set, concepts)?;
-    match shorter(alloc, &lines, ontology, set, query, concepts, &whole)? {
+    let found = shorter(alloc, &lines, ontology, set, query, concepts, roles, &whole)?;
+    match found {
         Some(found) => Ok(found),
         None => Ok(whole),
     }
 }
 
-// The refutation of all lines of a trace.
+// The refutation of all lines of a trace, over all role axioms of the set.
 fn whole(
     alloc: Global,
     lines: Vec<Line>,
@@ -67,18 +69,14 @@ fn whole(
     requires set { set.now.limit ≡ length ontology.now.axioms }
     requires over { are_over (length concepts.now) (map line_of lines.items) ≡ true }
     requires listed { list_all (uses_names ontology.now concepts.now) (map line_of lines.items) ≡ true }
-    ensures axioms { IfOk result (λ r. NamesAxioms ontology.now.axioms set.now r.lines r.axioms) }
+    ensures axioms { IfOk result (λ r. NamesNoOther ontology.now.axioms set.now r.lines r.axioms) }
     ensures part { IfOk result (λ r. IsPart r.axioms.members set.now.members) }
     ensures listed { IfOk result (λ r. IsTrue (names_are_listed ontology.now r)) }
     ensures refutes { IfOk result (λ r. (trace : TraceLists) → map line_of lines.items ≡ start_line ∷ lines_in trace
         → (query : Asked) → CloseAll ontology.now set.now concepts.now query trace.lines
         → IsWrittenRefutation ontology.now query r) }
 {
-    let _ = concepts.len();
     let named = axioms_named(alloc, ontology, set, &lines)?;
-    let refutation = numbered_refutation(alloc, named, concepts, lines)?;
-    let _ = refutation.shape_count();
-    let _ = refutation.axioms_used().limit();
-    show_small(refutation.lines());
+    let refutation = refutation_by(alloc, lines, ontology, named, concepts)?;
     Ok(refutation)
 }

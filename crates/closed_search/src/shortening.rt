@@ -9,20 +9,20 @@ ghost use Rattle.closed_search.specs.Refuted.{uses_names};
 ghost use Rattle.closed_search.specs.Shorter.{IsOver, IsShorter};
 
 use crate::copying::kept_lines;
+use crate::gathering::refutation_by;
+use crate::idle_roles::idle_role_axioms;
 use crate::naming::axioms_named;
-use crate::small::show_small;
-use crate::{NoMemory, Refutation, numbered_refutation};
+use crate::{NoMemory, Refutation};
 use axiom_sets::AxiomSet;
 use refutation_check::{Verdict, check, needed_lines};
-use refutation_truth::Concepts;
+use refutation_truth::{Concepts, RoleBox};
 use search_trace::Line;
 use shq_terms::{Ontology, Query};
 use std::alloc::Global;
 
 const MOST_LINES: usize = 4294967293;
 
-/// The refutation of those lines of the whole one on which the ends of its branches rest, if it is shorter and valid.
-/// Where nodes are joined it may not be valid.
+/// The refutation of those lines of the whole one on which the ends of its branches rest, if it is valid.
 ///
 /// # Errors
 ///
@@ -34,6 +34,7 @@ pub(crate) fn shorter(
     set: &AxiomSet,
     query: &Query,
     concepts: &Concepts,
+    roles: &RoleBox,
     whole: &Refutation,
 ) -> Result<Option<Refutation>, NoMemory>
     requires set { set.now.limit ≡ length ontology.now.axioms }
@@ -47,20 +48,21 @@ pub(crate) fn shorter(
     }
     let keep = needed_lines(alloc, ontology, set, query, whole)?;
     let kept = kept_lines(alloc, lines, &keep)?;
-    if kept.len() == lines.len() || !have_nodes(&kept) {
+    if !have_nodes(&kept) {
         return Ok(None);
     }
-    let found = of_lines(alloc, kept, ontology, set, concepts)?;
+    let found = of_lines(alloc, kept, ontology, set, concepts, roles)?;
     if_valid(alloc, ontology, set, query, found)
 }
 
-// The refutation of the lines, whether it is valid or not.
+// The refutation of the lines, each of which has its nodes, without the role axioms on which they do not rest.
 fn of_lines(
     alloc: Global,
     lines: Vec<Line>,
     ontology: &Ontology,
     set: &AxiomSet,
     concepts: &Concepts,
+    roles: &RoleBox,
 ) -> Result<Refutation, NoMemory>
     requires set { set.now.limit ≡ length ontology.now.axioms }
     requires over { are_over (length concepts.now) (map line_of lines.items) ≡ true }
@@ -68,12 +70,10 @@ fn of_lines(
     requires nodes { list_all has_nodes (map line_of lines.items) ≡ true }
     ensures { IfOk result (IsOver ontology.now set.now) }
 {
-    let _ = concepts.len();
-    let named = axioms_named(alloc, ontology, set, &lines)?;
-    let refutation = numbered_refutation(alloc, named, concepts, lines)?;
-    let _ = refutation.shape_count();
-    let _ = refutation.axioms_used().limit();
-    show_small(refutation.lines());
+    let idle = idle_role_axioms(alloc, &lines, ontology, set, concepts, roles)?;
+    let mut named = axioms_named(alloc, ontology, set, &lines)?;
+    named.take_all(&idle);
+    let refutation = refutation_by(alloc, lines, ontology, named, concepts)?;
     Ok(refutation)
 }
 

@@ -9,6 +9,7 @@ ghost use Rattle.shq_terms.specs.Concept.{name};
 use crate::reading::read;
 use axiom_sets::AxiomSet;
 use closed_search::{Line, Refutation, Trace, refutation_of};
+use ontology_limits::RoleBox;
 use search_trace::Deps;
 use shq_nnf::{Concepts, Shape};
 use shq_terms::{NoMemory, NumberList, Ontology, Query};
@@ -69,13 +70,14 @@ fn refutation(
 {
     let set = AxiomSet::full(alloc, ontology.axiom_count())?;
     let trace = closed_trace(alloc, class)?;
-    refutation_of(alloc, trace, ontology, &set, query, concepts)
+    let roles = RoleBox::build(alloc, ontology, &[])?;
+    refutation_of(alloc, trace, ontology, &set, query, concepts, &roles)
 }
 
 fn are_used(refutation: &Refutation) -> bool {
     let mut numbers = refutation.axioms_used().numbers();
     let mut are_so = true;
-    for wanted in [Some(1), Some(3), None] {
+    for wanted in [Some(1), None] {
         are_so &= numbers.next() == wanted;
     }
     are_so

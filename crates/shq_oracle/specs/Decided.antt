@@ -6,7 +6,7 @@ use Rattle.shq_terms.specs.Listed.{Listed}
 use Rattle.shq_terms.specs.declared.axioms.Query.{Query}
 use Rattle.calculus_specs.specs.Valid.{IsRefutation}
 use Rattle.run_log.specs.Theory.{question_in}
-use Rattle.tableau.specs.Named.{NamesAxioms}
+use Rattle.tableau.specs.Named.{NamesNoOther}
 use Rattle.tableau.specs.RefutationLists.{RefutationLists}
 use Rattle.tableau.specs.ReadBack.{IsWritable}
 use Rattle.model_builder.specs.ModelLists.{ModelLists, meaning}
@@ -34,11 +34,11 @@ use Rattle.shq_oracle.specs.declared.tested.Tested.{Tested}
 use Rattle.shq_oracle.specs.OracleLists.{OracleLists}
 use Rattle.shq_oracle.specs.ApartLists.{ApartLists, AreApart, IsAbout, entry_of}
 
--- a refutation of the query over axioms of the set, which it names, and which can be written; of the set it names the
--- role axioms, and those others alone that stand in its lines
+-- a refutation of the query over axioms of the set, which it names, and which can be written; of the set it names role
+-- axioms alone, and axioms that stand in its lines
 pub record IsProof (o : Listed) (s : Limited) (q : Query) (r : RefutationLists) : Type 0 where
   pub named : IsPart r.axioms.members s.members
-  pub standing : NamesAxioms o.axioms s r.lines r.axioms
+  pub standing : NamesNoOther o.axioms s r.lines r.axioms
   pub refutes : IsRefutation (question_in o (member_list r.axioms) q) r.shapes r.lines
   pub writable : IsWritable o r
 

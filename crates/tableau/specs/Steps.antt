@@ -22,17 +22,17 @@ use Rattle.tableau.specs.declared.search.Event.{Event}
 use Rattle.tableau.specs.declared.search.Event.TheVariants.{Moved, Saturated, Closed}
 use Rattle.tableau.specs.declared.search.End.{End}
 use Rattle.tableau.specs.declared.search.End.TheVariants.{Saturated as RunSaturated, Closed as RunClosed, Spent}
-use Rattle.closed_search.specs.Named.{NamesAxioms}
+use Rattle.closed_search.specs.Named.{NamesNoOther}
 use Rattle.tableau.specs.SearchState.{SearchState, context_of, trail_of}
 
 -- ---- refutations
 
--- it is a valid refutation of the query over axioms of the set, which can be written; of the set it names the role
--- axioms, and those others alone that stand in its lines
+-- it is a valid refutation of the query over axioms of the set, which can be written; of the set it names role axioms
+-- alone, and axioms that stand in its lines
 pub record Refutes (rules : RuleLists) (query : Query) (r : RefutationLists) : Type 0 where
   pub limit : r.axioms.limit ≡ length rules.ontology.axioms
   pub named : IsPart r.axioms.members rules.set.members
-  pub standing : NamesAxioms rules.ontology.axioms rules.set r.lines r.axioms
+  pub standing : NamesNoOther rules.ontology.axioms rules.set r.lines r.axioms
   pub refutes : IsRefutation (question_in rules.ontology (member_list r.axioms) query) r.shapes r.lines
   pub writable : IsWritable rules.ontology r
 

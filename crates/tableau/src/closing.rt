@@ -29,5 +29,6 @@ pub(crate) fn refutation<A: Allocator + Copy>(
         rules.set(),
         query,
         rules.concepts(),
+        rules.roles(),
     )
 }

@@ -1,43 +1,33 @@
-use Rattle.std.proofs.Common.{◌≡◌, true, ◌<◌, ◌^◌, List, map, ap, subst, arith}
-use Rattle.axiom_sets.specs.Sets.{Limited, IsWithin}
-use Rattle.std.specs.List.{list_all}
-use Rattle.search_trace.specs.ReadBack.{is_small}
-use Rattle.calculus_specs.specs.Line.{Line}
+use Rattle.std.proofs.Common.{List, map, subst}
 use Rattle.search_trace.specs.Line.{Line as Kept}
 use Rattle.search_trace.specs.RuleLine.{line_of}
 use Rattle.closed_search.specs.Named.{NamesAxioms}
-use Rattle.closed_search.proofs.Refuted.{numbered_names, names_listed, named_are_part, written}
+use Rattle.closed_search.proofs.Refuted.{no_others_named, no_others_numbered, named_are_part, written}
 use Rattle.closed_search.proofs.refuting.whole.Goals as goal
 
 pub returns-clause-axioms : goal.returns-clause-axioms
 returns-clause-axioms c =
+    let axioms = c.args.ontology.now.axioms in
+    let s = c.args.set.now in
+    let lines = map line_of c.args.lines.items in
     let names =
-    subst
-    (λ (ls : List Kept). NamesAxioms c.args.ontology.now.axioms c.args.set.now (map line_of ls) c.in_ok-named.named)
-    c.deref.ensures.value c.in_ok-named.ensures in
-    numbered_names c.args.ontology.now.axioms c.args.set.now c.in_ok-named.named c.args.concepts.now
-    (map line_of c.args.lines.items) c.in_ok-refutation.refutation names c.in_ok-refutation.ensures
+    subst (λ (ls : List Kept). NamesAxioms axioms s (map line_of ls) c.in_ok-named.named) c.deref.ensures.value
+    c.in_ok-named.ensures in
+    no_others_numbered axioms s c.in_ok-named.named c.args.concepts.now lines c.in_ok-refutation.refutation
+    (no_others_named axioms s lines c.in_ok-named.named names) c.in_ok-refutation.ensures.numbered
 
 pub returns-clause-part : goal.returns-clause-part
 returns-clause-part c =
     named_are_part c.args.ontology.now.axioms c.args.set.now c.in_ok-refutation.refutation.lines
     c.in_ok-refutation.refutation.axioms (returns-clause-axioms c)
 
-pub returns-clause-listed : goal.returns-clause-listed
-returns-clause-listed c =
-    names_listed c.args.ontology.now c.args.set.now c.in_ok-named.named c.args.concepts.now
-    (map line_of c.args.lines.items) c.in_ok-refutation.refutation c.in_ok-refutation.ensures c.requires.listed
-    c.len.ensures.table c.shape_count.ensures.kept
-
 pub returns-clause-refutes : goal.returns-clause-refutes
 returns-clause-refutes c =
-    let r = c.in_ok-refutation.refutation in
-    let same = c.axioms_used.ensures in
-    let within = subst (λ (s : Limited). IsWithin s.limit s.members) same c.limit.ensures.within in
-    let few : r.axioms.limit < 2 ^ 32 =
-    omega (arith, c.limit.type_inv, c.limit.ensures.limit, ap (λ (s : Limited). s.limit) same) in
-    let small : list_all is_small r.lines ≡ true =
-    subst (λ (ls : List Line). list_all is_small ls ≡ true) c.lines.ensures.lines c.show_small.ensures in
-    written c.args.ontology.now c.args.set.now c.in_ok-named.named c.args.concepts.now
-    (map line_of c.args.lines.items) r c.in_ok-refutation.ensures c.requires.listed c.len.ensures.table
-    c.shape_count.ensures.kept c.requires.set (returns-clause-axioms c) within few small
+    let o = c.args.ontology.now in
+    let s = c.args.set.now in
+    let lines = map line_of c.args.lines.items in
+    let names =
+    subst (λ (ls : List Kept). NamesAxioms o.axioms s (map line_of ls) c.in_ok-named.named) c.deref.ensures.value
+    c.in_ok-named.ensures in
+    written o s c.in_ok-named.named c.args.concepts.now lines c.in_ok-refutation.refutation
+    c.in_ok-refutation.ensures.numbered c.requires.set names c.in_ok-refutation.ensures.writable
