@@ -48,11 +48,15 @@ node_count _ n = 1
 
 -- names of classes
 
-unfoldable pub is_thing : List ℕ → Bool
-is_thing iri = bytes_eq iri (codes "http://www.w3.org/2002/07/owl#Thing")
+-- the bytes of an IRI are these
+unfoldable pub is_spelled : List ℕ → List ℕ → Bool
+is_spelled iri word = bytes_eq iri word
 
-unfoldable pub is_nothing : List ℕ → Bool
-is_nothing iri = bytes_eq iri (codes "http://www.w3.org/2002/07/owl#Nothing")
+abbrev pub is_thing : List ℕ → Bool
+is_thing iri = is_spelled iri (codes "http://www.w3.org/2002/07/owl#Thing")
+
+abbrev pub is_nothing : List ℕ → Bool
+is_nothing iri = is_spelled iri (codes "http://www.w3.org/2002/07/owl#Nothing")
 
 -- `owl:Thing` and `owl:Nothing` are never listed
 abbrev pub listed_class : ℕ → List ℕ → List Test

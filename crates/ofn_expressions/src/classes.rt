@@ -73,7 +73,7 @@ pub fn read_class_name(
     list_class(&iri, line, state)
 }
 
-#[tactic(auto, using(crate::proofs::Cited::placing), unfolding(crate::specs::Classes::is_thing, crate::specs::Classes::is_nothing))]
+#[tactic(auto, using(crate::proofs::Cited::placing), unfolding(crate::specs::Classes::is_spelled))]
 fn list_class(iri: &str, line: u32, state: &mut Reading) -> Result<Concept, Refusal>
     ensures tests { Tested result state.old (listed_class line iri.now) state.new }
     ensures grown { Grows state.old state.new }

@@ -17,7 +17,7 @@ use Rattle.ofn_tree.specs.Items.{Item, name_item, Items, no_items, item}
 use Rattle.ofn_expressions.specs.Counts.{Counts}
 use Rattle.ofn_expressions.specs.Walk.{Test, shape, numbered, parts, walked}
 use Rattle.ofn_expressions.specs.Names.{Prefix, iri_of, full_iri}
-use Rattle.ofn_expressions.specs.Classes.{item_count, is_thing, is_nothing, role_tests, roles_tests, joined}
+use Rattle.ofn_expressions.specs.Classes.{item_count, is_spelled, role_tests, roles_tests, joined}
 use Rattle.ofn_expressions.specs.Classes.{class_tests, each_class, class_name_tests, or_zero, class_named, role_of}
 use Rattle.ofn_expressions.specs.Classes.{roles_of, cardinality_of, concept_of, concepts_of}
 use Rattle.ofn_expressions.specs.Individuals.{individual_tests, individuals_tests, individual_of, individuals_of}
@@ -410,11 +410,11 @@ module _ (ps : List Prefix) (knows : KnowsOwl ps) (o : Listed) (names : AreKnown
         (cond (names.no_nothing c less i) bottom (name (or_zero (names.class_place c less i))))
 
     thing_value : (line : ℕ) → concept_of ps s (name_item (codes "owl:Thing") line) ≡ top
-    unfolding is_thing
+    unfolding is_spelled
     thing_value line = ap (λ r. class_named s (full_iri r (codes "Thing"))) knows
 
     nothing_value : (line : ℕ) → concept_of ps s (name_item (codes "owl:Nothing") line) ≡ bottom
-    unfolding is_thing is_nothing
+    unfolding is_spelled
     nothing_value line = ap (λ r. class_named s (full_iri r (codes "Nothing"))) knows
 
     number_value : (line k : ℕ) → nat_le k 100 ≡ true → cardinality_of (name_item (decimal k) line) ≡ k

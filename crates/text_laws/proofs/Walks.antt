@@ -15,7 +15,7 @@ use Rattle.ofn_expressions.specs.Walk.{Test, shape, prefix, nodes, class, role, 
 use Rattle.ofn_expressions.specs.Walk.{counts_after, walked}
 use Rattle.ofn_expressions.specs.Names.{Prefix, prefix_iri, full_iri}
 use Rattle.ofn_expressions.specs.Constructs.{excluded_role_name}
-use Rattle.ofn_expressions.specs.Classes.{item_count, is_thing, is_nothing, listed_class, listed_role, role_tests}
+use Rattle.ofn_expressions.specs.Classes.{item_count, is_spelled, is_thing, is_nothing, listed_class, listed_role, role_tests}
 use Rattle.ofn_expressions.specs.Classes.{roles_tests, number_tests, number_tests_of, joined, class_tests, each_class}
 use Rattle.ofn_expressions.specs.Classes.{class_name_tests, place}
 use Rattle.ofn_expressions.specs.Individuals.{individual_tests, individuals_tests}
@@ -148,13 +148,13 @@ module _ (ps : List Prefix) (knows : KnowsOwl ps) (o : Listed) (names : AreKnown
 
   thing_walk : (n line : ℕ) → n + 1 ≤ 262144
       → walked (counted o a p n) (class_name_tests ps (name_item (codes "owl:Thing") line)) ≡ Ok (counted o a p (n + 1))
-  unfolding is_thing
+  unfolding is_spelled
   thing_walk n line few = owl_walk n line (codes "Thing") refl few
 
   nothing_walk : (n line : ℕ) → n + 1 ≤ 262144
       → walked (counted o a p n) (class_name_tests ps (name_item (codes "owl:Nothing") line))
       ≡ Ok (counted o a p (n + 1))
-  unfolding is_thing is_nothing
+  unfolding is_spelled
   nothing_walk n line few = owl_walk n line (codes "Nothing") refl few
 
   -- ---- groups

@@ -8,8 +8,8 @@ use Rattle.ofn_expressions.specs.Counts.{Counts}
 use Rattle.ofn_expressions.specs.Walk.{Test, shape, prefix, numbered, parts, nodes, class, role, number, walked}
 use Rattle.ofn_expressions.specs.Names.{Prefix, prefix_iri, full_iri}
 use Rattle.ofn_expressions.specs.Constructs.{excluded_role_name}
-use Rattle.ofn_expressions.specs.Classes.{is_thing, is_nothing, listed_class, listed_role, role_tests, number_tests}
-use Rattle.ofn_expressions.specs.Classes.{class_tests}
+use Rattle.ofn_expressions.specs.Classes.{is_spelled, is_thing, is_nothing, listed_class, listed_role, role_tests}
+use Rattle.ofn_expressions.specs.Classes.{number_tests, class_tests}
 use Rattle.ofn_expressions.proofs.Walks.{goes_on}
 use Rattle.ofn_reader.specs.Axioms.{axiom_tests}
 use Rattle.text_laws.proofs.Checks.{le_true}
@@ -21,11 +21,11 @@ use Rattle.workload.specs.WorkloadAxioms.{prefix_iri_of_workloads, full_name}
 -- ---- names
 
 pub no_thing : (local : List ℕ) → is_thing (full_name local) ≡ false
-unfolding full_name is_thing
+unfolding full_name is_spelled
 no_thing local = refl
 
 pub no_nothing : (local : List ℕ) → is_nothing (full_name local) ≡ false
-unfolding full_name is_nothing
+unfolding full_name is_spelled
 no_nothing local = refl
 
 no_excluded : (local : List ℕ) → excluded_role_name (full_name local) ≡ None
