@@ -5,7 +5,7 @@ use Rattle.std.specs.List.{All, Contains}
 use Rattle.axiom_sets.specs.Sets.{Limited, IsWithin}
 use Rattle.pinpointing_specs.specs.Smallest.{rest, IsMinimalYes, IsMinimalRemoval}
 use Rattle.pinpointing_specs.specs.LocalModule.{of_axioms, FollowsFrom}
-use Rattle.pinpointing_specs.proofs.Kept.{grows}
+use Rattle.pinpointing_specs.proofs.Grown.{grows}
 use Rattle.audit_check.specs.Audits.{IsAudited}
 use Rattle.audit_check.proofs.Audited.{audited_yes, audited_removals}
 use Rattle.shq_terms.specs.Listed.{Listed}

@@ -17,6 +17,7 @@ use Rattle.pinpointing_specs.specs.Local.{is_local}
 use Rattle.pinpointing_specs.specs.LocalModule.{axioms_in_set, module_names, IsLocalModule, FollowsFrom}
 use Rattle.pinpointing_specs.specs.LocalModule.{IsJustification}
 use Rattle.pinpointing_specs.proofs.Names.{names_of_query, names_of_member}
+use Rattle.pinpointing_specs.proofs.Grown.{grows}
 use Rattle.pinpointing_specs.proofs.InSet.{InSet, in_set, to_set}
 use Rattle.pinpointing_specs.proofs.Emptied.{emptied, local_is_met, same_met, same_refuted}
 
@@ -54,18 +55,6 @@ module _ (axioms : List Numbered) (q : Query) (m : NumberSet) (is_module : IsLoc
   keeps s follows i some placed met x lt =
       sym (same_refuted inside i q (names_of_query axioms q m) x)
       ∙ follows (emptied inside i) some placed (all_met s i met) x lt
-
--- what follows from axioms of a set follows from those of a larger one
-pub grows : (axioms : List Numbered) (q : Query) (s t : NumberSet) → IsPart s t → FollowsFrom axioms q s
-    → FollowsFrom axioms q t
-grows axioms q s t part follows i some placed met =
-    follows i some placed
-    (all_pass (meets i) (axioms_in_set s axioms)
-    (λ a listed.
-    let at = in_set s axioms a listed in
-    member_passes (meets i) (axioms_in_set t axioms) met a
-    (subst (λ (x : Axiom). Contains (axioms_in_set t axioms) x) at.is
-    (to_set t axioms at.place at.numbered at.is_there (part (at.place + 1) at.member)))))
 
 pub intersection_part : (s t : NumberSet) → IsPart (set.intersection s t) s
 intersection_part s t k h =

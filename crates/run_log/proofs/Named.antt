@@ -12,7 +12,7 @@ use Rattle.shq_terms.specs.declared.axioms.Axiom.{Axiom}
 use Rattle.shq_terms.specs.declared.axioms.Numbered.{Numbered}
 use Rattle.pinpointing_specs.specs.Truth.{Entails}
 use Rattle.pinpointing_specs.specs.LocalModule.{axioms_from, axioms_in_set}
-use Rattle.pinpointing_specs.proofs.Kept.{grows}
+use Rattle.pinpointing_specs.proofs.Grown.{grows}
 use Rattle.refutation_truth.specs.Theory.{axioms_in, named_axioms}
 use Rattle.run_log.specs.HonestLog.{IsAxiomSet, IsWhole, axioms_of}
 use Rattle.run_log.specs.Laws.{SetsAreNamed, WholeIsAll, FollowsInMore}

@@ -1,5 +1,5 @@
 use Rattle.std.proofs.Common.{}
-use Rattle.pinpointing_specs.proofs.Kept.{grows}
+use Rattle.pinpointing_specs.proofs.Grown.{grows}
 use Rattle.pinpointing_specs.proofs.module_laws.following_grows.Goals as goal
 
 pub returns : goal.returns

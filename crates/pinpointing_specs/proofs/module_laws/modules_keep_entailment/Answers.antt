@@ -1,6 +1,7 @@
 use Rattle.std.proofs.Common.{}
 use Rattle.std.specs.FinSet as set
-use Rattle.pinpointing_specs.proofs.Kept.{keeps, grows, intersection_part}
+use Rattle.pinpointing_specs.proofs.Grown.{grows}
+use Rattle.pinpointing_specs.proofs.Kept.{keeps, intersection_part}
 use Rattle.pinpointing_specs.proofs.module_laws.modules_keep_entailment.Goals as goal
 
 pub returns : goal.returns
