@@ -16,7 +16,8 @@ use Rattle.set_questions.specs.Meaning.{Keeps}
 use Rattle.set_questions.specs.Asked.{Answers, IsUnknownIf, ShowsNoOther}
 use Rattle.set_questions.specs.declared.entail.Reply.{Reply}
 use Rattle.set_questions.specs.declared.entail.Reply.TheVariants.{Yes, No, Spent}
-use Rattle.pinpointing_specs.proofs.Kept.{grows, intersection_part}
+use Rattle.pinpointing_specs.proofs.Grown.{grows}
+use Rattle.pinpointing_specs.proofs.Kept.{intersection_part}
 use Rattle.shq_oracle.specs.Entry.{Entry}
 use Rattle.shq_oracle.specs.Entry.TheVariants.{Test, Node}
 use Rattle.shq_oracle.specs.TestEnd.TheVariants as E

@@ -1,4 +1,5 @@
 pub mod Local
+pub mod Holding
 pub mod Logged
 pub mod Remembered
 pub mod Answering

@@ -16,7 +16,8 @@ use Rattle.shq_terms.specs.declared.axioms.Numbered.{Numbered}
 use Rattle.shq_terms.specs.declared.axioms.Query.{Query}
 use Rattle.shq_meaning.specs.Truth.{Entails}
 use Rattle.pinpointing_specs.specs.LocalModule.{axioms_from, axioms_in_set, FollowsFrom}
-use Rattle.pinpointing_specs.proofs.Kept.{keeps, grows, intersection_part}
+use Rattle.pinpointing_specs.proofs.Grown.{grows}
+use Rattle.pinpointing_specs.proofs.Kept.{keeps, intersection_part}
 use Rattle.query_asker.specs.AskerLists.{AskerLists}
 use Rattle.query_asker.specs.Told.{KeepsAnswers, ModulesKeepAnswers}
 use Rattle.query_asker.specs.Asking.{part_of, IsPartIn, IsLocalPart}

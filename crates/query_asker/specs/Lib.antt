@@ -1,4 +1,3 @@
-pub mod Grown
 pub mod AskerLists
 pub mod Told
 pub mod Memory

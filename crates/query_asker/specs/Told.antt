@@ -2,7 +2,7 @@
 use Rattle.std.specs.Prelude.{◌≡◌, ◌⊎◌, ◌↔◌, ℕ, ◌-◌, ◌^◌, ◌≤◌, Bool, true, false, List, [], ◌∷◌, ◌++◌, length, All}
 use Rattle.std.specs.Prelude.{Contains}
 use Rattle.std.specs.FinSet as set
-use Rattle.lane_sieve.specs.Sets.{NumberSet}
+use Rattle.lane_sieve.specs.Sets.{NumberSet, IsPart}
 use Rattle.axiom_sets.specs.Sets.{Limited}
 use Rattle.pinpointing_specs.specs.Smallest.{Grows}
 use Rattle.shq_terms.specs.declared.axioms.Numbered.{Numbered}
@@ -10,8 +10,8 @@ use Rattle.shq_terms.specs.declared.axioms.Query.{Query}
 use Rattle.set_questions.specs.Meaning.{Meaning}
 use Rattle.set_questions.specs.declared.entail.Reply.{Reply}
 use Rattle.set_questions.specs.declared.entail.Reply.TheVariants.{Yes, No as NoReply, Spent}
-use Rattle.pinpointing_specs.specs.LocalModule.{FollowsFrom, IsLocalModule}
-use Rattle.query_asker.specs.Grown.{grows}
+use Rattle.pinpointing_specs.specs.LocalModule.{FollowsFrom, IsLocalModule, IsJustification}
+use Rattle.pinpointing_specs.proofs.Grown.{grows}
 use Rattle.shq_oracle.specs.Entry.{Entry}
 use Rattle.shq_oracle.specs.Entry.TheVariants.{Test, Node}
 use Rattle.shq_oracle.specs.TestEnd.TheVariants.{No}
@@ -28,6 +28,11 @@ KeepsAnswers axioms q m = (s : NumberSet) → FollowsFrom axioms q s ↔ Follows
 abbrev pub ModulesKeepAnswers : Type 0
 ModulesKeepAnswers = (axioms : List Numbered) (q : Query) (m : NumberSet) → IsLocalModule axioms q m
     → KeepsAnswers axioms q m
+
+-- and with each set that holds every justification of the query
+abbrev pub HoldersKeepAnswers : Type 0
+HoldersKeepAnswers = (axioms : List Numbered) (q : Query) (m : NumberSet)
+    → ((j : NumberSet) → IsJustification axioms q j → IsPart j m) → KeepsAnswers axioms q m
 
 -- each test is one of another query
 abbrev pub IsTestOfOther : Query → Entry → Type 0

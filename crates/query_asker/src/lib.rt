@@ -17,6 +17,6 @@ mod memo;
 
 pub use asker::Asker;
 pub use known::Known;
-pub use law::modules_keep_answers;
+pub use law::{holders_keep_answers, modules_keep_answers};
 pub use shq_oracle::{Answer, Entry, Oracle, RunLog};
 pub use shq_terms::NoMemory;
