@@ -1,5 +1,5 @@
 -- From a script that was run to what is answered.
-use Rattle.std.proofs.Common.{◌≡◌, ◌⊎◌, ℕ, Bool, true, false, List, [], ◌++◌, drop, refl, ap, sym, subst, ◌∙◌, inl}
+use Rattle.std.proofs.Common.{◌≡◌, ◌⊎◌, ℕ, Bool, true, false, List, [], ◌∷◌, ◌++◌, drop, refl, ap, sym, subst, ◌∙◌, inl}
 use Rattle.std.specs.Prelude.{Option, Some, None}
 use Rattle.certificate_lines.specs.Lines.{lines}
 use Rattle.shq_terms.specs.Listed.{Listed}
@@ -22,7 +22,9 @@ use Rattle.job_inputs.specs.declared.unread.Unread.TheVariants as U
 use Rattle.edit_session.specs.Sessions.{State, begun}
 use Rattle.edit_session.specs.SessionLog.{IsSessionLog}
 use Rattle.edit_session.specs.Lines.{HoldsMore}
-use Rattle.edit_session.specs.Scripts.{IsWhollyTold, IsCutOff, IsScriptWritten}
+use Rattle.edit_session.specs.ScriptLines.{script_lines}
+use Rattle.edit_session.specs.Scripts.{IsWhollyTold, IsCutOff, IsScriptWritten, IsToldAtFirst, LogsNext}
+use Rattle.edit_session.specs.Scripts.HasTold.{nothing}
 use Rattle.edit_session.specs.Answers.{OnScript, IsRefusedScript, LogsSoFar, AnswersSession, BeginsSession}
 use Rattle.edit_session.specs.Answering.{end_status, AnswersLines, IsUnanswered}
 use Rattle.edit_session.specs.declared.said.Said.{Said}
@@ -54,9 +56,46 @@ module _ (budget : ℕ) (s next : State) (before : List Entry) (text : List ℕ)
       (answered_by budget s next ls log out said
       (subst (λ (rs : List (List ℕ)). IsScriptWritten budget s [] [] rs next log out said) same unwritten))
 
-pub nothing_logged : (budget : ℕ) (log : List Entry) (s : State) (ls : List (List ℕ))
+-- ---- where memory was refused
+
+logs_nothing : (budget : ℕ) (s : State) (behind : List (List ℕ)) (log : List Entry) → LogsNext budget s behind log log
+logs_nothing budget s [] log = refl
+logs_nothing budget s (l ∷ ls) log = inl (inl refl)
+
+pub nothing_logged : (budget : ℕ) (log : List Entry) (s : State) (ls : List (List ℕ)) → log ≡ []
     → IsSessionLog s.ontology budget log → LogsSoFar budget log s ls
-nothing_logged budget log s ls honest = record { held = s.ontology; more = holds_same s.ontology; honest = honest }
+nothing_logged budget log s ls none honest = record {
+  held = s.ontology;
+  more = holds_same s.ontology;
+  honest = honest;
+  put = [];
+  at_first = subst (λ (es : List Entry). IsToldAtFirst budget s [] [] ls es []) (sym none) (record {
+    front = [];
+    behind = script_lines ls;
+    is_script = refl;
+    standing = s;
+    log = [];
+    told = [];
+    has_told = nothing;
+    put = refl;
+    logged = logs_nothing budget s (script_lines ls) [];
+  });
+}
+
+pub logged_so_far : (budget : ℕ) (s : State) (held : Listed) (before log : List Entry) (text : List ℕ)
+    (read ls : List (List ℕ)) (out : List ℕ)
+    → before ≡ [] → text ≡ [] → read ≡ ls → IsToldAtFirst budget s before text read log out
+    → HoldsMore s.ontology held → IsSessionLog held budget log → LogsSoFar budget log s ls
+logged_so_far budget s held before log text read ls out none empty same first more honest = record {
+  held = held;
+  more = more;
+  honest = honest;
+  put = out;
+  at_first =
+      subst (λ (ms : List (List ℕ)). IsToldAtFirst budget s [] [] ms log out) same
+      (subst (λ (xs : List ℕ). IsToldAtFirst budget s [] xs read log out) empty
+      (subst (λ (es : List Entry). IsToldAtFirst budget s es text read log out) none first));
+}
 
 -- ---- a document
 

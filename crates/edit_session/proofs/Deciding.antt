@@ -22,12 +22,12 @@ use Rattle.shq_oracle.specs.declared.answer.Outcome.TheVariants.{Yes, No, Undeci
 use Rattle.edit_session.specs.Noted.{Noted}
 use Rattle.edit_session.specs.SessionLog.{Tests}
 use Rattle.edit_session.specs.Places.{AreFiled, StaysFiled, KeepsAllOthers, IsNotedOf, plain_noted}
-use Rattle.edit_session.specs.Asking.{IsTold, IsRecalled, IsDecided, GrowsLog}
+use Rattle.edit_session.specs.Asking.{IsTold, IsRecalled, AnswersOnce, GrowsLog}
 use Rattle.edit_session.specs.declared.noted_places.NotedPlaces.{NotedPlaces}
 use Rattle.edit_session.proofs.Filed.{filed_longer, filed_others}
 
 pub recalled : (o : Listed) (s : Limited) (q : Query) (budget : ℕ) (log : List Entry) (v : Outcome) → IsTold log s q v
-    → IsDecided o s q budget log log v
+    → AnswersOnce o s q budget log log v
 recalled o s q budget log (Yes u) told = (inl refl, told)
 recalled o s q budget log No told = (inl refl, told)
 recalled o s q budget log Undecided told = absurd told
@@ -70,7 +70,7 @@ module _ (o : Listed) (s : Limited) (q : Query) (before after : List Entry) (new
   ran_out (E.Spent t) same = refl
 
   pub tested : (l : OracleLists) (v : Outcome) → l.log ≡ after → AddsTest o s q before after v → SpendsAll l v
-      → IsDecided o s q l.budget before after v
+      → AnswersOnce o s q l.budget before after v
   tested l (Yes u) is t spends =
       let told = told_yes u t.steps t.ended t.matches t.is_log t.honest in (inr (tests (Yes u) false t told.0), told.1)
   tested l No is t spends =
@@ -79,9 +79,9 @@ module _ (o : Listed) (s : Limited) (q : Query) (before after : List Entry) (new
 
 pub if_decided : (old new : OracleLists) (s : Limited) (q : Query) → ¬ IsAnswered old.log s q → new.budget ≡ old.budget
     → (r : Result Outcome NoMemory) → IfOk r (AddsTest old.ontology s q old.log new.log) → IfOk r (SpendsAll new)
-    → IfOk r (IsDecided old.ontology s q old.budget old.log new.log)
+    → IfOk r (AnswersOnce old.ontology s q old.budget old.log new.log)
 if_decided old new s q unanswered budget (Ok v) t spends =
-    subst (λ (n : ℕ). IsDecided old.ontology s q n old.log new.log v) budget
+    subst (λ (n : ℕ). AnswersOnce old.ontology s q n old.log new.log v) budget
     (tested old.ontology s q old.log new.log unanswered new v refl t spends)
 if_decided old new s q unanswered budget (Err e) t spends = tt
 
@@ -97,12 +97,12 @@ grows_log o s q before after (Err e) t same = ([], same ∙ sym (append-nil befo
 pub by_oracle : (o : Listed) (s : Limited) (q : Query) (budget : ℕ) (before begun after left : List Entry)
     (old : OracleLists)
     → old ≡ record { ontology = o; budget = budget; log = begun } → begun ≡ before → after ≡ left
-    → (r : Result Outcome NoMemory) → IfOk r (IsDecided old.ontology s q old.budget old.log left)
-    → IfOk r (IsDecided o s q budget before after)
+    → (r : Result Outcome NoMemory) → IfOk r (AnswersOnce old.ontology s q old.budget old.log left)
+    → IfOk r (AnswersOnce o s q budget before after)
 by_oracle o s q budget before begun after left old is begun_is after_is r h =
-    subst (λ (log : List Entry). IfOk r (IsDecided o s q budget before log)) (sym after_is)
-    (subst (λ (log : List Entry). IfOk r (IsDecided o s q budget log left)) begun_is
-    (subst (λ (l : OracleLists). IfOk r (IsDecided l.ontology s q l.budget l.log left)) is h))
+    subst (λ (log : List Entry). IfOk r (AnswersOnce o s q budget before log)) (sym after_is)
+    (subst (λ (log : List Entry). IfOk r (AnswersOnce o s q budget log left)) begun_is
+    (subst (λ (l : OracleLists). IfOk r (AnswersOnce l.ontology s q l.budget l.log left)) is h))
 
 -- ---- what is recalled
 

@@ -5,7 +5,7 @@ use Rattle.std.proofs.Common.{append_assoc, get_or}
 use Rattle.std.specs.Prelude.{if◌then◌else◌, Result, Ok, Err, IfOk, OnErr}
 use Rattle.std.specs.Borrow.{Bor}
 use Rattle.std.specs.List.{list_any}
-use Rattle.std.proofs.lemmas.List.{take_more, take_all, take-append-drop}
+use Rattle.std.proofs.lemmas.List.{take_more, take_all, take-append-drop, drop_more}
 use Rattle.std.proofs.lemmas.List.Elements.{filter-append}
 use Rattle.certificate_lines.specs.Lines.{bytes_of, is_blank}
 use Rattle.shq_terms.specs.NoMemory.{NoMemory}
@@ -20,7 +20,7 @@ use Rattle.edit_session.specs.SessionLog.{IsSessionLog}
 use Rattle.edit_session.specs.Logged.{LogsAtMostOne, RunsOut}
 use Rattle.edit_session.specs.Lines.{MayGoOn, HoldsMore, IsLineDone}
 use Rattle.edit_session.specs.Scripts.{HasTold, undecided_line, IsWhollyTold, IsCutOff, IsScriptDone, IsScriptWritten}
-use Rattle.edit_session.specs.Scripts.{IsToldAtFirst, IsSaidIf, IsSaidTo, IsToldSoFar}
+use Rattle.edit_session.specs.Scripts.{LogsNext, IsToldAtFirst, IsLoggedLine, IsSaidIf, IsSaidTo, IsToldSoFar}
 use Rattle.edit_session.specs.Scripts.HasTold.{nothing, one_more}
 use Rattle.edit_session.specs.declared.said.Said.{Said as Outcome}
 use Rattle.edit_session.specs.declared.said.Said.TheVariants.{Answered, Spent}
@@ -194,10 +194,11 @@ after_err (Ok x) P p = tt
 after_err (Err e) P p = p
 
 pub told_at_first : (budget : ℕ) (start : State) (before : List Entry) (text : List ℕ) (ls behind whole : List (List ℕ))
-    (s : SessionLists) (log : List Entry) (out written : List ℕ)
+    (s : SessionLists) (log after : List Entry) (out written : List ℕ)
     → IsToldSoFar budget start before text ls s log out → whole ≡ ls ++ behind → written ≡ out
-    → IsToldAtFirst start before text whole written
-told_at_first budget start before text ls behind whole s log out written h split same = record {
+    → LogsNext budget s.state (script_lines behind) log after
+    → IsToldAtFirst budget start before text whole after written
+told_at_first budget start before text ls behind whole s log after out written h split same next = record {
   front = script_lines ls;
   behind = script_lines behind;
   is_script = ap script_lines split ∙ filter-append (λ (x : List ℕ). not (is_blank x)) ls behind;
@@ -206,7 +207,43 @@ told_at_first budget start before text ls behind whole s log out written h split
   told = h.told;
   has_told = h.has_told;
   put = same ∙ h.put;
+  logged = next;
 }
+
+-- the lines that are left begin with this one
+lines_left : (ls : List (Bor (List ℕ))) (i : ℕ) (d : Bor (List ℕ)) → i < length ls → is_blank (get_or ls i d).now ≡ false
+    → script_lines (bytes_of (drop i ls)) ≡ (get_or ls i d).now ∷ script_lines (bytes_of (drop (i + 1) ls))
+lines_left ls i d lt words =
+    let rest = script_lines (bytes_of (drop (i + 1) ls)) in
+    ap (λ (ms : List (Bor (List ℕ))). script_lines (bytes_of ms)) (drop_more ls i d lt)
+    ∙ ap (λ (b : Bool). if not b then (get_or ls i d).now ∷ rest else rest) words
+
+pub next_logged : (budget : ℕ) (s : State) (ls : List (Bor (List ℕ))) (i : ℕ) (d : Bor (List ℕ))
+    (before after : List Entry)
+    → i < length ls → is_blank (get_or ls i d).now ≡ false
+    → LogsAtMostOne s (get_or ls i d).now before after ⊎ RunsOut budget s (get_or ls i d).now before after
+    → LogsNext budget s (script_lines (bytes_of (drop i ls))) before after
+next_logged budget s ls i d before after lt words logged =
+    subst (λ (xs : List (List ℕ)). LogsNext budget s xs before after) (sym (lines_left ls i d lt words)) logged
+
+pub line_logged : (r : Result Outcome NoMemory) (s : State) (l : List ℕ) (before after : List Entry)
+    → is_blank l ≡ false
+    → OnErr r (LogsAtMostOne s l before after) → OnErr r (IsLoggedLine s l before after)
+line_logged (Ok x) s l before after words h = tt
+line_logged (Err e) s l before after words h = (words, h)
+
+-- a line that could not be decided logged a test that ran out
+pub ran_out : (budget : ℕ) (old new : SessionLists) (l : List ℕ) (log after : List Entry) (out longer : List ℕ)
+    (said : Outcome)
+    → said ≡ Spent → IsSaidTo budget old l log out new after longer said
+    → (is_blank l ≡ false) × RunsOut budget old.state l log after
+ran_out budget old new l log after out longer said is h =
+    by (is_blank l) refl (subst (IsSaidTo budget old l log out new after longer) is h)
+  where
+    by : (b : Bool) → is_blank l ≡ b → IsSaidIf b budget old l log out new after longer Spent
+        → (is_blank l ≡ false) × RunsOut budget old.state l log after
+    by true blank h = cc (h.3)
+    by false words h = (words, h.0)
 
 -- a line that could not be decided has no answer
 pub nothing_put : (budget : ℕ) (old new : SessionLists) (l : List ℕ) (log after : List Entry) (out longer : List ℕ)

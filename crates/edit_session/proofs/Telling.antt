@@ -8,7 +8,7 @@ use Rattle.std.proofs.lemmas.List.Elements.{All-contains, All-push}
 use Rattle.lane_sieve.specs.Sets.{NumberSet, IsPart}
 use Rattle.axiom_sets.specs.Sets.{Limited, IsWithin}
 use Rattle.pinpointing_specs.specs.LocalModule.{FollowsFrom}
-use Rattle.pinpointing_specs.proofs.Kept.{grows}
+use Rattle.pinpointing_specs.proofs.Grown.{grows}
 use Rattle.shq_terms.specs.Listed.{Listed}
 use Rattle.shq_terms.specs.declared.axioms.Numbered.{Numbered}
 use Rattle.shq_terms.specs.declared.axioms.Query.{Query}
@@ -37,7 +37,7 @@ use Rattle.edit_session.specs.SessionLog.{Tests}
 use Rattle.edit_session.specs.Held.{EndIsOf, IsOfHeld, EndHolds, Holds}
 use Rattle.edit_session.specs.Logged.{LogsTest, LogsAtMostOne, RunsOut, ShowsAnswer}
 use Rattle.edit_session.specs.Places.{AreFiled, IsNotedOf}
-use Rattle.edit_session.specs.Asking.{IsTold, TestsAtMostOnce, IsDecided}
+use Rattle.edit_session.specs.Asking.{IsTold, TestsAtMostOnce, AnswersOnce}
 use Rattle.edit_session.specs.Asked.{IsAsked, IsUnasked}
 use Rattle.edit_session.specs.Editing.{IsTextOf, HasText, IsRemovedIf, IsRemovedFrom}
 use Rattle.edit_session.specs.Lines.{MayGoOn, HoldsMore, IsAnsweredLine, IsLineTold, IsAskTold, AskLogsAtMostOne}

@@ -16,7 +16,7 @@ use Rattle.job_inputs.specs.declared.status.Status.TheVariants.{ReadFault, Write
 use Rattle.edit_session.specs.Sessions.{State, begun}
 use Rattle.edit_session.specs.SessionLog.{IsSessionLog}
 use Rattle.edit_session.specs.Lines.{HoldsMore}
-use Rattle.edit_session.specs.Scripts.{IsWhollyTold, IsCutOff}
+use Rattle.edit_session.specs.Scripts.{IsWhollyTold, IsCutOff, IsToldAtFirst}
 
 -- ---- on a document
 
@@ -47,12 +47,14 @@ AnswersAllLines budget out log s ls = (next : State) × IsWhollyTold budget s []
 abbrev pub AnswersFirstLines : ℕ → List ℕ → List Entry → State → List (List ℕ) → Type 0
 AnswersFirstLines budget out log s ls = IsCutOff budget s [] ls log out
 
--- where memory was refused: the log so far is honest over the axioms that were held then, those of the document and
--- perhaps some more
+-- Where memory was refused: the log is that of the first lines, with a test of the next one perhaps. It is honest over
+-- axioms that were held, those of the document and those that the lines put last.
 pub record LogsSoFar (budget : ℕ) (log : List Entry) (s : State) (ls : List (List ℕ)) : Type 0 where
   pub held : Listed
   pub more : HoldsMore s.ontology held
   pub honest : IsSessionLog held budget log
+  pub put : List ℕ
+  pub at_first : IsToldAtFirst budget s [] [] ls log put
 
 -- ---- the answer
 

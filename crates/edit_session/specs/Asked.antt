@@ -10,7 +10,7 @@ use Rattle.ofn_reader.specs.DocumentContext.{DocumentContext}
 use Rattle.ofn_reader.specs.Queries.{IsQueryOn, IsNoQueryOn}
 use Rattle.shq_oracle.specs.Entry.{Entry}
 use Rattle.shq_oracle.specs.declared.answer.Outcome.{Outcome}
-use Rattle.edit_session.specs.Asking.{IsDecided}
+use Rattle.edit_session.specs.Asking.{AnswersOnce}
 
 -- with as many names as the old ontology has, the new one is the old one
 abbrev pub IsCutTo : Listed → Listed → Type 0
@@ -23,7 +23,7 @@ pub record IsAsked (kept : DocumentContext) (o : Listed) (s : Limited) (text : L
   pub query : Query
   pub is_query : IsQueryOn kept o text both query
   pub in_limit : IsInLimit both query
-  pub decided : IsDecided both s query budget before after v
+  pub decided : AnswersOnce both s query budget before after v
 
 -- why it was not, unless memory was refused
 abbrev pub IsUnasked : DocumentContext → Listed → List ℕ → Refusal → Type 0

@@ -31,10 +31,10 @@ abbrev pub TestsAtMostOnce : Listed → Limited → Query → List Entry → Lis
 TestsAtMostOnce o s q before after = (after ≡ before) ⊎ Tests false o s q before after
 
 -- the log tells the outcome, which gained one test at most; or a test ran out, by which the whole budget is spent
-abbrev pub IsDecided : Listed → Limited → Query → ℕ → List Entry → List Entry → Outcome → Type 0
-IsDecided o s q budget before after (Yes u) = TestsAtMostOnce o s q before after × IsTold after s q (Yes u)
-IsDecided o s q budget before after No = TestsAtMostOnce o s q before after × IsTold after s q No
-IsDecided o s q budget before after Undecided = Tests true o s q before after × (spent_of after ≡ budget)
+abbrev pub AnswersOnce : Listed → Limited → Query → ℕ → List Entry → List Entry → Outcome → Type 0
+AnswersOnce o s q budget before after (Yes u) = TestsAtMostOnce o s q before after × IsTold after s q (Yes u)
+AnswersOnce o s q budget before after No = TestsAtMostOnce o s q before after × IsTold after s q No
+AnswersOnce o s q budget before after Undecided = Tests true o s q before after × (spent_of after ≡ budget)
 
 -- what the end of a test tells
 abbrev pub outcome_of : TestEnd → Outcome

@@ -1,5 +1,5 @@
 -- A whole script.
-use Rattle.std.specs.Prelude.{◌≡◌, ℕ, Bool, true, false, List, [], ◌∷◌, ◌++◌, codes}
+use Rattle.std.specs.Prelude.{◌≡◌, ◌⊎◌, ℕ, Bool, true, false, List, [], ◌∷◌, ◌++◌, codes}
 use Rattle.certificate_lines.specs.Lines.{is_blank}
 use Rattle.shq_oracle.specs.Entry.{Entry}
 use Rattle.job_inputs.specs.Answer.{line}
@@ -57,9 +57,15 @@ abbrev pub IsScriptWritten : ℕ → State → List Entry → List ℕ → List 
 IsScriptWritten budget start before text lines next after longer said = (told : List ℕ)
     × IsScriptDone budget start before lines next after told said × (longer ≡ text ++ told)
 
--- Where memory was refused: the first lines were answered, and nothing else was put.
-pub record IsToldAtFirst (start : State) (before : List Entry) (text : List ℕ) (lines : List (List ℕ)) (longer : List ℕ)
-    : Type 0 where
+-- the log is as it was; or the first of the lines logged a test, which may have run out
+abbrev pub LogsNext : ℕ → State → List (List ℕ) → List Entry → List Entry → Type 0
+LogsNext budget s [] before after = after ≡ before
+LogsNext budget s (l ∷ ls) before after = LogsAtMostOne s l before after ⊎ RunsOut budget s l before after
+
+-- Where memory was refused: the first lines were answered, and nothing else was put. What they logged is the log, with
+-- a test of the next line perhaps.
+pub record IsToldAtFirst (budget : ℕ) (start : State) (before : List Entry) (text : List ℕ) (lines : List (List ℕ))
+    (after : List Entry) (longer : List ℕ) : Type 0 where
   pub front : List (List ℕ)
   pub behind : List (List ℕ)
   pub is_script : script_lines lines ≡ front ++ behind
@@ -68,8 +74,13 @@ pub record IsToldAtFirst (start : State) (before : List Entry) (text : List ℕ)
   pub told : List ℕ
   pub has_told : HasTold start before front standing log told
   pub put : longer ≡ text ++ told
+  pub logged : LogsNext budget standing behind log after
 
 -- ---- while it is done
+
+-- where memory was refused: there is something on the line, and it logged one test at most
+abbrev pub IsLoggedLine : State → List ℕ → List Entry → List Entry → Type 0
+IsLoggedLine s l before after = (is_blank l ≡ false) × LogsAtMostOne s l before after
 
 -- a line of whitespace alone leaves everything as it is; any other is done
 abbrev pub IsSaidIf : Bool → ℕ → SessionLists → List ℕ → List Entry → List ℕ → SessionLists → List Entry → List ℕ

@@ -4,7 +4,7 @@ ghost use Rattle.std.specs.List.{list_any};
 ghost use Rattle.job_inputs.specs.Limits.{IsOntologyInLimit, IsInLimit};
 ghost use Rattle.shq_oracle.specs.Entries.{spent_of, is_spent, IsAnswered};
 ghost use Rattle.edit_session.specs.Places.{IsNotedOf, plain_noted};
-ghost use Rattle.edit_session.specs.Asking.{IsDecided, GrowsLog};
+ghost use Rattle.edit_session.specs.Asking.{AnswersOnce, GrowsLog};
 ghost use Rattle.edit_session.specs.Asked.{IsAsked, IsUnasked, IsCutTo};
 
 use crate::noted_places::NotedPlaces;
@@ -93,7 +93,7 @@ fn decide(
     requires within { spent_of log.old ≤ budget }
     requires goes_on { list_any is_spent log.old ≡ false }
     requires noted { IsNotedOf (plain_noted noted.old) live.now.members log.old }
-    ensures decided { IfOk result (IsDecided ontology.now live.now query.now budget log.old log.new) }
+    ensures decided { IfOk result (AnswersOnce ontology.now live.now query.now budget log.old log.new) }
     ensures unlogged { OnErr result (log.new ≡ log.old) }
     ensures within { spent_of log.new ≤ budget }
     ensures noted { IsNotedOf (plain_noted noted.new) live.now.members log.new }
@@ -121,7 +121,7 @@ fn test(
     requires within { spent_of log.old ≤ budget }
     requires goes_on { list_any is_spent log.old ≡ false }
     requires new { ¬ IsAnswered log.old live.now query.now }
-    ensures decided { IfOk result (IsDecided ontology.now live.now query.now budget log.old log.new) }
+    ensures decided { IfOk result (AnswersOnce ontology.now live.now query.now budget log.old log.new) }
     ensures longer { GrowsLog log.old log.new }
     ensures unlogged { OnErr result (log.new ≡ log.old) }
     ensures within { spent_of log.new ≤ budget }
@@ -140,7 +140,7 @@ fn test_by(oracle: &mut Oracle<'_>, live: &AxiomSet, query: &Query) -> Result<Ou
     requires goes_on { list_any is_spent oracle.old.log ≡ false }
     requires new { ¬ IsAnswered oracle.old.log live.now query.now }
     ensures decided { IfOk result
-        (IsDecided oracle.old.ontology live.now query.now oracle.old.budget oracle.old.log oracle.new.log) }
+        (AnswersOnce oracle.old.ontology live.now query.now oracle.old.budget oracle.old.log oracle.new.log) }
     ensures longer { GrowsLog oracle.old.log oracle.new.log }
     ensures unlogged { OnErr result (oracle.new.log ≡ oracle.old.log) }
     ensures within { spent_of oracle.new.log ≤ oracle.old.budget }

@@ -3,7 +3,7 @@ ghost use Rattle.std.specs.Prelude.{◌≡◌, IfOk, OnErr};
 ghost use Rattle.certificate_lines.specs.Lines.{bytes_of};
 ghost use Rattle.edit_session.specs.SessionLog.{IsSessionLog};
 ghost use Rattle.edit_session.specs.Lines.{MayGoOn, HoldsMore};
-ghost use Rattle.edit_session.specs.Scripts.{IsScriptWritten, IsToldAtFirst, IsSaidTo};
+ghost use Rattle.edit_session.specs.Scripts.{IsScriptWritten, IsToldAtFirst, IsSaidTo, IsLoggedLine};
 
 use crate::{NoMemory, Said, Session};
 use certificate_lines::is_blank;
@@ -14,8 +14,8 @@ use shq_oracle::RunLog;
 /// put is `undecided`.
 ///
 /// # Errors
-/// Memory may be refused. The session has ended then; answers to the first lines were put, and no others, and the log
-/// is honest all the same.
+/// Memory may be refused. The session has ended then; answers to the first lines were put, and no others. The log has
+/// what these lines logged, with a test of the next one perhaps, and is honest all the same.
 pub fn run_script(
     session: &mut Session,
     lines: &[&[u8]],
@@ -32,7 +32,7 @@ pub fn run_script(
         (IsScriptWritten budget session.old.state log.old out.old.items (bytes_of lines.now) session.new.state log.new
         out.new.items) }
     ensures unfinished { OnErr result
-        (IsToldAtFirst session.old.state log.old out.old.items (bytes_of lines.now) out.new.items) }
+        (IsToldAtFirst budget session.old.state log.old out.old.items (bytes_of lines.now) log.new out.new.items) }
 
     // Whatever is answered, axioms were put last at most, and the log is honest.
     ensures more { HoldsMore session.old.state.ontology session.new.state.ontology }
@@ -63,6 +63,7 @@ fn say_to(
     ensures said { IfOk result
         (IsSaidTo budget session.old line.now log.old out.old.items session.new log.new out.new.items) }
     ensures unwritten { OnErr result (out.new.items ≡ out.old.items) }
+    ensures logged { OnErr result (IsLoggedLine session.old.state line.now log.old log.new) }
     ensures more { HoldsMore session.old.state.ontology session.new.state.ontology }
     ensures honest { IsSessionLog session.new.state.ontology budget log.new }
 {

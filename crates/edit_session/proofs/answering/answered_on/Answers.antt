@@ -16,6 +16,6 @@ answers_of-outcome-requires-clause-honest c =
 pub returns-in_err-session-clause-begun : goal.returns-in_err-session-clause-begun
 returns-in_err-session-clause-begun c =
     after_err c.from_residual.result _
-    (nothing_logged c.args.budget c.args.log.now _ _
+    (nothing_logged c.args.budget c.args.log.now _ _ c.requires.unlogged
     (subst (IsSessionLog c.args.ontology c.args.budget) (sym c.requires.unlogged)
     (new_may_go_on c.args.ontology c.args.context c.args.budget).1))

@@ -1,8 +1,8 @@
-use Rattle.std.proofs.Common.{List, ℕ, get_or, take, drop, ◌+◌, sym, subst, ◌∙◌}
+use Rattle.std.proofs.Common.{List, ℕ, get_or, take, drop, ◌+◌, sym, subst, ◌∙◌, inl, inr}
 use Rattle.certificate_lines.specs.Lines.{bytes_of}
 use Rattle.edit_session.specs.Scripts.{IsToldSoFar}
 use Rattle.edit_session.proofs.Scripted.{told_none, told_next, cut_off, after_err, told_at_first, nothing_put}
-use Rattle.edit_session.proofs.Scripted.{lines_more, lines_halves, lines_split}
+use Rattle.edit_session.proofs.Scripted.{lines_more, lines_halves, lines_split, next_logged, ran_out}
 use Rattle.edit_session.proofs.script.run_script.Goals as goal
 
 pub loop-line-init : goal.loop-line-init
@@ -41,8 +41,10 @@ returns-in_err-say_to-clause-unfinished c =
     let i = c.loop-line.line-index in
     after_err c.from_residual.result _
     (told_at_first c.args.budget c.args.session.now.state c.args.log.now c.args.out.now.items (bytes_of (take i ls))
-    (bytes_of (drop i ls)) (bytes_of ls) c.loop-line.session c.loop-line.log c.loop-line.out.items
-    c.say_to.new.out.items c.loop-line.invariant (lines_halves ls i) c.in_err-say_to.ensures.unwritten)
+    (bytes_of (drop i ls)) (bytes_of ls) c.loop-line.session c.loop-line.log c.say_to.new.log c.loop-line.out.items
+    c.say_to.new.out.items c.loop-line.invariant (lines_halves ls i) c.in_err-say_to.ensures.unwritten
+    (next_logged c.args.budget c.loop-line.session.state ls i _ c.loop-line.log c.say_to.new.log c.loop-line-test.true
+    c.in_err-say_to.ensures.logged.0 (inl c.in_err-say_to.ensures.logged.1)))
 
 pub returns-in_err-extend_from_slice-in-Spent-clause-unfinished :
     goal.returns-in_err-extend_from_slice-in-Spent-clause-unfinished
@@ -50,11 +52,16 @@ returns-in_err-extend_from_slice-in-Spent-clause-unfinished c =
     let ls = c.args.lines.now in
     let i = c.loop-line.line-index in
     let said = c.in_ok-say_to.field-0 in
+    let ran =
+    ran_out c.args.budget c.loop-line.session c.say_to.new.session (get_or ls i _).now c.loop-line.log c.say_to.new.log
+    c.loop-line.out.items c.say_to.new.out.items said c.in-Spent.is c.in_ok-say_to.ensures.said in
     after_err c.from_residual-in_err-extend_from_slice-in-Spent.result _
     (told_at_first c.args.budget c.args.session.now.state c.args.log.now c.args.out.now.items (bytes_of (take i ls))
-    (bytes_of (drop i ls)) (bytes_of ls) c.loop-line.session c.loop-line.log c.loop-line.out.items
+    (bytes_of (drop i ls)) (bytes_of ls) c.loop-line.session c.loop-line.log c.say_to.new.log c.loop-line.out.items
     c.extend_from_slice.new.self.items c.loop-line.invariant (lines_halves ls i)
     (c.in_err-extend_from_slice-in-Spent.ensures.items
     ∙ nothing_put c.args.budget c.loop-line.session c.say_to.new.session (get_or ls i _).now c.loop-line.log
     c.say_to.new.log
-    c.loop-line.out.items c.say_to.new.out.items said c.in-Spent.is c.in_ok-say_to.ensures.said))
+    c.loop-line.out.items c.say_to.new.out.items said c.in-Spent.is c.in_ok-say_to.ensures.said)
+    (next_logged c.args.budget c.loop-line.session.state ls i _ c.loop-line.log c.say_to.new.log c.loop-line-test.true
+    ran.0 (inr ran.1)))
