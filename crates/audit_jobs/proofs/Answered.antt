@@ -43,7 +43,13 @@ module _ (o : Listed) (q : Asked) (budget : ℕ) (log : List Entry) (s : Searche
   pub all_answered : {T : Type 0} (r : Result (Status × T) NoMemory) (text : T → List ℕ)
       → IfOk r (λ a. IsWritten o q s.found.finished a.0 (text a.1))
       → IfOk r (λ a. IsEvidenceAnswer o q budget log a.0 (text a.1))
-  all_answered (Ok a) text w = record { finished = s.found.finished; written = w; honest = is.honest; spent = is.spent }
+  all_answered (Ok a) text w = record {
+    finished = s.found.finished;
+    written = w;
+    honest = is.honest;
+    spent = is.spent;
+    cut_short = is.cut_short;
+  }
   all_answered (Err x) text w = tt
 
   pub all_logs : {T : Type 0} (r : Result T NoMemory) → OnErr r (HasAsked o q budget log)

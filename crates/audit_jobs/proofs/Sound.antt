@@ -15,7 +15,7 @@ use Rattle.pinpointing_specs.specs.LocalModule.{FollowsFrom, axioms_from, axioms
 use Rattle.pinpointing_specs.specs.Smallest.{numbers_to, rest, without, MeetsEach}
 use Rattle.pinpointing_specs.proofs.Choices.{part_or_more, meet_or_apart, in_difference, to_difference, to_rest}
 use Rattle.pinpointing_specs.proofs.Choices.{to_without}
-use Rattle.pinpointing_specs.proofs.Kept.{grows}
+use Rattle.pinpointing_specs.proofs.Grown.{grows}
 use Rattle.pinpointing_jobs.specs.TreeFound.{Found}
 use Rattle.shq_terms.specs.Listed.{Listed}
 use Rattle.shq_terms.specs.declared.axioms.Numbered.{Numbered}

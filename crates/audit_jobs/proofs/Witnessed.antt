@@ -1,18 +1,18 @@
 -- From what an object answered that keeps evidence to what a search found.
-use Rattle.std.proofs.Common.{◌≡◌, ℕ, ◌+◌, ◌*◌, ◌^◌, ◌<◌, ◌≤◌, true, List, [], ◌++◌, length, Result, Ok, Err, ap, sym}
-use Rattle.std.proofs.Common.{◌∙◌, arith, inr}
+use Rattle.std.proofs.Common.{◌≡◌, ℕ, ◌+◌, ◌*◌, ◌^◌, ◌<◌, ◌≤◌, true, false, List, [], ◌++◌, length, Result, Ok, Err, ap, sym}
+use Rattle.std.proofs.Common.{◌∙◌, subst, arith, inr}
 use Rattle.std.specs.Prelude.{IfOk, OnErr}
 use Rattle.std.specs.Result.{result_map_both}
 use Rattle.std.specs.List.{Contains}
 use Rattle.std.specs.FinSet as set
 use Rattle.std.proofs.lemmas.List.Elements.{All-contains}
-use Rattle.lane_sieve.specs.Sets.{NumberSet}
+use Rattle.lane_sieve.specs.Sets.{NumberSet, IsPart}
 use Rattle.axiom_sets.specs.Sets.{Limited}
 use Rattle.axiom_sets.proofs.Same.{same_limited}
 use Rattle.pinpointing_specs.specs.Smallest.{numbers_to}
 use Rattle.pinpointing_specs.proofs.Choices.{in_difference}
 use Rattle.pinpointing_jobs.specs.TreeFound.{Found}
-use Rattle.pinpointing_jobs.specs.Found.{IsFound, HasTree}
+use Rattle.pinpointing_jobs.specs.Found.{IsFound, ListsAllShown, HasTree}
 use Rattle.pinpointing_jobs.specs.Open.{AsksFew}
 use Rattle.shq_terms.specs.Listed.{Listed}
 use Rattle.shq_terms.specs.NoMemory.{NoMemory}
@@ -21,16 +21,17 @@ use Rattle.decision_jobs.specs.Entry.{Entry}
 use Rattle.decision_jobs.specs.Entry.TheVariants.{Test}
 use Rattle.decision_jobs.specs.TestEnd.TheVariants as E
 use Rattle.decision_jobs.specs.Entries.{spent_of, nodes_of}
-use Rattle.decision_jobs.specs.HonestLog.{IsHonestEntry, AreTreeNodes}
+use Rattle.decision_jobs.specs.HonestLog.{IsHonestEntry, IsJustificationSet, AreTreeNodes}
 use Rattle.pinpointing_jobs.specs.OracleLists.{OracleLists}
 use Rattle.pinpointing_jobs.specs.AskerLists.{AskerLists, origin_of}
-use Rattle.pinpointing_jobs.specs.Told.{asker_meaning, IsAskerLog}
+use Rattle.pinpointing_jobs.specs.Told.{KeepsAnswers, asker_meaning, IsAskerLog}
+use Rattle.pinpointing_jobs.proofs.Local.{all_keep}
 use Rattle.pinpointing_jobs.proofs.Searched.{left_at_first, spent_both, budget_kept, few, just, tree, fresh, made_fresh}
-use Rattle.pinpointing_jobs.proofs.Searched.{IsMadeOf, is_made_of, left_is, asks_few, along}
+use Rattle.pinpointing_jobs.proofs.Searched.{IsMadeOf, is_made_of, left_is, asks_few, along, all_shown, leaves_open}
 use Rattle.audit_jobs.specs.declared.evidence.Evidence.{Evidence}
 use Rattle.audit_jobs.specs.declared.searching.Searched.{Searched}
 use Rattle.audit_jobs.specs.Kept.{HasRefutation, IsEvidence}
-use Rattle.audit_jobs.specs.Witnessed.{IsEvidenceLog, HasAsked, HasModelOutside, IsSearched}
+use Rattle.audit_jobs.specs.Witnessed.{IsEvidenceLog, HasAsked, HasModelOutside, IsOfAll, IsCutShort, IsSearched}
 
 -- ---- the evidence of what was shown
 
@@ -83,7 +84,29 @@ module _ (a : AskerLists) (s : Searched) (is_log : IsAskerLog a) (found : IsFoun
     (evidence : IsEvidence a.ontology a.query a.gained s.evidence)
     (whole : a.local_part ≡ numbers_to (length a.ontology.axioms))
     (asked : a.asks ≤ (length a.ontology.axioms + 1) * length (nodes_of a.gained))
-    (small : length a.ontology.axioms ≤ 20000) (budget_small : a.budget < 2 ^ 32) where
+    (small : length a.ontology.axioms ≤ 20000) (budget_small : a.budget < 2 ^ 32)
+    (begun : AskerLists) (fresh_log : begun.gained ≡ [])
+    (lists : ListsAllShown (asker_meaning begun) (asker_meaning a) s.found) where
+  keep : KeepsAnswers a.ontology.axioms a.query a.local_part
+  keep = subst (KeepsAnswers a.ontology.axioms a.query) (sym whole) (all_keep a.ontology.axioms a.query)
+
+  in_each : (m : NumberSet) → IsOfAll a.ontology m → IsPart a.local_part m
+  in_each m is k h = ap (λ (t : NumberSet). set.contains t k) (is ∙ sym whole) ∙ h
+
+  found_just : (j : Limited) → Contains s.found.justifications.items j → IsJustificationSet a.ontology a.query j
+  found_just = just a s.found.justifications.items found.just_limits found.smallest
+
+  cut : s.found.finished ≡ false → IsCutShort a.ontology a.query a.gained
+  cut unfinished = record {
+    found = s.found.justifications.items;
+    justifications = found_just;
+    known = record {
+      tree = found.nodes;
+      shown = all_shown a is_log keep (IsOfAll a.ontology) in_each s.found found begun fresh_log lists;
+      left_open = leaves_open a is_log keep (IsOfAll a.ontology) in_each s.found found unfinished;
+    };
+  }
+
   searched : IsSearched a.ontology a.query (left_at_first a) a.gained s
   searched = record {
     honest =
@@ -91,7 +114,7 @@ module _ (a : AskerLists) (s : Searched) (is_log : IsAskerLog a) (found : IsFoun
         (tree a s.found.justifications.items found.just_limits found.smallest found.nodes);
     witnessed = record {
       order = found.order;
-      justifications = just a s.found.justifications.items found.just_limits found.smallest;
+      justifications = found_just;
       limits = found.limits;
       are_shown = evidence.are_shown;
       refuted = refuted a s.found s.evidence is_log found evidence;
@@ -99,6 +122,7 @@ module _ (a : AskerLists) (s : Searched) (is_log : IsAskerLog a) (found : IsFoun
       explored = found.explored;
     };
     spent = λ unfinished. omega (arith, found.spent unfinished, is_log.within, spent_both a is_log);
+    cut_short = cut;
   }
 
 -- ---- of what a call answers
@@ -162,14 +186,15 @@ module _ (o : Listed) (q : Asked) (budget : ℕ) (begun ended : AskerLists) (log
 
   pub all_searched : (e : Evidence) → IsEvidence ended.ontology ended.query ended.gained e → length o.axioms ≤ 20000
       → budget < 2 ^ 32 → (r : Result Found NoMemory) → IfOk r (IsFound (asker_meaning ended))
+      → IfOk r (ListsAllShown (asker_meaning begun) (asker_meaning ended))
       → AsksFew (length ended.ontology.axioms) (asker_meaning begun) (asker_meaning ended)
       → IfOk (result_map_both (with_evidence e) (λ (x : NoMemory). x) r) (IsSearched o q budget log)
-  all_searched e evidence small budget_small (Err x) found few = tt
-  all_searched e evidence small budget_small (Ok f) found few =
+  all_searched e evidence small budget_small (Err x) found lists few = tt
+  all_searched e evidence small budget_small (Ok f) found lists few =
       let count : length ended.ontology.axioms ≡ length o.axioms = ap (λ (l : Listed). length l.axioms) of.ontology in
       let s : Searched = with_evidence e f in
       along (λ l k n es. IsSearched l k n es s) ended.ontology o ended.query q (left_at_first ended) budget ended.gained
       log of.ontology of.query left logged
       (searched ended s is_log found evidence (of.local_part ∙ ap numbers_to (sym count))
       (asks_few o q budget (numbers_to (length o.axioms)) [] begun ended made few) (omega (arith, small, count))
-      (omega (arith, budget_small, of.budget_is)))
+      (omega (arith, budget_small, of.budget_is)) begun (ap (λ (x : AskerLists). x.gained) made) lists)

@@ -1,11 +1,12 @@
 -- What the search for justifications and repairs finds, with the evidence of its tests.
 use Rattle.std.specs.Prelude.{◌≡◌, ◌⊎◌, ℕ, ◌++◌, [], true, false, List, length, Contains}
-use Rattle.lane_sieve.specs.Sets.{IsPart}
+use Rattle.lane_sieve.specs.Sets.{NumberSet, IsPart}
 use Rattle.axiom_sets.specs.Sets.{Limited}
 use Rattle.pinpointing_specs.specs.LocalModule.{FollowsFrom}
 use Rattle.pinpointing_specs.specs.Order.{IsAscending}
-use Rattle.pinpointing_specs.specs.Smallest.{rest, IsExplored}
+use Rattle.pinpointing_specs.specs.Smallest.{numbers_to, rest, IsExplored}
 use Rattle.set_questions.specs.InOrder.{HaveOneLimit}
+use Rattle.pinpointing_jobs.specs.Known.{AreKnownAmong}
 use Rattle.pinpointing_jobs.specs.TreeFound.{Found}
 use Rattle.shq_terms.specs.Listed.{Listed}
 use Rattle.shq_terms.specs.declared.axioms.Query.{Query as Asked}
@@ -52,8 +53,19 @@ pub record IsWitnessed (o : Listed) (q : Asked) (f : Found) (rs : List Refutatio
   pub explored : f.finished ≡ true
       → IsExplored (FollowsFrom o.axioms q) (length o.axioms) f.justifications.items f.leaves.items
 
+-- the set of all axioms
+abbrev pub IsOfAll : Listed → NumberSet → Type 0
+IsOfAll o m = m ≡ numbers_to (length o.axioms)
+
+-- justifications were found, and as far as the log shows, which asks among all axioms, some are lacking
+pub record IsCutShort (o : Listed) (q : Asked) (log : List Entry) : Type 0 where
+  pub found : List Limited
+  pub justifications : (j : Limited) → Contains found j → IsJustificationSet o q j
+  pub known : AreKnownAmong (IsOfAll o) o q log found
+
 -- a query was searched, with this log
 pub record IsSearched (o : Listed) (q : Asked) (budget : ℕ) (log : List Entry) (s : Searched) : Type 0 where
   pub honest : IsEvidenceLog o q budget log
   pub witnessed : IsWitnessed o q s.found s.evidence.refutations.items s.evidence.models.items
   pub spent : s.found.finished ≡ false → spent_of log ≡ budget
+  pub cut_short : s.found.finished ≡ false → IsCutShort o q log

@@ -12,7 +12,7 @@ use Rattle.axiom_sets.specs.Sets.{Limited}
 use Rattle.pinpointing_specs.specs.Smallest.{numbers_to, rest, IsExplored}
 use Rattle.pinpointing_specs.specs.LocalModule.{FollowsFrom, axioms_in_set, of_axioms}
 use Rattle.pinpointing_specs.proofs.Choices.{in_numbers_to, to_rest}
-use Rattle.pinpointing_specs.proofs.Kept.{grows}
+use Rattle.pinpointing_specs.proofs.Grown.{grows}
 use Rattle.shq_terms.specs.Listed.{Listed}
 use Rattle.shq_terms.specs.declared.axioms.Axiom.{Axiom}
 use Rattle.shq_terms.specs.declared.axioms.Query.{Query}

@@ -21,7 +21,7 @@ use Rattle.shq_terms.specs.Listed.{Listed}
 use Rattle.shq_terms.specs.declared.axioms.Numbered.{Numbered}
 use Rattle.shq_terms.specs.declared.axioms.Query.{Query as Asked}
 use Rattle.pinpointing_specs.specs.LocalModule.{FollowsFrom, of_axioms}
-use Rattle.pinpointing_specs.proofs.Kept.{grows}
+use Rattle.pinpointing_specs.proofs.Grown.{grows}
 use Rattle.query_asker.specs.Entry.{Entry}
 use Rattle.workload.specs.Laws.{IsWorkload, asked as wanted}
 use Rattle.workload.specs.WorkloadText.{workload_text}

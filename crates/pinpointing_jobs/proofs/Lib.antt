@@ -11,3 +11,4 @@ mod Union
 pub use Rattle.query_asker.proofs.Tested
 pub use Rattle.query_asker.proofs.Answering
 pub use Rattle.query_asker.proofs.Logged
+pub use Rattle.query_asker.proofs.Local

@@ -13,7 +13,7 @@ use Rattle.repair_list.specs.TreeFound.{Found}
 use Rattle.shq_terms.specs.Listed.{Listed}
 use Rattle.shq_terms.specs.declared.axioms.Query.{Query as Asked}
 use Rattle.pinpointing_specs.specs.LocalModule.{of_axioms}
-use Rattle.pinpointing_specs.proofs.Kept.{grows}
+use Rattle.pinpointing_specs.proofs.Grown.{grows}
 use Rattle.query_asker.specs.Entry.{Entry}
 use Rattle.query_asker.specs.Entries.{nodes_of}
 use Rattle.job_inputs.specs.declared.status.Status.{Status}

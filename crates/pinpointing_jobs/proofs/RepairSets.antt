@@ -13,7 +13,7 @@ use Rattle.repair_list.specs.Alone.{AreRepairs}
 use Rattle.shq_terms.specs.Listed.{Listed}
 use Rattle.shq_terms.specs.declared.axioms.Query.{Query as Asked}
 use Rattle.pinpointing_specs.specs.LocalModule.{FollowsFrom, of_axioms}
-use Rattle.pinpointing_specs.proofs.Kept.{grows}
+use Rattle.pinpointing_specs.proofs.Grown.{grows}
 use Rattle.query_asker.specs.HonestLog.{IsJustificationSet}
 use Rattle.pinpointing_jobs.specs.Wanted.{IsRepairSet, HasRepairsOf}
 use Rattle.pinpointing_jobs.specs.Searched.{IsLeaf}

@@ -27,7 +27,8 @@ use Rattle.repair_list.specs.Open.{AsksFew}
 use Rattle.shq_terms.specs.Listed.{Listed}
 use Rattle.shq_terms.specs.declared.axioms.Query.{Query as Asked}
 use Rattle.pinpointing_specs.specs.LocalModule.{IsLocalModule, FollowsFrom, of_axioms, IsJustification, IsRepair}
-use Rattle.pinpointing_specs.proofs.Kept.{keeps, grows, intersection_part}
+use Rattle.pinpointing_specs.proofs.Grown.{grows}
+use Rattle.pinpointing_specs.proofs.Kept.{keeps, intersection_part}
 use Rattle.query_asker.specs.Entry.{Entry}
 use Rattle.query_asker.specs.Entry.TheVariants.{Test, Node}
 use Rattle.query_asker.specs.TestEnd.TheVariants as E
@@ -40,7 +41,7 @@ use Rattle.query_asker.specs.AskerLists.{AskerLists, AskerOrigin, origin_of}
 use Rattle.query_asker.specs.Told.{KeepsAnswers, IsShownNoIn, IsLeftOut, asker_meaning, IsAskerLog}
 use Rattle.query_asker.proofs.Answering.{yes_by_log, no_by_log}
 use Rattle.pinpointing_jobs.specs.Begun.{HasSearched}
-use Rattle.pinpointing_jobs.specs.Known.{IsShownJustification, HasAllShown, LeavesSomeOpen}
+use Rattle.pinpointing_jobs.specs.Known.{IsShownJustification, HasAllShownAmong, LeavesSomeOpenAmong}
 use Rattle.pinpointing_jobs.specs.Searched.{IsLeaf, IsSearched}
 use Rattle.pinpointing_jobs.specs.Gained.{HasGained, GainsSearch, GainsBegun}
 use Rattle.pinpointing_jobs.proofs.RepairSets.{to_justification}
@@ -138,15 +139,22 @@ whole_part holds s l grow smallest claim part =
           claim))
     ])
 
-module _ (a : AskerLists) (is_log : IsAskerLog a)
-    (is_module : IsLocalModule a.ontology.axioms a.query a.local_part) where
+-- what follows is told within the local module
+pub module_keeps_answers : (o p : Listed) (q : Asked) (m : NumberSet) → p ≡ o → IsLocalModule o.axioms q m
+    → KeepsAnswers p.axioms q m
+module_keeps_answers o p q m e is =
+    subst (λ (l : Listed). KeepsAnswers l.axioms q m) (sym e)
+    (λ s. (keeps o.axioms q m is s, grows o.axioms q (set.intersection s m) s (intersection_part s m)))
+
+-- the asker asks among axioms that keep its answers, and that are in each set of this kind
+module _ (a : AskerLists) (is_log : IsAskerLog a) (keep : KeepsAnswers a.ontology.axioms a.query a.local_part)
+    (is_enough : NumberSet → Type 0) (has : (m : NumberSet) → is_enough m → IsPart a.local_part m) where
   abbrev follows : NumberSet → Type 0
   follows = FollowsFrom a.ontology.axioms a.query
 
-  module _ (m : NumberSet) (is : IsLocalModule a.ontology.axioms a.query m) (s : NumberSet)
-      (x : IsShownNoIn a.gained a.query m s) where
+  module _ (m : NumberSet) (is : is_enough m) (s : NumberSet) (x : IsShownNoIn a.gained a.query m s) where
     has_common : IsPart (set.intersection s a.local_part) x.tested.members
-    has_common k h = let both = in_both s a.local_part k h in x.has_part k both.0 (is_module.least m is.closed k both.1)
+    has_common k h = let both = in_both s a.local_part k h in x.has_part k both.0 (has m is k both.1)
 
     answered : IsAnswered a.gained
         (record { limit = length a.ontology.axioms; members = set.intersection s a.local_part }) a.query
@@ -156,7 +164,7 @@ module _ (a : AskerLists) (is_log : IsAskerLog a)
     follows_not f =
         let common : Limited = record { limit = length a.ontology.axioms; members = set.intersection s a.local_part } in
         (no_by_log a is_log common x.tested a.query x.steps x.is_no has_common).0
-        (keeps a.ontology.axioms a.query a.local_part is_module s f)
+        ((keep s).0 f)
 
   of_rest : (m : NumberSet) (node : Limited) → IsShownNo a.gained a.query m node.members
       → IsShownNoIn a.gained a.query m (rest node)
@@ -188,7 +196,7 @@ module _ (a : AskerLists) (is_log : IsAskerLog a)
         smallest.yes_set
 
     not_shown : (t : NumberSet) → ((l : Limited) → Contains f.leaves.items l → ¬ IsPart l.members t)
-        → (m : NumberSet) (node : Limited) → IsLocalModule a.ontology.axioms a.query m
+        → (m : NumberSet) (node : Limited) → is_enough m
         → node.limit ≡ length a.ontology.axioms → IsPart node.members t
         → IsTold node → ¬ IsShownNo a.gained a.query m node.members
     not_shown t outside m node is limit part told x =
@@ -200,7 +208,7 @@ module _ (a : AskerLists) (is_log : IsAskerLog a)
           | inr left ↦ elim left [ inl claim ↦ never claim | inr unknown ↦ unknown (answered m is (rest node) shown) ]
         ]
 
-    pub leaves_open : f.finished ≡ false → LeavesSomeOpen a.ontology a.query a.gained listed_sets
+    pub leaves_open : f.finished ≡ false → LeavesSomeOpenAmong is_enough a.query a.gained listed_sets
     leaves_open unfinished =
         let lacks = found.lacks unfinished in
         record {
@@ -214,7 +222,7 @@ module _ (a : AskerLists) (is_log : IsAskerLog a)
 
     -- ---- what was found
 
-    module _ (m j : NumberSet) (is : IsLocalModule a.ontology.axioms a.query m)
+    module _ (m j : NumberSet) (is : is_enough m)
         (x : IsShownJustification a.gained a.query m j) where
       abbrev whole_j : Limited
       whole_j = of_axioms a.ontology.axioms j
@@ -265,7 +273,7 @@ module _ (a : AskerLists) (is_log : IsAskerLog a)
       ]
 
     pub all_shown : (b : AskerLists) → b.gained ≡ [] → ListsAllShown (asker_meaning b) (asker_meaning a) f
-        → HasAllShown a.ontology a.query a.gained listed_sets
+        → HasAllShownAmong is_enough a.ontology a.query a.gained listed_sets
     all_shown b none lists m j is x =
         elim (lists j x.follows) [
           | inl before ↦
@@ -362,6 +370,15 @@ module _ (a : AskerLists) (f : Found) (is_log : IsAskerLog a) (found : IsFound (
             shown.has_part k (to_rest s k inside.0 inside.1 out_r) (is.least a.local_part is_module.closed k in_m);
       }
 
+  keep : KeepsAnswers a.ontology.axioms a.query a.local_part
+  keep = module_keeps_answers a.ontology a.ontology a.query a.local_part refl is_module
+
+  abbrev IsModule : NumberSet → Type 0
+  IsModule = IsLocalModule a.ontology.axioms a.query
+
+  in_each : (m : NumberSet) → IsModule m → IsPart a.local_part m
+  in_each m is = is_module.least m is.closed
+
   pub searched : IsSearched a.ontology a.query (left_at_first a) a.gained f
   searched = record {
     honest = honest;
@@ -372,8 +389,8 @@ module _ (a : AskerLists) (f : Found) (is_log : IsAskerLog a) (found : IsFound (
     nodes = found.nodes;
     leaf_taken = found.leaf_taken;
     settled = found.settled;
-    all_shown = all_shown a is_log is_module f found begun fresh_log lists;
-    left_open = leaves_open a is_log is_module f found;
+    all_shown = all_shown a is_log keep IsModule in_each f found begun fresh_log lists;
+    left_open = leaves_open a is_log keep IsModule in_each f found;
     explored = found.explored;
     shown = λ finished. record { justifications = yes_shown finished; repairs = no_shown finished };
     spent = λ unfinished. omega (arith, found.spent unfinished, is_log.within, spent_both a is_log);
@@ -434,13 +451,6 @@ made_fresh o q budget m before oracle begun made is =
       asks = 0;
     })
     is
-
--- what follows is told within the local module
-pub module_keeps_answers : (o p : Listed) (q : Asked) (m : NumberSet) → p ≡ o → IsLocalModule o.axioms q m
-    → KeepsAnswers p.axioms q m
-module_keeps_answers o p q m e is =
-    subst (λ (l : Listed). KeepsAnswers l.axioms q m) (sym e)
-    (λ s. (keeps o.axioms q m is s, grows o.axioms q (set.intersection s m) s (intersection_part s m)))
 
 -- an asker that begins with no asks and no nodes makes few asks for each node
 pub asks_few : (o : Listed) (q : Asked) (budget : ℕ) (m : NumberSet) (before : List Entry) (begun ended : AskerLists)

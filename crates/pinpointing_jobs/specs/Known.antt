@@ -20,23 +20,38 @@ pub record IsShownJustification (log : List Entry) (q : Asked) (m j : NumberSet)
   pub follows : IsShownYes log q j
   pub needed : (k : ℕ) → set.contains j k ≡ true → IsShownNoIn log q m (set.remove j k)
 
+-- ---- what is known, where sets of some kind have all that matters: local modules, or the set of all axioms
+
 -- each justification that the log shows is listed
-abbrev pub HasAllShown : Listed → Asked → List Entry → List Limited → Type 0
-HasAllShown o q log sets = (m j : NumberSet) → IsLocalModule o.axioms q m → IsShownJustification log q m j
+abbrev pub HasAllShownAmong : (NumberSet → Type 0) → Listed → Asked → List Entry → List Limited → Type 0
+HasAllShownAmong is_enough o q log sets = (m j : NumberSet) → is_enough m → IsShownJustification log q m j
     → Contains sets (of_axioms o.axioms j)
 
 -- The log does not show that these are all justifications: some set meets each of them, and of no node in it the log
 -- shows that the query does not follow without the node's axioms. Where all were found, and the log shows it, there is
 -- no such set.
-pub record LeavesSomeOpen (o : Listed) (q : Asked) (log : List Entry) (sets : List Limited) : Type 0 where
+pub record LeavesSomeOpenAmong (is_enough : NumberSet → Type 0) (q : Asked) (log : List Entry) (sets : List Limited) :
+    Type 0 where
   pub left : NumberSet
   pub meets : MeetsEach sets left
-  pub no_leaf : (m : NumberSet) (node : Limited) → IsLocalModule o.axioms q m → Contains (nodes_of log) node
+  pub no_leaf : (m : NumberSet) (node : Limited) → is_enough m → Contains (nodes_of log) node
       → IsPart node.members left → ¬ IsShownNo log q m node.members
 
 -- the nodes of the log are those of a hitting-set tree by these justifications, each that the log shows is one of them,
 -- and some are lacking as far as the log shows
-pub record AreKnown (o : Listed) (q : Asked) (log : List Entry) (sets : List Limited) : Type 0 where
+pub record AreKnownAmong (is_enough : NumberSet → Type 0) (o : Listed) (q : Asked) (log : List Entry)
+    (sets : List Limited) : Type 0 where
   pub tree : AreNodes sets (nodes_of log)
-  pub shown : HasAllShown o q log sets
-  pub left_open : LeavesSomeOpen o q log sets
+  pub shown : HasAllShownAmong is_enough o q log sets
+  pub left_open : LeavesSomeOpenAmong is_enough q log sets
+
+-- ---- among the axioms of a local module
+
+abbrev pub HasAllShown : Listed → Asked → List Entry → List Limited → Type 0
+HasAllShown o q log sets = HasAllShownAmong (IsLocalModule o.axioms q) o q log sets
+
+abbrev pub LeavesSomeOpen : Listed → Asked → List Entry → List Limited → Type 0
+LeavesSomeOpen o q log sets = LeavesSomeOpenAmong (IsLocalModule o.axioms q) q log sets
+
+abbrev pub AreKnown : Listed → Asked → List Entry → List Limited → Type 0
+AreKnown o q log sets = AreKnownAmong (IsLocalModule o.axioms q) o q log sets
