@@ -20,7 +20,7 @@ use Rattle.job_inputs.specs.Questions.{IsUnreadDocument, IsUnreadQuestion}
 use Rattle.shq_oracle.specs.declared.answer.Answer.{Answer as Decision}
 use Rattle.shq_oracle.specs.declared.answer.Answer.TheVariants as Answered
 use Rattle.job_inputs.specs.Refusals.{IsRefused, nothing, asked}
-use Rattle.decision_jobs.specs.Decisions.{decision_status, BeginsQuestion, AnswersQuestion, IsDecided}
+use Rattle.decision_jobs.specs.Decisions.{decision_status, BeginsQuestion, AnswersQuestion, IsDecisionTold}
 use Rattle.job_inputs.specs.Refusals.{IsUnanswered}
 use Rattle.job_inputs.proofs.ReadInLimit.{question_writable}
 use Rattle.decision_jobs.specs.Answering.{IsDecidedBy, IsAnswered, IsBegun, IsBegunOn, IsUnansweredOn}
@@ -43,7 +43,7 @@ pub decided_answers : (bytes : List ℕ) (o : Listed) (kept : DocumentContext) (
     (both : Listed) (q : Asked) (log : List Entry) (s : Status) (out : List ℕ)
     → IsDocumentAlone bytes o kept
     → IsReadQuestion o kept question both q → IsDecidedBy question budget both q log s out
-    → IsDecided question budget bytes out s log
+    → IsDecisionTold question budget bytes out s log
 decided_answers bytes o kept question budget both q log s out d x found = record {
   ontology = both;
   query = q;
@@ -107,7 +107,7 @@ no_decision (Answered.NotEntailed m) is = let clash : true ≡ false = ap is_no_
 no_decision Answered.Undecided is = let clash : true ≡ false = ap is_no_memory is in absurd (cc clash)
 
 decided_status : (question : Text) (budget : ℕ) (bytes out : List ℕ) (s : Status) (log : List Entry)
-    → IsDecided question budget bytes out s log → AnswersQuestion question budget bytes out s log
+    → IsDecisionTold question budget bytes out s log → AnswersQuestion question budget bytes out s log
 decided_status question budget bytes out Done log d = inr d
 decided_status question budget bytes out Rejected log d = inr d
 decided_status question budget bytes out BadWords log d = inr d

@@ -11,7 +11,7 @@ use Rattle.job_inputs.specs.declared.unread.Unread.TheVariants as U
 use Rattle.job_inputs.specs.declared.status.Status.{Status}
 use Rattle.job_inputs.specs.Questions.{Text, IsNotAskedBy, IsReadQuestion}
 use Rattle.decision_jobs.specs.Deciding.{IsDecision, IsKeptModel}
-use Rattle.decision_jobs.specs.Decisions.{decision_text, decision_status, IsLogged, IsDecided}
+use Rattle.decision_jobs.specs.Decisions.{decision_text, decision_status, IsLogged, IsDecisionTold}
 
 -- the query was decided, or the budget spent, and this is the text of it
 pub record IsDecidedBy (question : Text) (budget : ℕ) (o : Listed) (q : Asked) (log : List Entry) (s : Status)
@@ -24,7 +24,7 @@ pub record IsDecidedBy (question : Text) (budget : ℕ) (o : Listed) (q : Asked)
   pub logged : IsLogged o q budget decision log
 
 abbrev pub IsAnswered : Text → ℕ → List ℕ → List Entry → Status → List ℕ → Type 0
-IsAnswered question budget bytes log s out = IsDecided question budget bytes out s log
+IsAnswered question budget bytes log s out = IsDecisionTold question budget bytes out s log
 
 -- where memory was refused: nothing was asked, or one honest test of all axioms and the query
 abbrev pub IsBegun : Listed → Asked → ℕ → List Entry → Type 0

@@ -67,7 +67,8 @@ pub record IsLogged (o : Listed) (q : Asked) (budget : ℕ) (d : Decision) (log 
 -- ---- the answer to a question
 
 -- the query was decided, or the budget spent
-pub record IsDecided (question : Text) (budget : ℕ) (bytes out : List ℕ) (s : Status) (log : List Entry) : Type 0 where
+pub record IsDecisionTold (question : Text) (budget : ℕ) (bytes out : List ℕ) (s : Status) (log : List Entry) :
+    Type 0 where
   pub ontology : Listed
   pub query : Asked
   pub decision : Decision
@@ -85,4 +86,4 @@ BeginsQuestion question budget bytes log = HasBegun question bytes log (λ o q. 
 abbrev pub AnswersQuestion : Text → ℕ → List ℕ → List ℕ → Status → List Entry → Type 0
 AnswersQuestion question budget bytes out NoMemory log = IsOutOfMemory out (BeginsQuestion question budget bytes log)
 AnswersQuestion question budget bytes out s log = IsRefused question bytes out s log
-    ⊎ IsDecided question budget bytes out s log
+    ⊎ IsDecisionTold question budget bytes out s log

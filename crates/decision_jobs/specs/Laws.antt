@@ -10,17 +10,17 @@ use Rattle.shq_oracle.specs.Entry.{Entry}
 use Rattle.shq_oracle.specs.declared.answer.Answer.TheVariants as Answered
 use Rattle.job_inputs.specs.declared.status.Status.TheVariants.{Done}
 use Rattle.job_inputs.specs.Questions.{Text, IsQuestion}
-use Rattle.decision_jobs.specs.Decisions.{IsDecided}
+use Rattle.decision_jobs.specs.Decisions.{IsDecisionTold}
 
 -- the answer says that the query of the question follows
 pub record SaysYes (question : Text) (budget : ℕ) (bytes out : List ℕ) (log : List Entry) : Type 0 where
-  pub decided : IsDecided question budget bytes out Done log
+  pub decided : IsDecisionTold question budget bytes out Done log
   pub refutation : RefutationLists
   pub is_refuted : decided.decision ≡ Answered.Entailed refutation
 
 -- the answer says that it does not
 pub record SaysNo (question : Text) (budget : ℕ) (bytes out : List ℕ) (log : List Entry) : Type 0 where
-  pub decided : IsDecided question budget bytes out Done log
+  pub decided : IsDecisionTold question budget bytes out Done log
   pub model : ModelLists
   pub is_model : decided.decision ≡ Answered.NotEntailed model
 

@@ -6,9 +6,9 @@ ghost use Rattle.decision_jobs.specs.Certificates.{is_model_verdict, is_refutati
 ghost use Rattle.decision_jobs.specs.Certificates.{refutation_after, certificate_in, certificate, IsUnreadBy, Fits};
 
 use certificate_lines::{is_blank, lines};
+use finite_model::Interp;
 use job_inputs::Unread;
 use refutation_tree::Refutation;
-use shq_oracle::Interp;
 use shq_terms::Ontology;
 use std::alloc::Global;
 
@@ -73,7 +73,7 @@ fn read_model(alloc: Global, lines: &[&[u8]], ontology: &Ontology) -> Result<Cer
     ensures fits { IfOk result (Fits ontology.now) }
     ensures unread { IfErr result (IsUnreadBy (model_after ontology.now (map (λ l. l.now) lines.now))) }
 {
-    match shq_oracle::read_text(alloc, lines, ontology) {
+    match finite_model::read_text(alloc, lines, ontology) {
         Ok(model) => Ok(Certificate::Model(model)),
         Err(fault) => Err(Unread::from(fault)),
     }

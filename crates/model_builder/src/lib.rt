@@ -27,7 +27,7 @@ mod successors;
 mod walk;
 
 pub use blocking::Tree;
-pub use finite_model::{Interp, read_text};
+pub use finite_model::Interp;
 pub use laws::structures_are_built;
 pub use model::{build, interpretation_of_elements};
 pub use shq_terms::NoMemory;

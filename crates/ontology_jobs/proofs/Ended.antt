@@ -11,7 +11,7 @@ use Rattle.edit_session.specs.Entry.{Entry}
 use Rattle.edit_session.specs.Entries.{spent_of, is_spent}
 use Rattle.audit_jobs.specs.Answer.{Answer as Decision}
 use Rattle.audit_jobs.specs.Answer.TheVariants as Answered
-use Rattle.audit_jobs.specs.Decisions.{decision_status, IsDecided, AnswersQuestion}
+use Rattle.audit_jobs.specs.Decisions.{decision_status, IsDecisionTold, AnswersQuestion}
 use Rattle.classification_jobs.specs.Answer.{Answer, complaint_answer}
 use Rattle.classification_jobs.specs.Asked.{Reply, refused_document}
 use Rattle.classification_jobs.specs.Classifications.{IsFinished}
@@ -72,7 +72,7 @@ by_job job bytes out NoMemory log known answer = absurd known
 
 by_decision : (question : Text) (budget : ℕ) (bytes out : List ℕ) (s : Status) (log : List Entry) → IsFaultless s
     → AnswersQuestion question budget bytes out s log
-    → IsRefused question bytes out s log ⊎ IsDecided question budget bytes out s log
+    → IsRefused question bytes out s log ⊎ IsDecisionTold question budget bytes out s log
 by_decision question budget bytes out Done log known answer = answer
 by_decision question budget bytes out Rejected log known answer = answer
 by_decision question budget bytes out BadWords log known answer = answer

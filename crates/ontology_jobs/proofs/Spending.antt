@@ -20,7 +20,7 @@ use Rattle.classification_jobs.specs.Status.{Status}
 use Rattle.classification_jobs.specs.Status.TheVariants.{Undecided}
 use Rattle.classification_jobs.specs.Questions.{Text, follows}
 use Rattle.classification_jobs.specs.Refusals.{IsRefused}
-use Rattle.audit_jobs.specs.Decisions.{decision_status, IsDecided}
+use Rattle.audit_jobs.specs.Decisions.{decision_status, IsDecisionTold}
 use Rattle.audit_jobs.specs.Wanted.{Wanted}
 use Rattle.classification_jobs.specs.LogEnds.{EndsSpent}
 use Rattle.edit_session.specs.Sessions.{State, live_set}
@@ -51,7 +51,7 @@ ended_so E.No m = absurd m
 
 -- an undecided test spent the budget
 decided_test : (question : Text) (budget : ℕ) (bytes out : List ℕ) (log : List Entry)
-    → IsDecided question budget bytes out Undecided log → list_any is_spent log ≡ true
+    → IsDecisionTold question budget bytes out Undecided log → list_any is_spent log ≡ true
 decided_test question budget bytes out log d = by d.decision d.status d.logged.matches
   where
     some_spent : ended_spent d.logged.ended ≡ true → list_any is_spent log ≡ true
@@ -63,7 +63,7 @@ decided_test question budget bytes out log d = by d.decision d.status d.logged.m
     by Answered.Undecided is m = some_spent (ended_so d.logged.ended m)
 
 decided_spent : (question : Text) (budget : ℕ) (bytes out : List ℕ) (log : List Entry)
-    → IsDecided question budget bytes out Undecided log → spent_of log ≡ budget
+    → IsDecisionTold question budget bytes out Undecided log → spent_of log ≡ budget
 decided_spent question budget bytes out log d =
     d.logged.honest.budget_kept.ends.is_whole (decided_test question budget bytes out log d)
 

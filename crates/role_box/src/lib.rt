@@ -5,9 +5,9 @@
 //! make reasoning undecidable (Horrocks, Sattler and Tobies, Practical Reasoning for Expressive Description Logics,
 //! 1999), so OWL 2 rules them out (Structural Specification, section 11).
 //!
-//! A box keeps for each role the set of the roles above it, closed by Warshall's algorithm over words of 64 bits, so
-//! that each test is a look at one bit. It is made of the axioms with given numbers, so that a refutation can be
-//! checked by the role axioms that it names alone.
+//! A box keeps for each role the set of the roles above it, closed by Warshall's algorithm (*A Theorem on Boolean
+//! Matrices*, Journal of the ACM 9, 1962) over words of 64 bits, so that each test is a look at one bit. It is made of
+//! the axioms with given numbers, so that a refutation can be checked by the role axioms that it names alone.
 #![tactic(auto)]
 
 mod closure;

@@ -1,4 +1,9 @@
 //! How far a tableau search is: its tree with the blocks, its trace with the open branchings, and the next step.
+//!
+//! Each step puts what it gives into the tree, and its rule line into the trace. A clash rests on some of the choices
+//! that are open; the search goes back to the latest of these at once, in tree, blocks, trace and agenda together, and
+//! takes the next alternative there (dependency-directed backtracking: Richard Stallman and Gerald Sussman, Artificial
+//! Intelligence 9, 1977).
 #![tactic(auto)]
 
 mod advance;

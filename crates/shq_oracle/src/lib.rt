@@ -21,7 +21,7 @@ mod tested;
 
 pub use answer::{Answer, Outcome, Shown};
 pub use apart::Apart;
-pub use model_builder::{Interp, read_text};
+pub use model_builder::Interp;
 pub use oracle::Oracle;
 pub use run_log::{Entry, KeptTrail, RunLog, TestEnd};
 pub use shq_terms::NoMemory;

@@ -1,4 +1,6 @@
-//! Looks through the state of a search for a legal step: each finds one, or there is none.
+//! Looks through the state of a search for a legal step: each finds one, or there is none. The steps are those of a
+//! completion tree for number restrictions and role hierarchies (I. Horrocks, U. Sattler and S. Tobies, *Practical
+//! Reasoning for Expressive Description Logics*, LPAR 1999).
 //!
 //! What is found says why it may be done: the concepts and the edges on which the step's rule line rests. The looks at
 //! one node, or at one concept of a node, are public too, so that a search can look where something has changed alone.
