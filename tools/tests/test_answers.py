@@ -525,7 +525,8 @@ class WithProgram(unittest.TestCase):
     def test_answers_on_individuals(self):
         ward = (EXAMPLES / "ward" / "ontology.ofn").read_bytes()
         scripted = ward + (EXAMPLES / "ward" / "script.txt").read_bytes()
-        cases = [(["realize"], ward), (["realize"], ward.replace(b"DifferentIndividuals", b"SameIndividual")), (["session"], scripted)]
+        same = ward.replace(b"DifferentIndividuals", b"SameIndividual")
+        cases = [(["realize"], ward), (["realize"], same), (["session"], scripted)]
         cases += [([job, of], ward) for job in ("instances", "why") for of in (":MrRoom", "owl:Thing")]
         for words, data in cases:
             said, status = run_program(words, data)

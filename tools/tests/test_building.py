@@ -13,7 +13,7 @@ from unittest import mock
 from shq_tools import building
 from shq_tools.kit_command import SumsOnce
 from shq_tools.lanes import Lanes
-from shq_tools.places import CRATE_LIST, PROGRAM_CRATE, TOOLS
+from shq_tools.places import CRATE_LIST, PROGRAM_CRATE, TOOLS, TOP
 
 LIST = """# a list
 low:
@@ -82,6 +82,10 @@ class Lists(unittest.TestCase):
         below = building.crates_below(crates, PROGRAM_CRATE)
         self.assertIn("ofn_reader", below)
         self.assertLess(len(below), len(crates))
+
+    def test_the_readme_says_how_long_a_build_takes(self):
+        words = (TOP / "README.md").read_text(encoding="utf-8").split()
+        self.assertIn(f"from nothing that is {building.TIME_FROM_NOTHING}.", " ".join(words))
 
     def test_checks_at_once(self):
         with mock.patch.dict(os.environ, {"RT_JOBS": "3"}):
