@@ -1,5 +1,6 @@
 -- What is made of lines that close everything.
-use Rattle.std.proofs.Common.{◌≡◌, ℕ, ◌&&◌, ◌||◌, ◌<◌, ◌^◌, arith, Bool, true, not, List, [], ◌∷◌, map, length, refl, ap}
+use Rattle.std.proofs.Common.{◌≡◌, ℕ, ◌&&◌, ◌||◌, ◌<◌, ◌^◌, arith, Bool, true, not, List, [], ◌∷◌, map, length, refl}
+use Rattle.std.proofs.Common.{ap}
 use Rattle.std.proofs.Common.{sym, ◌∙◌, subst}
 use Rattle.std.specs.List.{list_any, list_all}
 use Rattle.std.specs.FinSet as sets
@@ -61,17 +62,22 @@ same_axioms : (f : ℕ → ℕ) (k : ℕ) (ls : List Line)
 same_axioms f k [] = refl
 same_axioms f k (l ∷ ls) = λ i. same_axiom f k l i || same_axioms f k ls i
 
+-- an axiom is named by the lines as they are numbered where the lines name it
+same_named : (axioms : List Numbered) (set named : Limited) (table : List Shape) (lines : List Line)
+    (r : RefutationLists) → IsNumbered table named lines r → (k : ℕ)
+    → names_axiom axioms set.members lines k ≡ names_axiom axioms set.members r.lines k
+same_named axioms set named table lines r is k =
+    ap (λ (b : Bool). sets.contains set.members k && (is_role_number axioms k || b))
+    (sym (ap (list_any (uses_axiom k)) is.lines_are ∙ same_axioms is.number' k lines))
+
 -- the refutation names the axioms that its own lines use
 pub numbered_names : (axioms : List Numbered) (set named : Limited) (table : List Shape) (lines : List Line)
     (r : RefutationLists)
     → NamesAxioms axioms set lines named → IsNumbered table named lines r
     → NamesAxioms axioms set r.lines r.axioms
 numbered_names axioms set named table lines r h is =
-    let same : (k : ℕ) → names_axiom axioms set.members lines k ≡ names_axiom axioms set.members r.lines k =
-    λ k. ap (λ (b : Bool). sets.contains set.members k && (is_role_number axioms k || b))
-    (sym (ap (list_any (uses_axiom k)) is.lines_are ∙ same_axioms is.number' k lines)) in
     subst (NamesAxioms axioms set r.lines) (sym is.axioms_are)
-    (record { limit = h.limit; members = λ k. h.members k ∙ same k })
+    (record { limit = h.limit; members = λ k. h.members k ∙ same_named axioms set named table lines r is k })
 
 pub no_others_named : (axioms : List Numbered) (set : Limited) (lines : List Line) (named : Limited)
     → NamesAxioms axioms set lines named → NamesNoOther axioms set lines named
@@ -97,11 +103,11 @@ pub no_others_numbered : (axioms : List Numbered) (set named : Limited) (table :
     → NamesNoOther axioms set lines named → IsNumbered table named lines r
     → NamesNoOther axioms set r.lines r.axioms
 no_others_numbered axioms set named table lines r h is =
-    let same : (k : ℕ) → names_axiom axioms set.members lines k ≡ names_axiom axioms set.members r.lines k =
-    λ k. ap (λ (b : Bool). sets.contains set.members k && (is_role_number axioms k || b))
-    (sym (ap (list_any (uses_axiom k)) is.lines_are ∙ same_axioms is.number' k lines)) in
     subst (NamesNoOther axioms set r.lines) (sym is.axioms_are)
-    (record { limit = h.limit; no_other = λ k member. sym (same k) ∙ h.no_other k member })
+    (record {
+      limit = h.limit;
+      no_other = λ k member. sym (same_named axioms set named table lines r is k) ∙ h.no_other k member;
+    })
 
 pub named_are_part : (axioms : List Numbered) (set : Limited) (lines : List Line) (named : Limited)
     → NamesNoOther axioms set lines named → IsPart named.members set.members

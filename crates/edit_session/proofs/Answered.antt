@@ -1,5 +1,5 @@
 -- From a script that was run to what is answered.
-use Rattle.std.proofs.Common.{◌≡◌, ◌⊎◌, ℕ, Bool, true, false, List, [], ◌∷◌, ◌++◌, drop, refl, ap, sym, subst, ◌∙◌, inl}
+use Rattle.std.proofs.Common.{◌≡◌, ℕ, Bool, true, false, List, [], ◌∷◌, drop, refl, ap, sym, subst, ◌∙◌, inl}
 use Rattle.std.specs.Prelude.{Option, Some, None}
 use Rattle.certificate_lines.specs.Lines.{lines}
 use Rattle.shq_terms.specs.Listed.{Listed}

@@ -1,5 +1,5 @@
 -- New sessions.
-use Rattle.std.proofs.Common.{◌≡◌, ℕ, ◌≤◌, List, [], refl, ap, ◌∙◌, arith}
+use Rattle.std.proofs.Common.{◌≡◌, ℕ, [], refl, ap, ◌∙◌, arith}
 use Rattle.std.proofs.lemmas.List.Elements.{All-nil}
 use Rattle.lane_sieve.specs.Sets.{NumberSet}
 use Rattle.axiom_sets.specs.Sets.{IsFull}
@@ -7,7 +7,6 @@ use Rattle.pinpointing_specs.specs.Smallest.{numbers_to}
 use Rattle.set_questions.proofs.Rest.{full_is}
 use Rattle.shq_terms.specs.Listed.{Listed}
 use Rattle.ofn_reader.specs.DocumentContext.{DocumentContext}
-use Rattle.shq_oracle.specs.Entry.{Entry}
 use Rattle.edit_session.specs.Noted.{Noted, nothing_noted}
 use Rattle.edit_session.specs.Sessions.{SessionLists, state_of, begun}
 use Rattle.edit_session.specs.SessionLog.{IsHonestThen}

@@ -1,17 +1,13 @@
 -- Answers are those from scratch.
-use Rattle.std.proofs.Common.{◌≡◌, ◌⊎◌, ℕ, List, [], ◌∷◌, ◌++◌, get_or, ap, sym, subst, ◌∙◌, inl, inr, arith}
-use Rattle.std.specs.Prelude.{◌↔◌, Some}
-use Rattle.lane_sieve.specs.Sets.{IsPart}
+use Rattle.std.proofs.Common.{◌≡◌, ◌⊎◌, ℕ, List, [], get_or, ap, sym, subst, ◌∙◌, inl, inr, arith}
 use Rattle.axiom_sets.specs.Sets.{Limited}
-use Rattle.pinpointing_specs.specs.LocalModule.{FollowsFrom}
 use Rattle.pinpointing_specs.proofs.Grown.{grows}
-use Rattle.shq_terms.specs.Listed.{Listed}
 use Rattle.shq_terms.specs.declared.axioms.Query.{Query}
-use Rattle.ofn_reader.specs.Queries.{IsQueryOn, query_start}
+use Rattle.ofn_reader.specs.Queries.{query_start}
 use Rattle.ofn_reader.proofs.Unique.{queries, queries_not_refused}
 use Rattle.edit_session.specs.Sessions.{State}
 use Rattle.edit_session.specs.ScriptLines.{Request}
-use Rattle.edit_session.specs.Said.{yes_line, no_line, IsYes, IsNo, IsAnsweredOrRefused, SaidTo, Said}
+use Rattle.edit_session.specs.Said.{yes_line, no_line, IsYes, IsNo, IsAnsweredOrRefused, SaidTo}
 use Rattle.edit_session.specs.Laws.{IsFromScratch, AnswersAreFromScratch}
 
 -- a yes is no no

@@ -15,11 +15,10 @@ use Rattle.shq_oracle.specs.Entry.{Entry}
 use Rattle.shq_oracle.specs.Entries.{spent_of, is_spent}
 use Rattle.edit_session.specs.Sessions.{State, SessionLists}
 use Rattle.edit_session.specs.ScriptLines.{script_lines}
-use Rattle.edit_session.specs.Said.{Said}
 use Rattle.edit_session.specs.SessionLog.{IsSessionLog}
 use Rattle.edit_session.specs.Logged.{LogsAtMostOne, RunsOut}
 use Rattle.edit_session.specs.Lines.{MayGoOn, HoldsMore, IsLineDone}
-use Rattle.edit_session.specs.Scripts.{HasTold, undecided_line, IsWhollyTold, IsCutOff, IsScriptDone, IsScriptWritten}
+use Rattle.edit_session.specs.Scripts.{HasTold, undecided_line, IsScriptWritten}
 use Rattle.edit_session.specs.Scripts.{LogsNext, IsToldAtFirst, IsLoggedLine, IsSaidIf, IsSaidTo, IsToldSoFar}
 use Rattle.edit_session.specs.Scripts.HasTold.{nothing, one_more}
 use Rattle.edit_session.specs.declared.said.Said.{Said as Outcome}
@@ -211,7 +210,8 @@ told_at_first budget start before text ls behind whole s log after out written h
 }
 
 -- the lines that are left begin with this one
-lines_left : (ls : List (Bor (List ℕ))) (i : ℕ) (d : Bor (List ℕ)) → i < length ls → is_blank (get_or ls i d).now ≡ false
+lines_left : (ls : List (Bor (List ℕ))) (i : ℕ) (d : Bor (List ℕ)) → i < length ls
+    → is_blank (get_or ls i d).now ≡ false
     → script_lines (bytes_of (drop i ls)) ≡ (get_or ls i d).now ∷ script_lines (bytes_of (drop (i + 1) ls))
 lines_left ls i d lt words =
     let rest = script_lines (bytes_of (drop (i + 1) ls)) in

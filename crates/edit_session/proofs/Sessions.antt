@@ -1,6 +1,6 @@
 -- What is asked of a session, from its parts.
 use Rattle.std.proofs.Common.{◌≡◌, ℕ, ◌≤◌, List, length, ap, sym, subst}
-use Rattle.std.specs.Prelude.{Option, Some, None, Result, Ok, Err, IfOk, IfErr, OnErr, option_map}
+use Rattle.std.specs.Prelude.{Option, Result, Ok, Err, IfOk, IfErr, OnErr, option_map}
 use Rattle.axiom_sets.specs.Sets.{Limited}
 use Rattle.shq_terms.specs.NoMemory.{NoMemory}
 use Rattle.shq_terms.specs.Listed.{Listed}

@@ -1,12 +1,11 @@
 -- What entries say of the first axioms they say where more axioms stand after them.
 use Rattle.std.proofs.Common.{◌≡◌, ℕ, zero, suc, ◌+◌, ◌-◌, ◌<◌, ◌≤◌, Bool, true, false, List, [], ◌∷◌, ◌++◌, length}
 use Rattle.std.proofs.Common.{take, refl, ap, sym, subst, ◌∙◌, arith}
-use Rattle.std.specs.Prelude.{if◌then◌else◌, ◌↔◌, All}
+use Rattle.std.specs.Prelude.{if◌then◌else◌, ◌↔◌}
 use Rattle.std.specs.FinSet as set
 use Rattle.std.proofs.lemmas.List.{take-append-le}
-use Rattle.std.proofs.lemmas.List.Elements.{All-map}
 use Rattle.lane_sieve.specs.Sets.{NumberSet}
-use Rattle.axiom_sets.specs.Sets.{Limited, IsWithin}
+use Rattle.axiom_sets.specs.Sets.{IsWithin}
 use Rattle.shq_terms.specs.Listed.{Listed}
 use Rattle.shq_terms.specs.declared.axioms.Axiom.{Axiom}
 use Rattle.shq_terms.specs.declared.axioms.Numbered.{Numbered}
@@ -15,10 +14,8 @@ use Rattle.shq_meaning.specs.Truth.{Entails}
 use Rattle.pinpointing_specs.specs.LocalModule.{axioms_from, axioms_in_set, FollowsFrom}
 use Rattle.shq_oracle.specs.Entry.{Entry}
 use Rattle.shq_oracle.specs.Entry.TheVariants.{Test, Node}
-use Rattle.shq_oracle.specs.TestEnd.{TestEnd}
 use Rattle.shq_oracle.specs.TestEnd.TheVariants.{Yes, No, Spent}
-use Rattle.edit_session.specs.SessionLog.{WasHonest, IsHonestThen}
-use Rattle.edit_session.specs.Held.{EndIsOf, IsOfHeld, EndHolds, Holds}
+use Rattle.edit_session.specs.Held.{IsOfHeld, Holds}
 use Rattle.edit_session.specs.Laws.{EntriesStayHonest}
 
 -- ---- the axioms of a set of the first ones

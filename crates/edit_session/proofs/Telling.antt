@@ -1,11 +1,11 @@
 -- What a line is answered, and that the session may go on then.
 use Rattle.std.proofs.Common.{◌≡◌, ◌⊎◌, ℕ, ◌+◌, ◌≤◌, Bool, true, false, List, [], ◌∷◌, ◌++◌, length, refl, ap, sym}
 use Rattle.std.proofs.Common.{subst, ◌∙◌, arith, inl, inr, append-nil, length-append, get_or}
-use Rattle.std.specs.Prelude.{Option, Some, None, Result, Ok, Err, IfOk, IfErr, OnErr, All, Contains}
+use Rattle.std.specs.Prelude.{Option, Some, None, Result, Ok, Err, IfOk, IfErr, OnErr, All}
 use Rattle.std.specs.FinSet as set
 use Rattle.std.specs.List.{list_any}
 use Rattle.std.proofs.lemmas.List.Elements.{All-contains, All-push}
-use Rattle.lane_sieve.specs.Sets.{NumberSet, IsPart}
+use Rattle.lane_sieve.specs.Sets.{NumberSet}
 use Rattle.axiom_sets.specs.Sets.{Limited, IsWithin}
 use Rattle.pinpointing_specs.specs.LocalModule.{FollowsFrom}
 use Rattle.pinpointing_specs.proofs.Grown.{grows}
@@ -17,13 +17,12 @@ use Rattle.ofn_expressions.specs.declared.refusal.Refusal.TheVariants.{NoMemory}
 use Rattle.ofn_reader.specs.DocumentContext.{DocumentContext}
 use Rattle.ofn_reader.specs.Queries.{IsQueryOn, IsNoQueryOn, query_start}
 use Rattle.ofn_reader.proofs.Unique.{queries, queries_not_refused}
-use Rattle.ofn_reader.specs.Additions.{IsAdditionTo, IsNoAdditionTo}
 use Rattle.shq_oracle.specs.Entry.{Entry}
 use Rattle.shq_oracle.specs.Entry.TheVariants.{Test}
 use Rattle.shq_oracle.specs.TestEnd.{TestEnd}
 use Rattle.shq_oracle.specs.TestEnd.TheVariants as E
 use Rattle.shq_oracle.specs.Entries.{spent_of, is_spent, IsAnswered}
-use Rattle.shq_oracle.specs.HonestLog.{IsAxiomSet, IsHonestEnd, IsHonestEntry}
+use Rattle.shq_oracle.specs.HonestLog.{IsAxiomSet, IsHonestEntry}
 use Rattle.shq_oracle.proofs.Named.{follows_from}
 use Rattle.job_inputs.specs.Complaints.{Complaint, complaint}
 use Rattle.shq_oracle.specs.declared.answer.Outcome.{Outcome}
@@ -31,16 +30,16 @@ use Rattle.shq_oracle.specs.declared.answer.Outcome.TheVariants.{Yes, No, Undeci
 use Rattle.edit_session.specs.Noted.{Noted}
 use Rattle.edit_session.specs.Sessions.{State, SessionLists, live_set, state_of}
 use Rattle.edit_session.specs.ScriptLines.{Request, adds, removes, asks, other, request}
-use Rattle.edit_session.specs.Said.{bad_line, yes_line, no_line, SaysWrong, IsRefusedText, IsAdded, IsRemoved, IsYes}
+use Rattle.edit_session.specs.Said.{bad_line, yes_line, no_line, IsRemoved, IsYes}
 use Rattle.edit_session.specs.Said.{IsNo, IsAddedOrRefused, IsRemovedOrNot, IsAnsweredOrRefused, SaidTo, Said}
 use Rattle.edit_session.specs.SessionLog.{Tests}
-use Rattle.edit_session.specs.Held.{EndIsOf, IsOfHeld, EndHolds, Holds}
-use Rattle.edit_session.specs.Logged.{LogsTest, LogsAtMostOne, RunsOut, ShowsAnswer}
+use Rattle.edit_session.specs.Held.{IsOfHeld, Holds}
+use Rattle.edit_session.specs.Logged.{LogsAtMostOne, ShowsAnswer}
 use Rattle.edit_session.specs.Places.{AreFiled, IsNotedOf}
-use Rattle.edit_session.specs.Asking.{IsTold, TestsAtMostOnce, AnswersOnce}
+use Rattle.edit_session.specs.Asking.{IsTold, TestsAtMostOnce}
 use Rattle.edit_session.specs.Asked.{IsAsked, IsUnasked}
 use Rattle.edit_session.specs.Editing.{IsTextOf, HasText, IsRemovedIf, IsRemovedFrom}
-use Rattle.edit_session.specs.Lines.{MayGoOn, HoldsMore, IsAnsweredLine, IsLineTold, IsAskTold, AskLogsAtMostOne}
+use Rattle.edit_session.specs.Lines.{MayGoOn, IsAnsweredLine, IsAskTold, AskLogsAtMostOne}
 use Rattle.edit_session.proofs.Standing.{hold_more, held_more}
 use Rattle.edit_session.proofs.Filed.{filed_added, filed_removed}
 use Rattle.edit_session.proofs.Limits.{query_axioms, addition_longer}

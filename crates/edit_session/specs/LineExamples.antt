@@ -9,7 +9,7 @@ use Rattle.lane_sieve.proofs.Bits.{contains_remove}
 use Rattle.axiom_sets.specs.Sets.{Limited}
 use Rattle.shq_oracle.specs.TestEnd.TheVariants.{Yes, No}
 use Rattle.edit_session.specs.Sessions.{State}
-use Rattle.edit_session.specs.ScriptLines.{Request, adds, removes, asks, other, request, split_request, script_lines}
+use Rattle.edit_session.specs.ScriptLines.{adds, removes, asks, other, request, split_request, script_lines}
 use Rattle.edit_session.specs.Said.{bad_line, numbered_line, no_line, IsRemoved, IsRemovedOrNot}
 use Rattle.edit_session.specs.Places.{IsOver}
 

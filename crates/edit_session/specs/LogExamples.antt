@@ -1,5 +1,5 @@
 -- Worked logs of sessions, and a whole script.
-use Rattle.std.specs.Prelude.{◌≡◌, ℕ, zero, suc, ◌<◌, true, List, [], ◌∷◌, ◌++◌, codes, Some}
+use Rattle.std.specs.Prelude.{◌≡◌, ℕ, zero, suc, true, List, [], ◌∷◌, ◌++◌, codes}
 use Rattle.std.specs.Prelude.{refl}
 use Rattle.std.proofs.Common.{sym, subst, ◌∙◌, arith, inl, inr}
 use Rattle.std.proofs.lemmas.List.Elements.{All-head, Contains-push, Contains-push_cases}
@@ -8,12 +8,10 @@ use Rattle.lane_sieve.specs.Sets.{IsPart}
 use Rattle.axiom_sets.specs.Sets.{Limited}
 use Rattle.shq_terms.specs.Listed.{Listed}
 use Rattle.shq_terms.specs.declared.axioms.Query.{Query}
-use Rattle.ofn_reader.specs.Queries.{IsQueryOn}
 use Rattle.shq_oracle.specs.Entry.{Entry}
 use Rattle.shq_oracle.specs.Entry.TheVariants.{Test, Node}
-use Rattle.shq_oracle.specs.TestEnd.{TestEnd}
 use Rattle.shq_oracle.specs.TestEnd.TheVariants.{Yes, No}
-use Rattle.shq_oracle.specs.Entries.{IsAnswered, AnswersQuery}
+use Rattle.shq_oracle.specs.Entries.{AnswersQuery}
 use Rattle.shq_oracle.specs.HonestLog.{AsksNoAnswer}
 use Rattle.edit_session.specs.Sessions.{State}
 use Rattle.edit_session.specs.ScriptLines.{Request, request, removes, asks}

@@ -1,5 +1,5 @@
 -- The lines of a script, and what each asks for.
-use Rattle.std.specs.Prelude.{ℕ, Bool, not, List, [], ◌∷◌, codes, Option, Some, None, nat_eq}
+use Rattle.std.specs.Prelude.{ℕ, Bool, not, List, [], codes, Option, Some, None, nat_eq}
 use Rattle.std.specs.Prelude.{if◌then◌else◌}
 use Rattle.std.specs.List.{filter, list_any, before_first, after_first}
 use Rattle.std.specs.Str.{bytes_eq, is_utf8}

@@ -1,6 +1,6 @@
 -- What is accepted is true.
-use Rattle.std.proofs.Common.{◌≡◌, ℕ, ◌+◌, ◌⊎◌, inl, inr, List, [], ◌∷◌, length, drop, map, Bool, true, false, Option}
-use Rattle.std.proofs.Common.{Some, None, Result, Ok, Err, refl, ap, sym, ◌∙◌, subst, arith}
+use Rattle.std.proofs.Common.{◌≡◌, ℕ, ◌⊎◌, inl, inr, List, [], length, drop, map, Option}
+use Rattle.std.proofs.Common.{Some, None, Result, Ok, Err, refl, ap, subst, arith}
 use Rattle.std.specs.Prelude.{codes}
 use Rattle.shq_terms.specs.Listed.{Listed}
 use Rattle.shq_terms.specs.declared.axioms.Axiom.{Axiom as SomeAxiom}
@@ -16,7 +16,7 @@ use Rattle.audit_jobs.specs.Unread.TheVariants as U
 use Rattle.ontology_jobs.specs.Words.{check, audit}
 use Rattle.classification_jobs.specs.LimitLaws.{with_names}
 use Rattle.classification_jobs.specs.Asked.{Reply, judged, refused_document, refused_query, malformed_line}
-use Rattle.audit_jobs.specs.Checking.{IsVerdictOn, first_unmet, Shows, IsReply, no_document, no_query, shown}
+use Rattle.audit_jobs.specs.Checking.{IsVerdictOn, Shows, IsReply, no_document, no_query, shown}
 use Rattle.classification_jobs.specs.Complaints.{Complaint, sort_status, complaint}
 use Rattle.classification_jobs.specs.Answer.{line, Answer, complaint_answer}
 use Rattle.classification_jobs.specs.Replies.{reply_answer}

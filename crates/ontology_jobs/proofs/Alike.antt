@@ -1,6 +1,6 @@
 -- What is refused is answered in one way.
-use Rattle.std.proofs.Common.{◌≡◌, ◌⊎◌, ℕ, ◌<◌, ◌≤◌, ◌^◌, inl, inr, List, [], length, Option, Some, None, MatchOption}
-use Rattle.std.proofs.Common.{refl, ap, sym, ◌∙◌, subst, arith}
+use Rattle.std.proofs.Common.{◌≡◌, ◌⊎◌, ℕ, inl, inr, List, [], Option, Some, None, MatchOption}
+use Rattle.std.proofs.Common.{ap, sym, ◌∙◌, subst, arith}
 use Rattle.ofn_reader.proofs.Unique.{documents_not_refused}
 use Rattle.ofn_reader.proofs.OneReason.{document_refusals}
 use Rattle.edit_session.specs.Entry.{Entry}
@@ -15,7 +15,7 @@ use Rattle.classification_jobs.proofs.OneReading.{alone_not_refused, alone_refus
 use Rattle.classification_jobs.proofs.OneReading.{question_refusals}
 use Rattle.ontology_jobs.specs.Words.{Job, check, audit, decide, classify, realize, instances, reasons, session}
 use Rattle.ontology_jobs.specs.Words.{pinpoint, evidence, Request, on_input, generated, request_of}
-use Rattle.ontology_jobs.specs.Answers.{IsTooLong, IsBadWords, AnswersJob, AnswersRequest}
+use Rattle.ontology_jobs.specs.Answers.{IsBadWords, AnswersJob, AnswersRequest}
 use Rattle.ontology_jobs.specs.Laws.{IsFinal, IsRefusal, IsFaultless, RefusalsAreAnsweredAlike}
 use Rattle.ontology_jobs.proofs.Ended.{Ended, too_long, is_refused, is_done, is_undecided, RefusesDocument}
 use Rattle.ontology_jobs.proofs.Ended.{RefusesScript, IsReadBy, IsReadDocument, IsReadScript, question_ended}

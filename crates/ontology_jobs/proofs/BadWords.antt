@@ -1,14 +1,12 @@
 -- Bad words are answered to the words of no job alone.
-use Rattle.std.proofs.Common.{◌≡◌, ℕ, List, [], Bool, true, false, Option, Some, None, MatchOption, inl, inr, refl, ap}
-use Rattle.std.proofs.Common.{sym, ◌∙◌}
+use Rattle.std.proofs.Common.{◌≡◌, ℕ, List, [], Option, Some, None, MatchOption, inl, inr, refl, ap}
 use Rattle.edit_session.specs.Entry.{Entry}
 use Rattle.classification_jobs.specs.Answer.{Answer}
 use Rattle.classification_jobs.specs.Asked.{Reply}
-use Rattle.classification_jobs.specs.Status.{Status}
-use Rattle.classification_jobs.specs.Status.TheVariants.{Done, BadWords, Limit, Undecided}
+use Rattle.classification_jobs.specs.Status.TheVariants.{BadWords, Limit}
 use Rattle.ontology_jobs.specs.Words.{Job, check, audit, decide, classify, realize, instances, reasons, session}
 use Rattle.ontology_jobs.specs.Words.{pinpoint, evidence, Request, on_input, generated, request_of}
-use Rattle.ontology_jobs.specs.Answers.{IsTooLong, IsBadWords, AnswersJob, AnswersRequest, Answers, AnswersAll}
+use Rattle.ontology_jobs.specs.Answers.{IsTooLong, IsBadWords, AnswersJob, AnswersRequest, AnswersAll}
 use Rattle.ontology_jobs.specs.Laws.{AsksForNothing, BadWordsAskForNothing}
 use Rattle.ontology_jobs.proofs.Said.{not_said, not_audited}
 use Rattle.ontology_jobs.proofs.Ended.{Ended, too_long, is_refused, is_done, is_undecided, question_ended, list_ended}

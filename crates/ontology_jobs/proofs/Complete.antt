@@ -1,6 +1,6 @@
 -- What is read is not refused, and where something of the budget is left it is not undecided.
-use Rattle.std.proofs.Common.{◌≡◌, ℕ, ◌<◌, ◌≤◌, ◌^◌, ◌⊎◌, inl, inr, List, [], ◌∷◌, ◌++◌, length, drop, Bool, true}
-use Rattle.std.proofs.Common.{false, Option, Some, None, Result, Ok, Err, MatchOption, refl, ap, sym, ◌∙◌, subst, arith}
+use Rattle.std.proofs.Common.{◌≡◌, ℕ, ◌<◌, ◌≤◌, ◌^◌, ◌⊎◌, inl, inr, List, [], length, drop, true}
+use Rattle.std.proofs.Common.{false, Option, Some, None, Result, Ok, Err, MatchOption, ap, sym, ◌∙◌, subst, arith}
 use Rattle.std.specs.List.{list_any}
 use Rattle.shq_terms.specs.Listed.{Listed}
 use Rattle.shq_terms.specs.declared.axioms.Query.{Query as Asked}
@@ -16,7 +16,7 @@ use Rattle.audit_jobs.specs.Unread.TheVariants as U
 use Rattle.audit_jobs.specs.Checked.{Checked}
 use Rattle.audit_jobs.specs.Checking.{Shows, IsReply, no_document, no_query, shown}
 use Rattle.classification_jobs.specs.Answer.{Answer}
-use Rattle.classification_jobs.specs.Asked.{IsAsked, IsNotAsked, Reply, judged, refused_document, refused_query}
+use Rattle.classification_jobs.specs.Asked.{IsAsked, Reply, judged, refused_document, refused_query}
 use Rattle.classification_jobs.specs.Asked.{malformed_line}
 use Rattle.classification_jobs.specs.LimitLaws.{with_names}
 use Rattle.classification_jobs.specs.Questions.{has_element, follows, IsRefusedQuestion}
@@ -29,9 +29,9 @@ use Rattle.classification_jobs.specs.Status.TheVariants.{WriteFault, Undecided, 
 use Rattle.classification_jobs.proofs.OneReading.{alone_not_refused, questions_not_refused}
 use Rattle.ontology_jobs.specs.Words.{Job, check, audit, decide, classify, realize, instances, reasons, session}
 use Rattle.ontology_jobs.specs.Words.{pinpoint, evidence, Request, on_input, generated, request_of}
-use Rattle.ontology_jobs.specs.Answers.{IsTooLong, IsBadWords, AreAll, AnswersJob, AnswersRequest, Answers, AnswersAll}
+use Rattle.ontology_jobs.specs.Answers.{IsBadWords, AreAll, AnswersJob, AnswersRequest, AnswersAll}
 use Rattle.ontology_jobs.specs.Laws.{IsFaultless}
-use Rattle.ontology_jobs.specs.Complete.{BeginsWithDocument, IsReadable, HasLeft, IsDone, IsJudged, EndsWell}
+use Rattle.ontology_jobs.specs.Complete.{BeginsWithDocument, IsReadable, IsDone, IsJudged}
 use Rattle.ontology_jobs.specs.Complete.{JobsAreDone, WorkloadsAreDone, IsComplete}
 use Rattle.ontology_jobs.proofs.Ended.{Ended, too_long, is_refused, is_done, is_undecided, RefusesDocument}
 use Rattle.ontology_jobs.proofs.Ended.{RefusesScript, IsReadBy, IsReadDocument, IsReadScript, by_job, question_ended}

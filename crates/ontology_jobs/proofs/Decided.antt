@@ -19,7 +19,7 @@ use Rattle.ofn_reader.specs.Queries.{query_start}
 use Rattle.ofn_reader.proofs.OneReason.{document_refusals, query_refusals}
 use Rattle.ofn_reader.proofs.Unique.{documents, documents_not_refused, queries, queries_not_refused}
 use Rattle.edit_session.specs.Entry.{Entry}
-use Rattle.ontology_jobs.specs.Words.{Job, check, audit, decide, classify, realize, instances, reasons, session}
+use Rattle.ontology_jobs.specs.Words.{check, audit, decide, classify, realize, instances, reasons, session}
 use Rattle.ontology_jobs.specs.Words.{pinpoint, evidence, Request, on_input, generated, request_of}
 use Rattle.audit_jobs.specs.Audited.{IsAuditEnd, end_answer}
 use Rattle.audit_jobs.specs.AuditVerdict.{AuditVerdict}

@@ -1,24 +1,20 @@
 -- How the answers of jobs end: as a refusal, or done or undecided with what holds then.
-use Rattle.std.proofs.Common.{◌≡◌, ◌≢◌, ℕ, ◌<◌, ◌≤◌, ◌^◌, ◌⊎◌, inl, inr, List, [], ◌∷◌, ◌++◌, length, Bool, true, false}
-use Rattle.std.proofs.Common.{refl, ap, sym, ◌∙◌, subst, arith}
-use Rattle.std.specs.List.{list_any}
-use Rattle.std.proofs.lemmas.List.Folds.{list_any-append}
+use Rattle.std.proofs.Common.{◌≡◌, ℕ, ◌≤◌, ◌^◌, ◌⊎◌, inl, inr, List, [], length, Bool, true, false}
+use Rattle.std.proofs.Common.{refl, ◌∙◌}
 use Rattle.shq_terms.specs.Listed.{Listed}
 use Rattle.shq_terms.specs.declared.axioms.Query.{Query as Asked}
 use Rattle.ofn_reader.specs.DocumentContext.{DocumentContext}
 use Rattle.ofn_expressions.specs.declared.refusal.Refusal.{Refusal}
 use Rattle.edit_session.specs.Entry.{Entry}
-use Rattle.edit_session.specs.Entries.{spent_of, is_spent}
 use Rattle.audit_jobs.specs.Answer.{Answer as Decision}
 use Rattle.audit_jobs.specs.Answer.TheVariants as Answered
 use Rattle.audit_jobs.specs.Decisions.{decision_status, IsDecisionTold, AnswersQuestion}
-use Rattle.classification_jobs.specs.Answer.{Answer, complaint_answer}
+use Rattle.classification_jobs.specs.Answer.{Answer}
 use Rattle.classification_jobs.specs.Asked.{Reply, refused_document}
-use Rattle.classification_jobs.specs.Classifications.{IsFinished}
-use Rattle.classification_jobs.specs.Classifications.{IsUnfinished, AnswersClassification}
+use Rattle.classification_jobs.specs.Classifications.{AnswersClassification}
 use Rattle.classification_jobs.specs.Questions.{Text, has_element, follows, IsDocumentAlone, IsNotAlone, IsQuestion}
 use Rattle.classification_jobs.specs.Questions.{IsRefusedQuestion}
-use Rattle.classification_jobs.specs.Refusals.{OnDocument, IsRefusedDocument, IsRefused, HasBegun}
+use Rattle.classification_jobs.specs.Refusals.{IsRefusedDocument, IsRefused, HasBegun}
 use Rattle.classification_jobs.specs.Replies.{reply_answer}
 use Rattle.classification_jobs.specs.Status.{Status}
 use Rattle.classification_jobs.specs.Status.TheVariants.{Done, Rejected, BadWords, BadText, Outside, Limit, ReadFault}
@@ -34,7 +30,7 @@ use Rattle.ofn_reader.specs.Documents.{IsDocument, IsNoDocument}
 use Rattle.individual_jobs.specs.Answers.{AnswersWhy}
 use Rattle.individual_jobs.specs.Realizations.{AnswersInstances, AnswersRealization}
 use Rattle.edit_session.specs.Answers.{AnswersSession, IsRefusedScript}
-use Rattle.ontology_jobs.specs.Words.{Job, check, decide, classify, realize, instances, reasons, session, pinpoint}
+use Rattle.ontology_jobs.specs.Words.{Job, decide, classify, realize, instances, reasons, session, pinpoint}
 use Rattle.ontology_jobs.specs.Words.{evidence}
 use Rattle.ontology_jobs.specs.Answers.{IsTooLong, AnswersRead, AnswersJob}
 use Rattle.ontology_jobs.specs.Laws.{IsFaultless}

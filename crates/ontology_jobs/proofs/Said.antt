@@ -13,7 +13,6 @@ use Rattle.classification_jobs.specs.Place.{Place}
 use Rattle.classification_jobs.specs.Place.TheVariants as P
 use Rattle.classification_jobs.specs.Sort.{Sort}
 use Rattle.classification_jobs.specs.Sort.TheVariants as S
-use Rattle.classification_jobs.specs.Verdict.{Verdict}
 use Rattle.classification_jobs.specs.Verdict.TheVariants.{NotEntailed, Entailed, Axiom, Query, Line}
 use Rattle.classification_jobs.specs.Status.{Status}
 use Rattle.classification_jobs.specs.Status.TheVariants.{Done, Rejected, BadWords, BadText, Outside, Limit, ReadFault}

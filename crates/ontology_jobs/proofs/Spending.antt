@@ -1,10 +1,9 @@
 -- An undecided answer has spent the whole budget.
-use Rattle.std.proofs.Common.{◌≡◌, ℕ, ◌⊎◌, inl, inr, List, [], ◌∷◌, Bool, true, false, Option, Some, None, MatchOption}
-use Rattle.std.proofs.Common.{◌++◌, ◌||◌, refl, ap, sym, ◌∙◌, subst}
+use Rattle.std.proofs.Common.{◌≡◌, ℕ, inl, inr, List, [], ◌∷◌, Bool, true, false, Option, Some, None, MatchOption}
+use Rattle.std.proofs.Common.{◌||◌, refl, ap, ◌∙◌, subst}
 use Rattle.std.specs.List.{list_any}
 use Rattle.std.proofs.Math.Bool.{or-true}
 use Rattle.std.proofs.lemmas.List.Folds.{list_any-append}
-use Rattle.axiom_sets.specs.Sets.{Limited}
 use Rattle.shq_terms.specs.Listed.{Listed}
 use Rattle.shq_terms.specs.declared.axioms.Query.{Query as Asked}
 use Rattle.edit_session.specs.Entry.{Entry}
@@ -28,10 +27,10 @@ use Rattle.edit_session.specs.Logged.{RunsOut}
 use Rattle.audit_jobs.specs.Listings.{end_status, IsListing, IsListAnswer}
 use Rattle.audit_jobs.specs.Answers.{IsEvidenceAnswer}
 use Rattle.audit_jobs.specs.Counts.{IsCount, IsCounted}
-use Rattle.ontology_jobs.specs.Words.{Job, check, audit, decide, classify, realize, instances, reasons, session}
+use Rattle.ontology_jobs.specs.Words.{check, audit, decide, classify, realize, instances, reasons, session}
 use Rattle.ontology_jobs.specs.Words.{pinpoint, evidence, Request, on_input, generated, request_of}
 use Rattle.ontology_jobs.specs.Answers.{IsTooLong, IsBadWords, AnswersJob, AnswersRequest, Answers, AnswersAll}
-use Rattle.ontology_jobs.specs.Laws.{SpendsAll, HasSpentAll, UndecidedSpendsAll}
+use Rattle.ontology_jobs.specs.Laws.{HasSpentAll, UndecidedSpendsAll}
 use Rattle.ontology_jobs.proofs.Said.{not_said, not_audited}
 
 -- ---- a refusal is not undecided

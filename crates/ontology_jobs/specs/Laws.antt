@@ -10,7 +10,7 @@ use Rattle.ofn_reader.specs.DocumentContext.{DocumentContext}
 use Rattle.ofn_reader.specs.Documents.{IsDocument}
 use Rattle.edit_session.specs.Entry.{Entry}
 use Rattle.edit_session.specs.Entries.{spent_of}
-use Rattle.ontology_jobs.specs.Words.{Job, check, audit, decide, classify, realize, instances, reasons, session}
+use Rattle.ontology_jobs.specs.Words.{check, audit, decide, classify, realize, instances, reasons, session}
 use Rattle.ontology_jobs.specs.Words.{pinpoint, evidence, Request, on_input, generated, request_of}
 use Rattle.audit_jobs.specs.AuditLists.{AuditLists}
 use Rattle.audit_jobs.specs.Sound.{ListsAll}

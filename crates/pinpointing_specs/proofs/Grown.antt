@@ -1,5 +1,5 @@
 -- More axioms entail no less. Contracts cite this, so nothing that it stands on leads to code.
-use Rattle.std.proofs.Common.{◌≡◌, ◌+◌, List, subst}
+use Rattle.std.proofs.Common.{◌+◌, List, subst}
 use Rattle.std.specs.List.{Contains}
 use Rattle.axiom_sets.specs.NumberSets.{NumberSet, IsPart}
 use Rattle.shq_meaning.specs.Axiom.{Axiom}

@@ -15,7 +15,8 @@ use Rattle.ofn_expressions.specs.Walk.{Test, shape, prefix, nodes, class, role, 
 use Rattle.ofn_expressions.specs.Walk.{counts_after, walked}
 use Rattle.ofn_expressions.specs.Names.{Prefix, prefix_iri, full_iri}
 use Rattle.ofn_expressions.specs.Constructs.{excluded_role_name}
-use Rattle.ofn_expressions.specs.Classes.{item_count, is_spelled, is_thing, is_nothing, listed_class, listed_role, role_tests}
+use Rattle.ofn_expressions.specs.Classes.{item_count, is_spelled, is_thing, is_nothing, listed_class, listed_role}
+use Rattle.ofn_expressions.specs.Classes.{role_tests}
 use Rattle.ofn_expressions.specs.Classes.{roles_tests, number_tests, number_tests_of, joined, class_tests, each_class}
 use Rattle.ofn_expressions.specs.Classes.{class_name_tests, place}
 use Rattle.ofn_expressions.specs.Individuals.{individual_tests, individuals_tests}

@@ -6,7 +6,8 @@ use Rattle.edit_session.proofs.answering.answers_of.Goals as goal
 
 pub returns-in_err-lines-clause-begun : goal.returns-in_err-lines-clause-begun
 returns-in_err-lines-clause-begun c =
-    after_err c.from_residual.result _ (nothing_logged c.args.budget c.args.log.now _ _ c.requires.unlogged c.requires.honest)
+    after_err c.from_residual.result _
+    (nothing_logged c.args.budget c.args.log.now _ _ c.requires.unlogged c.requires.honest)
 
 pub returns-clause-answer : goal.returns-clause-answer
 returns-clause-answer c =

@@ -1,7 +1,6 @@
 use Rattle.std.proofs.Common.{◌≤◌, ap, sym, ◌∙◌, arith}
 use Rattle.std.specs.FinSet as set
 use Rattle.lane_sieve.specs.Sets.{NumberSet}
-use Rattle.axiom_sets.specs.Sets.{IsWithin}
 use Rattle.edit_session.proofs.Members.{none_up_to, one_up, none_up, all_up}
 use Rattle.edit_session.proofs.inclusion.grown.Goals as goal
 use Rattle.edit_session.proofs.inclusion.grown.Goals.{then-has, else-has}

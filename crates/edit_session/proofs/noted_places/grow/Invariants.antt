@@ -1,4 +1,4 @@
-use Rattle.std.proofs.Common.{◌≡◌, ◌≤◌, length}
+use Rattle.std.proofs.Common.{◌≤◌, length}
 use Rattle.edit_session.specs.Places.{SamePlaces}
 use Rattle.edit_session.proofs.noted_places.grow.Given as goal
 
