@@ -18,7 +18,7 @@ mod taxonomy_text;
 
 pub use answering::classify;
 pub use groups::{Group, Hierarchy, Taxonomy};
-pub use job_inputs::{Question, Status, Text};
+pub use job_inputs::{Status, Text, WrittenQuestion};
 pub use laws::taxonomies_are_answered_alike;
 pub use shq_terms::NoMemory;
 pub use taxonomy_laws::taxonomies_are_unique;

@@ -9,7 +9,9 @@ ghost use Rattle.job_inputs.specs.Refusals.{IsUnanswered};
 ghost use Rattle.decision_jobs.specs.Answering.{IsAnswered, IsDecidedBy, IsBegun, IsUnansweredOn};
 
 use crate::deciding::{decide, status_of, text_of};
-use job_inputs::{Question, Status, Text, Unread, read_document, read_question, unread_reply};
+use job_inputs::{
+    Status, Text, Unread, WrittenQuestion, read_document, read_question, unread_reply,
+};
 use ofn_reader::Context;
 use shq_oracle::RunLog;
 use shq_terms::{Ontology, Query};
@@ -20,7 +22,7 @@ use std::alloc::Global;
 /// `budget` is the number of steps that the search may make.
 pub fn answer(
     alloc: Global,
-    question: Question<'_>,
+    question: WrittenQuestion<'_>,
     budget: u32,
     bytes: &[u8],
     log: &mut RunLog,
@@ -40,7 +42,7 @@ pub fn answer(
 // The answer, unless the document or the question is refused.
 fn answered(
     alloc: Global,
-    question: Question<'_>,
+    question: WrittenQuestion<'_>,
     budget: u32,
     bytes: &[u8],
     log: &mut RunLog,
@@ -62,7 +64,7 @@ fn answered(
 // The answer on a document, unless the question is refused.
 fn answered_on(
     alloc: Global,
-    question: Question<'_>,
+    question: WrittenQuestion<'_>,
     budget: u32,
     bytes: &[u8],
     ontology: &mut Ontology,
@@ -86,7 +88,7 @@ fn answered_on(
 // The answer to a query.
 fn decided(
     alloc: Global,
-    question: Question<'_>,
+    question: WrittenQuestion<'_>,
     budget: u32,
     ontology: &Ontology,
     query: &Query,

@@ -10,7 +10,7 @@ ghost use Rattle.decision_jobs.specs.Decisions.{IsLogged};
 ghost use Rattle.decision_jobs.specs.Deciding.{IsDecision, CanBeWritten, IsKeptModel};
 
 use axiom_sets::AxiomSet;
-use job_inputs::{Question, Status, Text};
+use job_inputs::{Status, Text, WrittenQuestion};
 use shq_oracle::{Answer, Oracle, RunLog};
 use shq_terms::{NoMemory, Ontology, Query};
 use std::alloc::Global;
@@ -75,7 +75,7 @@ pub(crate) fn status_of(decision: &Answer) -> Status
 /// Out of memory.
 pub(crate) fn text_of(
     alloc: Global,
-    question: Question<'_>,
+    question: WrittenQuestion<'_>,
     ontology: &Ontology,
     decision: &Answer,
 ) -> Result<Text, NoMemory>
@@ -108,20 +108,20 @@ fn push_line(out: &mut Vec<u8>, text: &str) -> Result<(), NoMemory>
     Ok(())
 }
 
-fn entailed_line(question: Question<'_>) -> &'static str
+fn entailed_line(question: WrittenQuestion<'_>) -> &'static str
     ensures { result.now ≡ entailed_line (question_text question.entry) }
 {
     match question {
-        Question::HasElement(_) => "unsatisfiable",
-        Question::Follows(_) => "entailed",
+        WrittenQuestion::HasElement(_) => "unsatisfiable",
+        WrittenQuestion::Follows(_) => "entailed",
     }
 }
 
-fn not_entailed_line(question: Question<'_>) -> &'static str
+fn not_entailed_line(question: WrittenQuestion<'_>) -> &'static str
     ensures { result.now ≡ not_entailed_line (question_text question.entry) }
 {
     match question {
-        Question::HasElement(_) => "satisfiable",
-        Question::Follows(_) => "not entailed",
+        WrittenQuestion::HasElement(_) => "satisfiable",
+        WrittenQuestion::Follows(_) => "not entailed",
     }
 }

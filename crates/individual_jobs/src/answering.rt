@@ -9,7 +9,7 @@ ghost use Rattle.individual_jobs.specs.Searching.{AreInLimit, AreWritable, IsAns
 
 use crate::searching::{Explained, explain_all};
 use crate::writing::reasons_text;
-use job_inputs::{Question, Status, Text, Unread, unread_reply};
+use job_inputs::{Status, Text, Unread, WrittenQuestion, unread_reply};
 use pinpointing_jobs::{Input, read_question_input};
 use realizer::RunLog;
 use shq_terms::{Concept, NoMemory, Ontology};
@@ -53,7 +53,7 @@ fn explained(
     ensures unread { IfErr result
         (IsUnanswered (has_element class.now) bytes.now log.new (λ o q. HasBlocks o q.sub budget log.new)) }
 {
-    let input = read_question_input(alloc, Question::HasElement(class), bytes)?;
+    let input = read_question_input(alloc, WrittenQuestion::HasElement(class), bytes)?;
     let answer = explained_input(alloc, budget, input, log)?;
     Ok(answer)
 }

@@ -15,7 +15,7 @@ ghost use Rattle.individual_jobs.specs.Realizations.{AnswersInstances};
 ghost use Rattle.individual_jobs.specs.Realizing.{IsFoundOn};
 ghost use Rattle.individual_jobs.specs.Searching.{AreInLimit};
 
-use job_inputs::{Question, Status, Text, Unread, unread_reply};
+use job_inputs::{Status, Text, Unread, WrittenQuestion, unread_reply};
 use pinpointing_jobs::{Input, read_question_input};
 use realizer::{Halt, NumberList, Oracle, RunLog, instances as found_by, instances_text};
 use shq_terms::{Concept, NoMemory, Ontology};
@@ -60,7 +60,7 @@ fn found(
     ensures unread { IfErr result
         (IsUnanswered (has_element class.now) bytes.now log.new (λ o q. IsInstancesLog o q.sub budget log.new)) }
 {
-    let input = read_question_input(alloc, Question::HasElement(class), bytes)?;
+    let input = read_question_input(alloc, WrittenQuestion::HasElement(class), bytes)?;
     let answer = found_in(alloc, budget, input, log)?;
     Ok(answer)
 }

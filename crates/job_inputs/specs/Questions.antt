@@ -15,8 +15,8 @@ use Rattle.job_inputs.specs.Asked.{IsAsked, IsNotAsked, Reply, refused_document,
 use Rattle.job_inputs.specs.declared.unread.Unread.{Unread}
 use Rattle.job_inputs.specs.declared.unread.Unread.TheVariants as U
 use Rattle.job_inputs.specs.Rest.{IsOnlyGap, IsStray, line_at}
-use Rattle.job_inputs.specs.declared.reading.Question.{Question}
-use Rattle.job_inputs.specs.declared.reading.Question.TheVariants as Q
+use Rattle.job_inputs.specs.declared.reading.WrittenQuestion.{WrittenQuestion}
+use Rattle.job_inputs.specs.declared.reading.WrittenQuestion.TheVariants as Q
 
 -- the text is this class expression on a document, and they list these counts together
 abbrev pub IsClassOf : Listed → DocumentContext → List ℕ → Counts → Concept → Type 0
@@ -30,7 +30,7 @@ pub data Text : Type 0 where
   has_element : List ℕ → Text
   follows : List ℕ → Text
 
-abbrev pub question_text : Question → Text
+abbrev pub question_text : WrittenQuestion → Text
 question_text (Q.HasElement class) = has_element class.now
 question_text (Q.Follows statement) = follows statement.now
 

@@ -29,7 +29,7 @@ pub use laws::{
 };
 pub use message::{Message, unread_reply};
 pub use pieces::{put, put_number, put_set};
-pub use reading::{Question, read_document, read_question};
+pub use reading::{WrittenQuestion, read_document, read_question};
 pub use rest::first_stray;
 pub use status::Status;
 pub use text::Text;

@@ -15,7 +15,7 @@ use text_laws::{Context, Refusal, read_class};
 
 /// What is asked of a document.
 #[derive(Clone, Copy)]
-pub enum Question<'a> {
+pub enum WrittenQuestion<'a> {
     /// Whether the class expression of this text has an element in some interpretation.
     HasElement(&'a str),
     /// Whether the axiom of this text follows, a `SubClassOf` or a `ClassAssertion`.
@@ -64,7 +64,7 @@ fn line_behind(bytes: &[u8], end: usize) -> Option<u32>
 /// `Query` with what is wrong first, and `NoMemory`. The ontology is then as before.
 pub fn read_question(
     alloc: Global,
-    question: Question<'_>,
+    question: WrittenQuestion<'_>,
     ontology: &mut Ontology,
     context: &Context,
 ) -> Result<Query, Unread>
@@ -73,8 +73,10 @@ pub fn read_question(
     ensures unchanged { OnErr result (ontology.new ≡ ontology.old) }
 {
     match question {
-        Question::HasElement(class) => query_of_class(alloc, class, ontology, context),
-        Question::Follows(statement) => query_of_statement(alloc, statement, ontology, context),
+        WrittenQuestion::HasElement(class) => query_of_class(alloc, class, ontology, context),
+        WrittenQuestion::Follows(statement) => query_of_statement(
+            alloc, statement, ontology, context,
+        ),
     }
 }
 

@@ -8,7 +8,7 @@ ghost use Rattle.ontology_jobs.specs.Words.{longest_request, longer_request};
 use crate::workload_number::WorkloadNumber;
 use audit_jobs::Wanted;
 use certificate_lines::number;
-use classification_jobs::Question;
+use classification_jobs::WrittenQuestion;
 
 /// What the words ask for.
 #[derive(Clone, Copy)]
@@ -28,7 +28,7 @@ pub enum Job<'a> {
     /// `audit AXIOM`: verify the audit of this axiom that follows the document.
     Audit(&'a str),
     /// `sat CLASS` or `entails AXIOM`: decide the question.
-    Decide(Question<'a>, u32),
+    Decide(WrittenQuestion<'a>, u32),
     /// `classify`: which class is part of which.
     Classify(u32),
     /// `realize`: the most specific classes of each individual.
@@ -122,9 +122,9 @@ fn read_searching<'a>(job: &str, text: &'a str, budget: u32) -> Option<Command<'
     ensures { option_map command_request result ≡ searching_request job.now text.now budget }
 {
     if job == "sat" {
-        Some(Command::OnInput(Job::Decide(Question::HasElement(text), budget)))
+        Some(Command::OnInput(Job::Decide(WrittenQuestion::HasElement(text), budget)))
     } else if job == "entails" {
-        Some(Command::OnInput(Job::Decide(Question::Follows(text), budget)))
+        Some(Command::OnInput(Job::Decide(WrittenQuestion::Follows(text), budget)))
     } else if job == "instances" {
         Some(Command::OnInput(Job::Instances(text, budget)))
     } else {

@@ -3,7 +3,7 @@ ghost use Rattle.std.specs.Prelude.{◌≤◌, IfOk, IfErr, length};
 ghost use Rattle.job_inputs.specs.Questions.{question_text, IsDocumentAlone};
 ghost use Rattle.pinpointing_jobs.specs.Asked.{IsInputOf, IsNoInputOf, IsInput, IsNoInput};
 
-use job_inputs::{Question, Unread, read_document, read_question};
+use job_inputs::{Unread, WrittenQuestion, read_document, read_question};
 use shq_terms::{Ontology, Query};
 use std::alloc::Global;
 use workload::Context;
@@ -25,7 +25,7 @@ pub fn read_input(alloc: Global, statement: &str, bytes: &[u8]) -> Result<Input,
     ensures input { IfOk result (IsInput statement.now bytes.now) }
     ensures unread { IfErr result (IsNoInput statement.now bytes.now) }
 {
-    read_question_input(alloc, Question::Follows(statement), bytes)
+    read_question_input(alloc, WrittenQuestion::Follows(statement), bytes)
 }
 
 /// The same of any question.
@@ -35,7 +35,7 @@ pub fn read_input(alloc: Global, statement: &str, bytes: &[u8]) -> Result<Input,
 /// What is refused, the document before the question, and `NoMemory`.
 pub fn read_question_input(
     alloc: Global,
-    question: Question<'_>,
+    question: WrittenQuestion<'_>,
     bytes: &[u8],
 ) -> Result<Input, Unread>
     requires { length bytes.now ≤ 4294967293 }
@@ -51,7 +51,7 @@ pub fn read_question_input(
 // Reads a question on a document.
 fn read_query(
     alloc: Global,
-    question: Question<'_>,
+    question: WrittenQuestion<'_>,
     bytes: &[u8],
     mut ontology: Ontology,
     context: &Context,

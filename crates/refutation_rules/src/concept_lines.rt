@@ -24,7 +24,7 @@ impl<'a> Rules<'a> {
         requires { IsBranch (length self.now.table) branch.now }
         ensures { IfOk result (λ o. IsOutcome self.now branch.now (and_line node concept) o) }
     {
-        let Some(shape) = self.held(branch, node, concept) else {
+        let Some(shape) = self.shape_in_label(branch, node, concept) else {
             return Ok(None)
         };
         match shape {
@@ -43,7 +43,7 @@ impl<'a> Rules<'a> {
         requires { IsBranch (length self.now.table) branch.now }
         ensures { IfOk result (λ o. IsOutcome self.now branch.now (or_line node concept) o) }
     {
-        let Some(shape) = self.held(branch, node, concept) else {
+        let Some(shape) = self.shape_in_label(branch, node, concept) else {
             return Ok(None)
         };
         match shape {
@@ -140,7 +140,7 @@ impl<'a> Rules<'a> {
         requires { IsBranch (length self.now.table) branch.now }
         ensures { LineCloses self.now branch.now node concept result }
     {
-        let Some(shape) = self.held(branch, node, concept) else {
+        let Some(shape) = self.shape_in_label(branch, node, concept) else {
             return None
         };
         match shape {

@@ -23,7 +23,7 @@ impl<'a> Rules<'a> {
         requires { IsBranch (length self.now.table) branch.now }
         ensures { IsOutcome self.now branch.now (most_line node concept ends.now) result }
     {
-        let Some(shape) = self.held(branch, node, concept) else {
+        let Some(shape) = self.shape_in_label(branch, node, concept) else {
             return None
         };
         match shape {

@@ -62,7 +62,7 @@ impl<'a> Rules<'a> {
         requires { IsBranch (length self.now.table) branch.now }
         ensures { LineAdds self.now branch.now (all_line node end concept) end result }
     {
-        let Some(shape) = self.held(branch, node, concept) else {
+        let Some(shape) = self.shape_in_label(branch, node, concept) else {
             return None
         };
         match shape {
@@ -110,7 +110,7 @@ impl<'a> Rules<'a> {
         requires { IsBranch (length self.now.table) branch.now }
         ensures { LinePassesOn self.now branch.now node end role concept result }
     {
-        let Some(shape) = self.held(branch, node, concept) else {
+        let Some(shape) = self.shape_in_label(branch, node, concept) else {
             return None
         };
         match shape {

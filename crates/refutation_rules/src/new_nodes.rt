@@ -23,7 +23,7 @@ impl<'a> Rules<'a> {
         requires { IsBranch (length self.now.table) branch.now }
         ensures { IsOutcome self.now branch.now (some_line node first concept) result }
     {
-        let Some(shape) = self.held(branch, node, concept) else {
+        let Some(shape) = self.shape_in_label(branch, node, concept) else {
             return None
         };
         match shape {
@@ -54,7 +54,7 @@ impl<'a> Rules<'a> {
         requires { IsBranch (length self.now.table) branch.now }
         ensures { IsOutcome self.now branch.now (least_line node first concept) result }
     {
-        let Some(shape) = self.held(branch, node, concept) else {
+        let Some(shape) = self.shape_in_label(branch, node, concept) else {
             return None
         };
         match shape {

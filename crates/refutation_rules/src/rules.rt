@@ -188,7 +188,12 @@ impl<'a> Rules<'a> {
     }
 
     // The shape of a concept of the refutation that a known node has.
-    pub(crate) fn held(&self, branch: &BranchFacts, node: u32, concept: u32) -> Option<Shape<'_>>
+    pub(crate) fn shape_in_label(
+        &self,
+        branch: &BranchFacts,
+        node: u32,
+        concept: u32,
+    ) -> Option<Shape<'_>>
         requires { IsBranch (length self.now.table) branch.now }
         ensures { IsHeld self.now branch.now node concept result }
     {

@@ -3,7 +3,7 @@ use Rattle.calculus_specs.specs.Tree.{tree_of}
 use Rattle.calculus_specs.specs.Valid.{concept_at}
 use Rattle.refutation_rules.specs.Outcomes.{known_of}
 use Rattle.refutation_rules.proofs.Held.{at_held}
-use Rattle.refutation_rules.proofs.rules.Rules.held.Goals as goal
+use Rattle.refutation_rules.proofs.rules.Rules.shape_in_label.Goals as goal
 
 pub returns : goal.returns
 returns c =
