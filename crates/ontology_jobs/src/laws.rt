@@ -15,7 +15,7 @@ pub fn bad_words_ask_for_nothing()
 {}
 
 /// Where a document or a question is refused, each run on the same words and input refuses it alike, unless something
-/// fails or memory is refused: so it is refused exactly where a run says so, whatever the job and the budget.
+/// fails or memory is refused: so it is refused exactly where a run says so, whatever the job.
 pub fn refusals_are_answered_alike()
     ensures { RefusalsAreAnsweredAlike }
 {}
