@@ -31,6 +31,8 @@ mod random_tests;
 #[cfg(test)]
 mod role_tests;
 #[cfg(test)]
+mod room_tests;
+#[cfg(test)]
 mod row_tests;
 #[cfg(test)]
 mod rule_tests;
