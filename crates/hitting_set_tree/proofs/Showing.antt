@@ -107,7 +107,7 @@ module _ (m m' : Meaning) (old new : Lists) (rooted : ℕ) (node : Node) (part j
   listed_last =
       subst (λ (xs : List Limited). Contains xs just) (sym adds.justifications) (Contains-push old.justifications just)
 
-  pub shown_label : LosesNothing m m' part (S.Just just) → ListsShown m m' new.justifications true
+  pub shown_label : LosesNothing m m' part (S.Smallest just) → ListsShown m m' new.justifications true
   shown_label above s at = elim (above s at) [ inl before ↦ inl before | inr inside ↦ inr (just, listed_last, inside) ]
 
   pub label_found : IsPart just.members part.members → HasFoundIn m' new.justifications part.members true

@@ -1,6 +1,8 @@
 //! All smallest yes-sets, and the leaves of a tree of sets that hit them.
 //!
-//! The nodes that are still to be looked at, and what they stand for, are kept in `frames`.
+//! The tree is a hitting-set tree (Raymond Reiter, "A Theory of Diagnosis from First Principles", Artificial
+//! Intelligence 32, 1987) in which no set is looked at twice. The nodes that are still to be looked at, and what they
+//! stand for, are kept in `frames`.
 #![tactic(auto)]
 
 mod frames;

@@ -369,7 +369,7 @@ fn label_node<E: Entail>(
     ensures asked { (E.meaning entail.new).asks ≤ (E.meaning entail.old).asks + (E.meaning entail.old).size }
 {
     match shrink(entail, part)? {
-        Shrunk::Just(just) => {
+        Shrunk::Smallest(just) => {
             add_label(tree, node, just)?;
             Ok(true)
         }

@@ -12,7 +12,7 @@ use Rattle.pinpointing_specs.specs.Smallest.{Grows, without}
 use Rattle.axiom_sets.proofs.Same.{set_of_parts}
 use Rattle.pinpointing_specs.proofs.Choices.{in_without, to_without}
 use Rattle.set_questions.specs.Meaning.{Meaning, Keeps}
-use Rattle.justification_shrink.specs.declared.Shrunk.TheVariants.{Just, Spent}
+use Rattle.justification_shrink.specs.declared.Shrunk.TheVariants.{Smallest, Spent}
 use Rattle.justification_shrink.specs.Shrunk.{Tries, TriesAbove, ShowsAbove, LosesNothing}
 
 -- what is left of `start` once the numbers below n were tried
@@ -105,7 +105,7 @@ module _ (m m' : Meaning) (keeps : Keeps m m') (grows : Grows m.holds) (start ke
             ];
       }
 
-  pub step : (next : Limited) → Tries m' kept n (Just next) → IsShrunk m' start next (n + 1)
+  pub step : (next : Limited) → Tries m' kept n (Smallest next) → IsShrunk m' start next (n + 1)
   step next tried =
       elim tried.1 [
         | inl need ↦ stays next tried.0 need.0 need.1
@@ -114,7 +114,7 @@ module _ (m m' : Meaning) (keeps : Keeps m m') (grows : Grows m.holds) (start ke
 
 -- what was shown until the number was tried, and meanwhile, has what is left as part
 pub above_next : (m m' m'' : Meaning) (kept next : Limited) (n : ℕ) → ShowsAbove m m' kept
-    → Tries m'' kept n (Just next) → ShowsAbove m' m'' next → ShowsAbove m m'' next
+    → Tries m'' kept n (Smallest next) → ShowsAbove m' m'' next → ShowsAbove m m'' next
 above_next m m' m'' kept next n above tried shown s at =
     let inside : IsPart next.members kept.members = elim tried.1 [
       | inl same ↦ λ k h. subst (λ (t : NumberSet). set.contains t k ≡ true) same.0 h

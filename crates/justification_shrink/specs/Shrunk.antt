@@ -6,11 +6,11 @@ use Rattle.axiom_sets.specs.Sets.{Limited}
 use Rattle.pinpointing_specs.specs.Smallest.{IsMinimalYes, without}
 use Rattle.set_questions.specs.Meaning.{Meaning}
 use Rattle.justification_shrink.specs.declared.Shrunk.{Shrunk}
-use Rattle.justification_shrink.specs.declared.Shrunk.TheVariants.{Just, Spent}
+use Rattle.justification_shrink.specs.declared.Shrunk.TheVariants.{Smallest, Spent}
 
 -- a smallest yes-set inside the start, which is the start or was shown to be a yes-set
 abbrev pub ShrinksTo : Meaning → Limited → Shrunk → Type 0
-ShrinksTo m start (Just j) = (j.limit ≡ start.limit) × IsPart j.members start.members × IsMinimalYes m.holds j
+ShrinksTo m start (Smallest j) = (j.limit ≡ start.limit) × IsPart j.members start.members × IsMinimalYes m.holds j
     × ((j.members ≡ start.members) ⊎ m.shown_yes j.members)
 ShrinksTo m start Spent = m.left ≡ 0
 
@@ -28,14 +28,14 @@ ShowsAbove m m' kept = (s : NumberSet) → m'.shown_yes s → m.shown_yes s ⊎ 
 -- nothing is lost of what was shown: it has the result as part, or a yes-set inside the start that was not tried to its
 -- end
 abbrev pub LosesNothing : Meaning → Meaning → Limited → Shrunk → Type 0
-LosesNothing m m' start (Just j) = ShowsAbove m m' j
+LosesNothing m m' start (Smallest j) = ShowsAbove m m' j
 LosesNothing m m' start Spent = (kept : Limited) × IsPart kept.members start.members × IsUndecided m' kept
     × ShowsAbove m m' kept
 
 -- what is left of a yes-set that was tried without one of its numbers: the same set, which needs the number if it has
 -- it, or a smaller one without it
 abbrev pub Tries : Meaning → Limited → ℕ → Shrunk → Type 0
-Tries m kept number (Just j) =
+Tries m kept number (Smallest j) =
     (j.limit ≡ kept.limit)
     × (((j.members ≡ kept.members)
     × (set.contains kept.members number ≡ true → ¬ m.holds (without kept number).members))
@@ -45,6 +45,6 @@ Tries m kept number Spent = m.left ≡ 0
 -- what was shown meanwhile has what is left as part; where the budget was spent, nothing was, and no answer is
 -- remembered
 abbrev pub TriesAbove : Meaning → Meaning → Limited → ℕ → Shrunk → Type 0
-TriesAbove m m' kept number (Just j) = ShowsAbove m m' j
+TriesAbove m m' kept number (Smallest j) = ShowsAbove m m' j
 TriesAbove m m' kept number Spent = (set.contains kept.members number ≡ true) × m'.unknown (without kept number).members
     × ((s : NumberSet) → m'.shown_yes s → m.shown_yes s)

@@ -23,7 +23,7 @@ use set_questions::{Entail, Reply};
 #[derive(Drop)]
 pub enum Shrunk {
     /// A smallest yes-set.
-    Just(AxiomSet),
+    Smallest(AxiomSet),
     /// The budget was spent.
     Spent,
 }
@@ -48,11 +48,11 @@ pub fn shrink<E: Entail>(entail: &mut E, start: &AxiomSet) -> Result<Shrunk, NoM
     let limit = start.limit();
     for place in 0..limit {
         match try_without(entail, kept, place + 1)? {
-            Shrunk::Just(next) => kept = next,
+            Shrunk::Smallest(next) => kept = next,
             Shrunk::Spent => return Ok(Shrunk::Spent),
         }
     }
-    Ok(Shrunk::Just(kept))
+    Ok(Shrunk::Smallest(kept))
 }
 
 /// What is left of a yes-set once it was tried without one of its numbers.
@@ -73,14 +73,14 @@ fn try_without<E: Entail>(
     ensures taken { (E.meaning entail.new).taken ≡ (E.meaning entail.old).taken }
 {
     if !kept.has(number) {
-        return Ok(Shrunk::Just(kept));
+        return Ok(Shrunk::Smallest(kept));
     }
     kept.take(number);
     match entail.ask(&kept)? {
-        Reply::Yes(part) => Ok(Shrunk::Just(part)),
+        Reply::Yes(part) => Ok(Shrunk::Smallest(part)),
         Reply::No => {
             kept.put(number);
-            Ok(Shrunk::Just(kept))
+            Ok(Shrunk::Smallest(kept))
         }
         Reply::Spent => Ok(Shrunk::Spent),
     }

@@ -23,9 +23,9 @@ pub(crate) struct Elements {
 pub(crate) fn elements_of<A: Allocator + Copy>(
     alloc: Global,
     tree: &Tree<A>,
-    prints: &Blocks,
+    found_blocks: &Blocks,
 ) -> Result<Elements, NoMemory>
-    requires { IsCurrent tree.now.first (facts_in tree.now.entries) prints.now }
+    requires { IsCurrent tree.now.first (facts_in tree.now.entries) found_blocks.now }
     ensures numbered { IfOk result
         (λ e. AreNumbered tree.now.first (facts_in tree.now.entries)
         (node_count_from tree.now.first (facts_in tree.now.entries)) e.numbers.items e.originals.items) }
@@ -36,22 +36,22 @@ pub(crate) fn elements_of<A: Allocator + Copy>(
         originals: Vec::new(alloc),
     };
     for node in 0..tree.nodes() {
-        let original = original_of(tree, prints, node);
+        let original = original_of(tree, found_blocks, node);
         put_node(&mut elements.numbers, &mut elements.originals, original)?;
     }
     Ok(elements)
 }
 
 /// The clear node that a node is like, if it is an element.
-fn original_of<A: Allocator + Copy>(tree: &Tree<A>, prints: &Blocks, node: u32) -> Option<u32>
+fn original_of<A: Allocator + Copy>(tree: &Tree<A>, found_blocks: &Blocks, node: u32) -> Option<u32>
     requires node { node < node_count_from tree.now.first (facts_in tree.now.entries) }
-    requires current { IsCurrent tree.now.first (facts_in tree.now.entries) prints.now }
+    requires current { IsCurrent tree.now.first (facts_in tree.now.entries) found_blocks.now }
     ensures { result ≡ like_node tree.now.first (facts_in tree.now.entries) node }
 {
     if tree.representative(node) != node {
         return None;
     }
-    original_by(state(tree, prints, node), node)
+    original_by(state(tree, found_blocks, node), node)
 }
 
 /// The clear node that a representative with this block is like.

@@ -4,8 +4,9 @@
 //! classes and the edges of the node that it is like; the role axioms make an interpretation of it (`structure_model`).
 //! This is the interpretation by which a saturated search refutes its query (`search_laws`).
 //!
-//! - A blocked node is an element of its own: it has the classes and the successors of its blocker. So two nodes that
-//!   one node blocks stay two elements, as 'at least 2' asks.
+//! - A blocked node is an element of its own: it has the classes and the successors of its blocker (Horrocks, Sattler
+//!   and Tobies, "Practical Reasoning for Expressive Description Logics", 1999). So two nodes that one node blocks stay
+//!   two elements, as 'at least 2' asks.
 //! - Each end of an edge is found by its number, in a list with a place for each node, so that all edges together cost
 //!   what they are.
 //! - An individual is the element that its node is one with (`places`). First nodes are never blocked, so that there is

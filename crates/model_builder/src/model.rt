@@ -26,9 +26,9 @@ use std::alloc::{Allocator, Global};
 /// The finite interpretation of a saturated tree: it meets the axioms of the rules, and an element of it is in the left
 /// side of the query and not in its right side; where the query is on an individual, that individual is.
 ///
-/// The tree's trail is one that a search over these rules for the query reaches, and is saturated; `prints` has its
-/// blocks. The interpretation is exactly that of the trail, and uses listed names alone. It costs what the labels and
-/// the edges of the elements cost, and the pairs of transitive roles.
+/// The tree's trail is one that a search over these rules for the query reaches, and is saturated; `found_blocks` has
+/// its blocks. The interpretation is exactly that of the trail, and uses listed names alone. It costs what the labels
+/// and the edges of the elements cost, and the pairs of transitive roles.
 ///
 /// # Errors
 ///
@@ -36,12 +36,12 @@ use std::alloc::{Allocator, Global};
 pub fn build<A: Allocator + Copy>(
     alloc: Global,
     tree: &Tree<A>,
-    prints: &Blocks,
+    found_blocks: &Blocks,
     rules: &SearchRules<'_>,
     query: &Query,
 ) -> Result<Interp, NoMemory>
     requires first { tree.now.first ≡ (context_in rules.now).first }
-    requires current { IsCurrent tree.now.first (facts_in tree.now.entries) prints.now }
+    requires current { IsCurrent tree.now.first (facts_in tree.now.entries) found_blocks.now }
     requires within { IsInLimit rules.now.ontology query.now }
     requires saturated { IsSaturatedTrail rules.now query.now (items_of tree.now.entries) }
     ensures built { IfOk result (λ k. IsBuilt (context_in rules.now) (facts_in tree.now.entries) (meaning k)) }
@@ -52,7 +52,14 @@ pub fn build<A: Allocator + Copy>(
     let _ = query;
     let count = rules.ontology().role_count();
     let concepts = rules.concepts();
-    let model = interpretation_of_elements(alloc, tree, prints, concepts, rules.roles(), count)?;
+    let model = interpretation_of_elements(
+        alloc,
+        tree,
+        found_blocks,
+        concepts,
+        rules.roles(),
+        count,
+    )?;
     let _size = model.size();
     Ok(model)
 }
@@ -68,17 +75,17 @@ pub fn build<A: Allocator + Copy>(
 pub fn interpretation_of_elements<A: Allocator + Copy>(
     alloc: Global,
     tree: &Tree<A>,
-    prints: &Blocks,
+    found_blocks: &Blocks,
     concepts: &Concepts,
     roles: &RoleBox,
     count: u32,
 ) -> Result<Interp, NoMemory>
-    requires { IsCurrent tree.now.first (facts_in tree.now.entries) prints.now }
+    requires { IsCurrent tree.now.first (facts_in tree.now.entries) found_blocks.now }
     ensures { IfOk result
         (λ k. IsOfElements concepts.now roles.now count tree.now.first (facts_in tree.now.entries) (meaning k)) }
 {
     elements_are_few();
-    let elements = elements_of(alloc, tree, prints)?;
+    let elements = elements_of(alloc, tree, found_blocks)?;
     let numbers = elements.numbers.as_slice();
     let originals = elements.originals.as_slice();
     let size = originals.len() as u32;

@@ -3,8 +3,8 @@
 //! The groups of a text are read as axioms (OWL 2 Structural Specification, sections 3.7, 5 and 9), in one pass and
 //! with no tree of axioms in between. What a text says is defined apart from that pass: a document has a list of tests
 //! in the order of its text, of shapes, prefixes, excluded constructs and limits, and after these the tests for simple
-//! roles, on which the decidability of SHQ rests (Horrocks, Sattler and Tobies, 1999). A document is refused for the
-//! first test that fails.
+//! roles, on which the decidability of SHQ rests (Horrocks, Sattler and Tobies, "Practical Reasoning for Expressive
+//! Description Logics", 1999). A document is refused for the first test that fails.
 //!
 //! A text says one thing at most, has one reason at most to be refused, and not both. A query on a document goes on
 //! from the document's counts of names and nodes, and leaves the ontology as it was where it is refused.

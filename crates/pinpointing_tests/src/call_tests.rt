@@ -29,7 +29,7 @@ fn shrunk_in<E: Entail>(oracle: &mut E, set: &AxiomSet) -> Result<Option<u64>, F
 {
     match oracle.ask(set)? {
         Reply::Yes(part) => match shrink(oracle, &part)? {
-            Shrunk::Just(just) => Ok(Some(mask_of(&just))),
+            Shrunk::Smallest(just) => Ok(Some(mask_of(&just))),
             Shrunk::Spent => Ok(None),
         },
         Reply::No => Ok(None),

@@ -47,22 +47,22 @@ module _ (n : ℕ) where
       both_listed (apart_from first (first + 1) count) (pairwise_apart (first + 1) count)
       (aparts_listed first count (first + 1)) (pairs_listed count (first + 1))
 
-  abbrev IsListed : Branch → Type 0
-  IsListed k = are_listed n k.facts ≡ true
+  abbrev HasListedFacts : Branch → Type 0
+  HasListedFacts k = are_listed n k.facts ≡ true
 
-  one : (k : Branch) → IsListed k → All IsListed (k ∷ [])
-  one k h = All-cons IsListed k [] h (All-nil IsListed)
+  one : (k : Branch) → HasListedFacts k → All HasListedFacts (k ∷ [])
+  one k h = All-cons HasListedFacts k [] h (All-nil HasListedFacts)
 
-  each_listed : (k : Branch) (fs : List (Fact ℕ)) → IsListed k → are_listed n fs ≡ true
-      → All IsListed (map (λ f. branch_with_facts k (f ∷ [])) fs)
-  each_listed k [] h l = All-nil IsListed
+  each_listed : (k : Branch) (fs : List (Fact ℕ)) → HasListedFacts k → are_listed n fs ≡ true
+      → All HasListedFacts (map (λ f. branch_with_facts k (f ∷ [])) fs)
+  each_listed k [] h l = All-nil HasListedFacts
   each_listed k (f ∷ fs) h l =
       let p = and_parts (is_fact_listed n f) (are_listed n fs) l in
-      All-cons IsListed (branch_with_facts k (f ∷ [])) (map (λ g. branch_with_facts k (g ∷ [])) fs)
+      All-cons HasListedFacts (branch_with_facts k (f ∷ [])) (map (λ g. branch_with_facts k (g ∷ [])) fs)
       (both_listed k.facts (f ∷ []) h (and_from (is_fact_listed n f) true p.0 refl)) (each_listed k fs h p.1)
 
-  all_listed : (k : Branch) (o : Outcome) → IsListed k → IsFit n k o → All IsListed (branches_after k o)
-  all_listed k Closed h fit = All-nil IsListed
+  all_listed : (k : Branch) (o : Outcome) → HasListedFacts k → IsFit n k o → All HasListedFacts (branches_after k o)
+  all_listed k Closed h fit = All-nil HasListedFacts
   all_listed k (Started m) h fit =
       one _ (and_from (is_fact_listed n (Has m.asked m.sub)) (is_fact_listed n (Has m.asked m.not_sup) && true)
       (lt-ltb m.sub n fit.1) (and_from (is_fact_listed n (Has m.asked m.not_sup)) true (lt-ltb m.not_sup n fit.2) refl))

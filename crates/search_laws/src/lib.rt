@@ -5,7 +5,7 @@
 //!   legal search ends, and after how many steps.
 //! - `counter_model_laws`: a saturated trail describes a finite interpretation that meets the axioms and refutes the
 //!   query.
-//! - `reuse_laws`: what the run of one search shows of other queries.
+//! - `reuse_laws`: what the run of one search shows of other queries (Haarslev, Möller and Turhan, 2001).
 #![tactic(auto)]
 
 mod bound_laws;

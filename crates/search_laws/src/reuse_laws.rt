@@ -15,7 +15,7 @@
 //! - **The end is saturated** by the same reasons. The blocks are the same: a first node is never blocked, and the one
 //!   in question blocks no other node less than before, since no other node has the complement.
 //!
-//! Such reuse of a satisfiability test is the pseudo-model technique of classification (Haarslev, Moeller and Turhan,
+//! Such reuse of a satisfiability test is the pseudo-model technique of classification (Haarslev, Möller and Turhan,
 //! "Exploiting Pseudo Models for TBox and ABox Reasoning in Expressive Description Logics", 2001), here with a proof
 //! that it saves no step that a log owes.
 ghost use Rattle.search_laws.specs.ReuseLaws.{AnyIsUnnamed, OneRunAnswersMore, StepsPutLast};

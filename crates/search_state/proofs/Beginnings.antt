@@ -23,14 +23,14 @@ module _ (w : SearchContext) (q : Query) (at sub not_sup : ℕ) (asked : IsAsked
   entries_now = begun_entries at sub not_sup
 
   abbrev at_start : Printed → Option Clash → ProgressLists
-  at_start prints clash = record {
+  at_start found_blocks clash = record {
     query = q;
     at = at;
     sub = sub;
     not_sup = not_sup;
     first = w.first;
     entries = entries_now;
-    prints = prints;
+    found_blocks = found_blocks;
     trace = begun;
     marks = [];
     clash = clash;
@@ -46,9 +46,10 @@ module _ (w : SearchContext) (q : Query) (at sub not_sup : ℕ) (asked : IsAsked
       (and_from (is_known_within w.first sets.empty (marked_in entries_now) at && true) true
       (and_from (is_known_within w.first sets.empty (marked_in entries_now) at) true k refl) refl)
 
-  stands : (prints : Printed) → AreFirstBlocks w.first (facts_in entries_now) prints → (clash : Option Clash)
-      → IsStanding w (at_start prints clash)
-  stands prints blocks clash = record {
+  stands : (found_blocks : Printed) → AreFirstBlocks w.first (facts_in entries_now) found_blocks
+      → (clash : Option Clash)
+      → IsStanding w (at_start found_blocks clash)
+  stands found_blocks blocks clash = record {
     asked = asked;
     first_is = refl;
     follows = refl;
@@ -63,19 +64,20 @@ module _ (w : SearchContext) (q : Query) (at sub not_sup : ℕ) (asked : IsAsked
     fit = All-nil (IsFitLine w sub not_sup);
   }
 
-  starts : (prints : Printed) → IsCurrent w.first (facts_in entries_now) prints
-      → AreFirstBlocks w.first (facts_in entries_now) prints → (clash : Option Clash)
+  starts : (found_blocks : Printed) → IsCurrent w.first (facts_in entries_now) found_blocks
+      → AreFirstBlocks w.first (facts_in entries_now) found_blocks → (clash : Option Clash)
       → IsClashOf w (facts_in entries_now) clash
-      → HasBegun w (at_start prints clash)
-  starts prints current blocks clash is = record {
-    is_searching = record { standing = stands prints blocks clash; clash = is };
+      → HasBegun w (at_start found_blocks clash)
+  starts found_blocks current blocks clash is = record {
+    is_searching = record { standing = stands found_blocks blocks clash; clash = is };
     current = current;
     trail_is = refl;
     no_steps = refl;
   }
 
-  pub begins : (first : ℕ) → first ≡ w.first → (es : List Entry) → es ≡ entries_now → (prints : Printed)
-      → IsCurrent first (facts_in es) prints → AreFirstBlocks first (facts_in es) prints → (trace : TraceLists)
+  pub begins : (first : ℕ) → first ≡ w.first → (es : List Entry) → es ≡ entries_now → (found_blocks : Printed)
+      → IsCurrent first (facts_in es) found_blocks → AreFirstBlocks first (facts_in es) found_blocks
+      → (trace : TraceLists)
       → trace ≡ begun
       → (marks : List ℕ) → marks ≡ [] → (clash : Option Clash) → IsClashOf w (facts_in es) clash
       → HasBegun w (record {
@@ -85,22 +87,22 @@ module _ (w : SearchContext) (q : Query) (at sub not_sup : ℕ) (asked : IsAsked
         not_sup = not_sup;
         first = first;
         entries = es;
-        prints = prints;
+        found_blocks = found_blocks;
         trace = trace;
         marks = marks;
         clash = clash;
         steps = 0;
       })
-  begins first one es are prints current blocks trace traced marks none clash is =
+  begins first one es are found_blocks current blocks trace traced marks none clash is =
       let h =
-      starts prints
-      (subst (λ (k : ℕ). IsCurrent k (facts_in entries_now) prints) one
-      (subst (λ (xs : List Entry). IsCurrent first (facts_in xs) prints) are current))
-      (subst (λ (k : ℕ). AreFirstBlocks k (facts_in entries_now) prints) one
-      (subst (λ (xs : List Entry). AreFirstBlocks first (facts_in xs) prints) are blocks))
+      starts found_blocks
+      (subst (λ (k : ℕ). IsCurrent k (facts_in entries_now) found_blocks) one
+      (subst (λ (xs : List Entry). IsCurrent first (facts_in xs) found_blocks) are current))
+      (subst (λ (k : ℕ). AreFirstBlocks k (facts_in entries_now) found_blocks) one
+      (subst (λ (xs : List Entry). AreFirstBlocks first (facts_in xs) found_blocks) are blocks))
       clash
       (subst (λ (xs : List Entry). IsClashOf w (facts_in xs) clash) are is) in
-      let all : at_start prints clash
+      let all : at_start found_blocks clash
       ≡ record {
         query = q;
         at = at;
@@ -108,7 +110,7 @@ module _ (w : SearchContext) (q : Query) (at sub not_sup : ℕ) (asked : IsAsked
         not_sup = not_sup;
         first = first;
         entries = es;
-        prints = prints;
+        found_blocks = found_blocks;
         trace = trace;
         marks = marks;
         clash = clash;
@@ -121,7 +123,7 @@ module _ (w : SearchContext) (q : Query) (at sub not_sup : ℕ) (asked : IsAsked
         not_sup = not_sup;
         first = sym one i;
         entries = sym are i;
-        prints = prints;
+        found_blocks = found_blocks;
         trace = sym traced i;
         marks = sym none i;
         clash = clash;

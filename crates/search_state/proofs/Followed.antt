@@ -15,16 +15,16 @@ entries_same old new same = ap (λ (q : ProgressLists). q.entries) same
 
 -- all blocks are those that are there
 pub followed_first : (old new : ProgressLists) → HasFollowed old new
-    → AreFirstBlocks new.first (facts_in new.entries) new.prints
-followed_first old new h = all_are_first new.first (facts_in new.entries) new.prints h.current
+    → AreFirstBlocks new.first (facts_in new.entries) new.found_blocks
+followed_first old new h = all_are_first new.first (facts_in new.entries) new.found_blocks h.current
 
 pub still_stands : (w : SearchContext) (old new : ProgressLists) → IsSameButBlocks old new
-    → AreFirstBlocks new.first (facts_in new.entries) new.prints → IsStanding w old → IsStanding w new
+    → AreFirstBlocks new.first (facts_in new.entries) new.found_blocks → IsStanding w old → IsStanding w new
 still_stands w old new same first st = subst (λ (q : ProgressLists). IsStanding w q) (sym same) (record {
   asked = st.asked;
   first_is = st.first_is;
   follows = st.follows;
-  blocks = subst (λ (q : ProgressLists). AreFirstBlocks q.first (facts_in q.entries) new.prints) same first;
+  blocks = subst (λ (q : ProgressLists). AreFirstBlocks q.first (facts_in q.entries) new.found_blocks) same first;
   places = st.places;
   traced = st.traced;
   are_marks = st.are_marks;
@@ -38,7 +38,7 @@ still_none w old new same none =
     subst (λ (es : List Entry). IsClashOf w (facts_in es) None) (sym (entries_same old new same)) none
 
 pub still_searches : (w : SearchContext) (old new : ProgressLists) → IsSameButBlocks old new
-    → AreFirstBlocks new.first (facts_in new.entries) new.prints → IsSearching w old → IsSearching w new
+    → AreFirstBlocks new.first (facts_in new.entries) new.found_blocks → IsSearching w old → IsSearching w new
 still_searches w old new same first h = record {
   standing = still_stands w old new same first h.standing;
   clash = subst (λ (q : ProgressLists). IsClashOf w (facts_in q.entries) q.clash) (sym same) h.clash;
@@ -50,7 +50,7 @@ pub stepped_after : (w : SearchContext) (old mid new : ProgressLists) → IsSame
 stepped_after w old mid new same s h = by_kind s (subst (λ (q : ProgressLists). IsStepped w q new s) same h)
   where
     before : ProgressLists
-    before = record old { prints = mid.prints }
+    before = record old { found_blocks = mid.found_blocks }
 
     by_kind : (s : Stepped) → IsStepped w before new s → IsStepped w old new s
     by_kind Moved h = (

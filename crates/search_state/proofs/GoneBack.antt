@@ -51,7 +51,7 @@ module _ (w : SearchContext) (old : ProgressLists) (st : IsStanding w old) (clas
     not_sup = old.not_sup;
     first = old.first;
     entries = old.entries;
-    prints = old.prints;
+    found_blocks = old.found_blocks;
     trace = closed_trace old.trace line u;
     marks = old.marks;
     clash = old.clash;

@@ -41,7 +41,7 @@ pub record IsNext (old new : ProgressLists) (entries : List Entry) (trace : Trac
   pub trace_is : new.trace ≡ trace
   pub marks_are : new.marks ≡ marks
   pub counted : new.steps ≡ old.steps + 1
-  pub blocks : AreFirstBlocks new.first (facts_in new.entries) new.prints
+  pub blocks : AreFirstBlocks new.first (facts_in new.entries) new.found_blocks
 
 module _ (w : SearchContext) (old : ProgressLists) where
   -- what is kept of the entries, the trace and the marks
@@ -65,7 +65,7 @@ module _ (w : SearchContext) (old : ProgressLists) where
         not_sup = old.not_sup;
         first = old.first;
         entries = entries;
-        prints = new.prints;
+        found_blocks = new.found_blocks;
         trace = trace;
         marks = marks;
         clash = new.clash;
@@ -79,7 +79,7 @@ module _ (w : SearchContext) (old : ProgressLists) where
         not_sup = sym n.not_sup i;
         first = sym n.first i;
         entries = sym n.entries_are i;
-        prints = new.prints;
+        found_blocks = new.found_blocks;
         trace = sym n.trace_is i;
         marks = sym n.marks_are i;
         clash = new.clash;
@@ -93,8 +93,9 @@ module _ (w : SearchContext) (old : ProgressLists) where
         first_is = first_is;
         follows = subst (λ (m : ℕ). Follows w (start old.at old.sub old.not_sup) m (items_of entries)) more base;
         blocks =
-            subst (λ (k : ℕ). AreFirstBlocks k (facts_in entries) new.prints) n.first
-            (subst (λ (es : List Entry). AreFirstBlocks new.first (facts_in es) new.prints) n.entries_are n.blocks);
+            subst (λ (k : ℕ). AreFirstBlocks k (facts_in entries) new.found_blocks) n.first
+            (subst (λ (es : List Entry). AreFirstBlocks new.first (facts_in es) new.found_blocks) n.entries_are
+            n.blocks);
         places = k.places;
         traced = k.traced;
         are_marks = k.are_marks;

@@ -45,7 +45,7 @@ pub record ProgressLists : Type 0 where
   pub not_sup : ℕ
   pub first : ℕ
   pub entries : List Entry
-  pub prints : Printed
+  pub found_blocks : Printed
   pub trace : TraceLists
   pub marks : List ℕ
   pub clash : Option Clash
@@ -101,7 +101,7 @@ pub record IsStanding (w : SearchContext) (s : ProgressLists) : Type 0 where
   pub asked : IsAsked w s.query s.at s.sub s.not_sup
   pub first_is : s.first ≡ w.first
   pub follows : Follows w (start s.at s.sub s.not_sup) s.steps (items_of s.entries)
-  pub blocks : AreFirstBlocks s.first (facts_in s.entries) s.prints
+  pub blocks : AreFirstBlocks s.first (facts_in s.entries) s.found_blocks
   pub places : List Place
   pub traced : IsTracedAt (asked_by w s) w.table (start_of (asked_by w s)) s.trace places (marked_in s.entries)
   pub are_marks : AreMarks w s.entries s.marks places

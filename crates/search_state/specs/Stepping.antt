@@ -18,25 +18,25 @@ use Rattle.search_state.specs.Progress.{ProgressLists, asked_by, IsFitLine, IsSe
 -- what has begun
 pub record HasBegun (w : SearchContext) (s : ProgressLists) : Type 0 where
   pub is_searching : IsSearching w s
-  pub current : IsCurrent s.first (facts_in s.entries) s.prints
+  pub current : IsCurrent s.first (facts_in s.entries) s.found_blocks
   pub trail_is : items_of s.entries ≡ start s.at s.sub s.not_sup
   pub no_steps : s.steps ≡ 0
 
 -- nothing has changed but what is known of blocks
 abbrev pub IsSameButBlocks : ProgressLists → ProgressLists → Type 0
-IsSameButBlocks old new = new ≡ record old { prints = new.prints }
+IsSameButBlocks old new = new ≡ record old { found_blocks = new.found_blocks }
 
 -- nothing was done but that the blocks of all nodes were found
 pub record HasFollowed (old new : ProgressLists) : Type 0 where
   pub same : IsSameButBlocks old new
-  pub current : IsCurrent new.first (facts_in new.entries) new.prints
+  pub current : IsCurrent new.first (facts_in new.entries) new.found_blocks
 
 module _ (w : SearchContext) where
   -- the lines close everything, the trail is as it was, and the blocks that are known are those of the trail
   pub record IsClosed (old new : ProgressLists) : Type 0 where
     pub same : IsSameQuery old new
     pub entries : new.entries ≡ old.entries
-    pub blocks : AreFirstBlocks new.first (facts_in new.entries) new.prints
+    pub blocks : AreFirstBlocks new.first (facts_in new.entries) new.found_blocks
     pub steps : new.steps ≡ old.steps
     pub has_clash : HasClash w (items_of new.entries)
     pub closes : leaves (step_of (asked_by w new) w.table) (start_of (asked_by w new) ∷ []) new.trace.lines ≡ Some []

@@ -25,7 +25,7 @@ pub record IsTurning (w : SearchContext) (s : ProgressLists) (mark : ℕ) (marks
   pub asked : IsAsked w s.query s.at s.sub s.not_sup
   pub first_is : s.first ≡ w.first
   pub follows : Follows w (start s.at s.sub s.not_sup) s.steps (items_of s.entries)
-  pub blocks : AreFirstBlocks s.first (facts_in s.entries) s.prints
+  pub blocks : AreFirstBlocks s.first (facts_in s.entries) s.found_blocks
   pub has_clash : HasClash w (items_of s.entries)
   pub passed : List Place
   pub place : Place
@@ -47,7 +47,7 @@ pub record IsClosing (w : SearchContext) (s : ProgressLists) : Type 0 where
   pub asked : IsAsked w s.query s.at s.sub s.not_sup
   pub first_is : s.first ≡ w.first
   pub follows : Follows w (start s.at s.sub s.not_sup) s.steps (items_of s.entries)
-  pub blocks : AreFirstBlocks s.first (facts_in s.entries) s.prints
+  pub blocks : AreFirstBlocks s.first (facts_in s.entries) s.found_blocks
   pub has_clash : HasClash w (items_of s.entries)
   pub closes : leaves (step_of (asked_by w s) w.table) (start_of (asked_by w s) ∷ []) s.trace.lines ≡ Some []
   pub fit : All (IsFitLine w s.sub s.not_sup) s.trace.lines

@@ -123,11 +123,11 @@ impl<'b, A: Allocator + Copy> Progress<'b, A> {
     ///
     /// Out of memory. The search serves no more then.
     pub fn follow(&mut self) -> Result<(), NoMemory>
-        requires { AreFirstBlocks self.old.first (facts_in self.old.entries) self.old.prints }
+        requires { AreFirstBlocks self.old.first (facts_in self.old.entries) self.old.found_blocks }
         ensures followed { OnOk result (HasFollowed self.old self.new) }
-        ensures first { OnOk result (AreFirstBlocks self.new.first (facts_in self.new.entries) self.new.prints) }
+        ensures first { OnOk result (AreFirstBlocks self.new.first (facts_in self.new.entries) self.new.found_blocks) }
     {
-        self.prints.complete(&self.tree)
+        self.found_blocks.complete(&self.tree)
     }
 
     // A step that can be made whatever is blocked, where one is seen at the latest facts.
@@ -147,12 +147,12 @@ impl<'b, A: Allocator + Copy> Progress<'b, A> {
     // A step that rests on blocks, or one that comes after these, where one is seen at the latest facts.
     fn latest_with_blocks<R: Rules>(&mut self, rules: &R) -> Result<Option<Step>, NoMemory>
         requires one_first { self.old.first ≡ (R.context rules.now).first }
-        requires current { IsCurrent self.old.first (facts_in self.old.entries) self.old.prints }
+        requires current { IsCurrent self.old.first (facts_in self.old.entries) self.old.found_blocks }
         ensures found { let w = R.context rules.now in let fs = facts_in self.old.entries in
             IfOk result (λ found. IfSome found (IsStep w fs (R.files rules.now))) }
         ensures same { self.new ≡ self.old }
     {
-        let state = TreeWithBlocks::new(&self.tree, &self.prints);
+        let state = TreeWithBlocks::new(&self.tree, &self.found_blocks);
         let found = self
             .agenda
             .next_with_blocks(self.heap, &self.tree, &state, rules)?;
@@ -165,11 +165,11 @@ impl<'b, A: Allocator + Copy> Progress<'b, A> {
     // The next step where there is no plain clash; none exactly where there is none.
     pub(crate) fn next_step<R: Rules>(&self, rules: &R) -> Result<Option<Step>, NoMemory>
         requires one_first { self.now.first ≡ (R.context rules.now).first }
-        requires current { IsCurrent self.now.first (facts_in self.now.entries) self.now.prints }
+        requires current { IsCurrent self.now.first (facts_in self.now.entries) self.now.found_blocks }
         ensures { let w = R.context rules.now in let fs = facts_in self.now.entries in
             IfOk result (λ found. MatchOption found (NoStep w fs) (IsStep w fs (R.files rules.now))) }
     {
-        let state = TreeWithBlocks::new(&self.tree, &self.prints);
+        let state = TreeWithBlocks::new(&self.tree, &self.found_blocks);
         let found = find_step(self.heap, &state, rules)?;
         Ok(found)
     }
@@ -220,7 +220,7 @@ impl<'b, A: Allocator + Copy> Progress<'b, A> {
     // The same, where the blocks of all nodes are known.
     fn go_on_followed<R: Rules>(&mut self, rules: &R) -> Result<Stepped, NoMemory>
         requires standing { IsStanding (R.context rules.now) self.old }
-        requires current { IsCurrent self.old.first (facts_in self.old.entries) self.old.prints }
+        requires current { IsCurrent self.old.first (facts_in self.old.entries) self.old.found_blocks }
         requires none { IsClashOf (R.context rules.now) (facts_in self.old.entries) None }
         requires countable { self.old.steps + 1 < 2 ^ 64 }
         ensures { IfOk result (IsStepped (R.context rules.now) self.old self.new) }
@@ -237,7 +237,7 @@ impl<'b, A: Allocator + Copy> Progress<'b, A> {
     // What there is to do where there is no plain clash.
     fn go_on_anywhere<R: Rules>(&mut self, rules: &R) -> Result<Stepped, NoMemory>
         requires standing { IsStanding (R.context rules.now) self.old }
-        requires current { IsCurrent self.old.first (facts_in self.old.entries) self.old.prints }
+        requires current { IsCurrent self.old.first (facts_in self.old.entries) self.old.found_blocks }
         requires none { IsClashOf (R.context rules.now) (facts_in self.old.entries) None }
         requires countable { self.old.steps + 1 < 2 ^ 64 }
         ensures { IfOk result (IsStepped (R.context rules.now) self.old self.new) }

@@ -82,11 +82,11 @@ impl<'b, A: Allocator + Copy> Progress<'b, A> {
         let choice = choice_at(&self.tree, place);
         let fact = alternative_after(rules, choice.branch, choice.alternative);
         let next = at_next(choice);
-        let known = self.prints.len();
+        let known = self.found_blocks.len();
         let from = cut(&mut self.tree, place, known);
         let by = By { line: mark, marks };
         put_alternative(&mut self.tree, next, fact, by)?;
-        keep_blocks(&self.tree, &mut self.prints, place, from);
+        keep_blocks(&self.tree, &mut self.found_blocks, place, from);
         facts_stay_grounded();
         alternatives_speak_of_nodes();
         self.steps += 1;

@@ -41,9 +41,9 @@ impl<'b, A: Allocator + Copy> Progress<'b, A> {
         let mut tree = Tree::new_in(alloc, rules.first())?;
         put_start(&mut tree, at, sub)?;
         put_start(&mut tree, at, not_sup)?;
-        let mut prints = Blocks::new(heap);
+        let mut found_blocks = Blocks::new(heap);
         blocks_stay();
-        prints.complete(&tree)?;
+        found_blocks.complete(&tree)?;
         let clash = find_clash_at_start(&tree, rules, at, sub, not_sup);
         Ok(Progress {
             heap,
@@ -52,7 +52,7 @@ impl<'b, A: Allocator + Copy> Progress<'b, A> {
             sub,
             not_sup,
             tree,
-            prints,
+            found_blocks,
             trace: Trace::new(heap),
             marks: Vec::new(heap),
             clash,

@@ -42,7 +42,7 @@ pub struct Progress<'b, A: Allocator> {
     pub(crate) sub: u32,
     pub(crate) not_sup: u32,
     pub(crate) tree: Tree<A>,
-    pub(crate) prints: Blocks,
+    pub(crate) found_blocks: Blocks,
     pub(crate) trace: Trace,
     pub(crate) marks: Vec<u32>,
     pub(crate) clash: Option<Clash>,
@@ -72,7 +72,7 @@ impl<'b, A: Allocator> Model for Progress<'b, A> {
       not_sup = p.not_sup;
       first = p.tree.first;
       entries = p.tree.entries;
-      prints = p.prints;
+      found_blocks = p.found_blocks;
       trace = p.trace;
       marks = reverse p.marks.items;
       clash = p.clash;
@@ -84,22 +84,22 @@ impl<'b, A: Allocator> Model for Progress<'b, A> {
 // nodes below the least of which these entries say something new.
 pub(crate) fn keep_blocks<A: Allocator + Copy>(
     tree: &Tree<A>,
-    prints: &mut Blocks,
+    found_blocks: &mut Blocks,
     place: u32,
     from: u32,
 )
     requires place { place ≤ length tree.now.entries }
-    requires stood { AreBlocksBelow tree.now.first (facts_in (take place tree.now.entries)) from prints.old }
+    requires stood { AreBlocksBelow tree.now.first (facts_in (take place tree.now.entries)) from found_blocks.old }
     ensures kept { let first = tree.now.first in let fs = facts_in tree.now.entries in
-        prints.new
+        found_blocks.new
         ≡ printed_first
         (min from (least_touched first (rep fs) (node_count_from first fs) (facts_in (drop place tree.now.entries))))
-        prints.old }
-    ensures first { AreFirstBlocks tree.now.first (facts_in tree.now.entries) prints.new }
+        found_blocks.old }
+    ensures first { AreFirstBlocks tree.now.first (facts_in tree.now.entries) found_blocks.new }
 {
     let _count = tree.nodes();
     let still = still_current(tree, place, from);
-    prints.keep(tree, still);
+    found_blocks.keep(tree, still);
 }
 
 impl<'b, A: Allocator + Copy> Progress<'b, A> {
@@ -123,7 +123,7 @@ impl<'b, A: Allocator + Copy> Progress<'b, A> {
     {
         let RestingLine { line, marks } = resting;
         let place = self.tree.len();
-        let known = self.prints.len();
+        let known = self.found_blocks.len();
         let shared = marks.try_clone()?;
         let number = self.trace.put(line, shared)?;
         let by = By {
@@ -132,7 +132,7 @@ impl<'b, A: Allocator + Copy> Progress<'b, A> {
         };
         self.tree
             .add(Fact::Has(addition.node, addition.concept), by)?;
-        keep_blocks(&self.tree, &mut self.prints, place, known);
+        keep_blocks(&self.tree, &mut self.found_blocks, place, known);
         facts_stay_grounded();
         self.steps += 1;
         Ok(())
@@ -156,7 +156,7 @@ impl<'b, A: Allocator + Copy> Progress<'b, A> {
     {
         let RestingLine { line, marks } = resting;
         let place = self.tree.len();
-        let known = self.prints.len();
+        let known = self.found_blocks.len();
         let shared = marks.try_clone()?;
         let number = self.trace.put(line, shared)?;
         let by = By {
@@ -164,7 +164,7 @@ impl<'b, A: Allocator + Copy> Progress<'b, A> {
             marks,
         };
         self.tree.add(given.fact, by)?;
-        keep_blocks(&self.tree, &mut self.prints, place, known);
+        keep_blocks(&self.tree, &mut self.found_blocks, place, known);
         facts_stay_grounded();
         self.steps += 1;
         Ok(())
@@ -200,7 +200,7 @@ impl<'b, A: Allocator + Copy> Progress<'b, A> {
     {
         let RestingLine { line, marks } = resting;
         let place = self.tree.len();
-        let known = self.prints.len();
+        let known = self.found_blocks.len();
         let shared = marks.try_clone()?;
         let number = self.trace.put(line, shared)?;
         let by = By {
@@ -210,7 +210,7 @@ impl<'b, A: Allocator + Copy> Progress<'b, A> {
         let first = self
             .tree
             .fresh(new.parent, new.role, new.filler, new.count, by)?;
-        keep_blocks(&self.tree, &mut self.prints, place, known);
+        keep_blocks(&self.tree, &mut self.found_blocks, place, known);
         new_nodes_stay_grounded();
         self.steps += 1;
         Ok(first)
@@ -252,7 +252,7 @@ impl<'b, A: Allocator + Copy> Progress<'b, A> {
     {
         let RestingLine { line, marks } = resting;
         let place = self.tree.len();
-        let known = self.prints.len();
+        let known = self.found_blocks.len();
         let shared = marks.try_clone()?;
         let mark = self.trace.open(line, shared, left)?;
         let more = with_mark(self.heap, &marks, mark)?;
@@ -268,7 +268,7 @@ impl<'b, A: Allocator + Copy> Progress<'b, A> {
         };
         put_alternative(&mut self.tree, choice, fact, by)?;
         self.marks.push(place)?;
-        keep_blocks(&self.tree, &mut self.prints, place, known);
+        keep_blocks(&self.tree, &mut self.found_blocks, place, known);
         self.agenda.put_mark()?;
         facts_stay_grounded();
         alternatives_speak_of_nodes();

@@ -145,10 +145,10 @@ impl<'b, A: Allocator + Copy> Progress<'b, A> {
     }
 
     /// The blocks of the tree's nodes, as far as they are known.
-    pub fn prints(&self) -> &Blocks
-        ensures { result.now ≡ self.now.prints }
+    pub fn found_blocks(&self) -> &Blocks
+        ensures { result.now ≡ self.now.found_blocks }
     {
-        &self.prints
+        &self.found_blocks
     }
 
     /// The first node of which the query asks.
@@ -169,7 +169,7 @@ impl<'b, A: Allocator + Copy> Progress<'b, A> {
     pub fn effort(&self) -> Effort {
         self.effort
             .with_looks(self.agenda.looks())
-            .with_blocks(self.prints.effort())
+            .with_blocks(self.found_blocks.effort())
             .with_trace(&self.trace)
     }
 }

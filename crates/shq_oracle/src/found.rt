@@ -99,7 +99,13 @@ fn with_model<A: Allocator + Copy>(
     ensures { IfOk result (λ f. (fuel : ℕ) → search.now.steps ≤ fuel → IsFoundBy search.now fuel f) }
 {
     let steps = search.steps();
-    let model = build(alloc, search.tree(), search.prints(), search.rules(), query)?;
+    let model = build(
+        alloc,
+        search.tree(),
+        search.found_blocks(),
+        search.rules(),
+        query,
+    )?;
     Ok(Found {
         answer: Answer::NotEntailed(model),
         steps,

@@ -8,7 +8,8 @@
 //!
 //! A search whether anything is in a class mostly shows of many other classes that the first is no part of them. What
 //! it shows is an [`Apart`], by which an oracle appends honest tests without searching again, each with the steps of
-//! that search.
+//! that search (the pseudo-models of Haarslev, Möller and Turhan, "Exploiting Pseudo Models for TBox and ABox Reasoning
+//! in Expressive Description Logics", 2001).
 //!
 //! All that a search needs of the axioms alone is made once, and kept until another set is asked.
 #![tactic(auto)]

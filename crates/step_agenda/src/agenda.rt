@@ -31,7 +31,7 @@ struct Cursors {
     mosts: u32,
     // Nodes that were not clear: those below this one were looked at, as the first so many entries left them.
     touched: u32,
-    held: u32,
+    seen: u32,
 }
 
 impl Cursors {
@@ -49,7 +49,7 @@ impl Cursors {
             unions: 0,
             mosts: 0,
             touched: u32::MAX,
-            held: 0,
+            seen: 0,
         }
     }
 }
@@ -339,8 +339,8 @@ impl Agenda {
         ensures { IfOk result
             (λ found. IfSome found (IsStep (R.context rules.now) (S.facts state.now) (R.files rules.now))) }
     {
-        let least = least_changed(tree, self.cursors.held.min(tree.len()));
-        self.cursors.held = tree.len();
+        let least = least_changed(tree, self.cursors.seen.min(tree.len()));
+        self.cursors.seen = tree.len();
         self.cursors.touched = self.cursors.touched.min(least);
         match first_held(heap, tree, state, rules, &self.held, self.cursors.touched)? {
             Some(new) => Ok(Some(Step::Generate(new))),

@@ -72,20 +72,20 @@ pub struct TreeWithBlocks<'a, A: Allocator> {
     /// The tree.
     pub state: TreeState<'a, A>,
     /// The blocks of its nodes.
-    pub prints: &'a Blocks,
-    ghost current: { IsCurrent state.tree.now.first (facts_in state.tree.now.entries) prints.now },
+    pub found_blocks: &'a Blocks,
+    ghost current: { IsCurrent state.tree.now.first (facts_in state.tree.now.entries) found_blocks.now },
 }
 
 impl<'a, A: Allocator + Copy> TreeWithBlocks<'a, A> {
     /// The tree with its blocks, which have been followed since it changed.
-    pub fn new(tree: &'a Tree<A>, prints: &'a Blocks) -> Self
-        requires { IsCurrent tree.now.first (facts_in tree.now.entries) prints.now }
+    pub fn new(tree: &'a Tree<A>, found_blocks: &'a Blocks) -> Self
+        requires { IsCurrent tree.now.first (facts_in tree.now.entries) found_blocks.now }
         ensures tree { result.state.tree.now ≡ tree.now }
-        ensures prints { result.prints.now ≡ prints.now }
+        ensures found_blocks { result.found_blocks.now ≡ found_blocks.now }
     {
         TreeWithBlocks {
             state: TreeState::new(tree),
-            prints,
+            found_blocks,
         }
     }
 }
@@ -134,6 +134,6 @@ impl<'a, A: Allocator + Copy> State for TreeWithBlocks<'a, A> {
 
 impl<'a, A: Allocator + Copy> StateWithBlocks for TreeWithBlocks<'a, A> {
     fn is_clear(&self, node: u32) -> bool {
-        is_clear(self.state.tree, self.prints, node)
+        is_clear(self.state.tree, self.found_blocks, node)
     }
 }

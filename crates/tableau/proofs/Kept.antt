@@ -51,7 +51,7 @@ state rules query sub not_sup p seen steps ended failed = record {
   not_sup = not_sup;
   first = p.first;
   entries = p.entries;
-  prints = p.prints;
+  found_blocks = p.found_blocks;
   seen = seen;
   steps = steps;
   ended = ended;
@@ -191,14 +191,14 @@ rest_closed rules old mid new r s is h left refutes =
 -- ---- blocks
 
 pub advanced_first : (rules : RuleLists) (old new : ProgressLists) (e : Event) → IsAdvanced rules old new e
-    → AreFirstBlocks new.first (facts_in new.entries) new.prints
+    → AreFirstBlocks new.first (facts_in new.entries) new.found_blocks
 advanced_first rules old new Moved h = h.1.standing.blocks
 advanced_first rules old new Saturated h = followed_first old new h.0
 advanced_first rules old new (Closed r) h = h.blocks
 
 -- a step after which the blocks of all nodes were found
 module _ (rules : RuleLists) (old mid new : ProgressLists) (h : HasFollowed mid new)
-    (first : AreFirstBlocks new.first (facts_in new.entries) new.prints) where
+    (first : AreFirstBlocks new.first (facts_in new.entries) new.found_blocks) where
   abbrev w : SearchContext
   w = context_in rules
 
@@ -227,7 +227,7 @@ module _ (rules : RuleLists) (old mid new : ProgressLists) (h : HasFollowed mid 
   )
   followed_advanced Saturated a = (
     record {
-      same = h.same ∙ ap (λ (q : ProgressLists). record q { prints = new.prints }) a.0.same;
+      same = h.same ∙ ap (λ (q : ProgressLists). record q { found_blocks = new.found_blocks }) a.0.same;
       current = h.current;
     },
     subst (λ (es : List Entry). IsSaturated w (items_of es)) (sym entries_are) a.1,
@@ -315,7 +315,8 @@ module _ (rules : RuleLists) (query : Query) (sub not_sup : ℕ) (p p' : Progres
               run.are_seen);
         }
 
-    stays_kept : p'.entries ≡ p.entries → p'.first ≡ p.first → AreFirstBlocks p'.first (facts_in p'.entries) p'.prints
+    stays_kept : p'.entries ≡ p.entries → p'.first ≡ p.first
+        → AreFirstBlocks p'.first (facts_in p'.entries) p'.found_blocks
         → seen' ≡ seen → steps' ≡ steps → (goes : Bool) → goes ≡ false → IsKept (now goes) p'
     stays_kept entries first_is first seen_is steps_is goes stops =
         let w = context_in rules in
@@ -399,12 +400,13 @@ module _ (rules : RuleLists) (query : Query) (sub not_sup : ℕ) (p p' : Progres
     halted_steps (RunClosed r) h = h.steps ∙ progress_is.steps
 
 -- an end, after which the blocks of all nodes were found
-pub followed_end : (fuel : ℕ) (a b c : SearchState) (e : End) → IsEnd fuel a b e → c ≡ record b { prints = c.prints }
+pub followed_end : (fuel : ℕ) (a b c : SearchState) (e : End) → IsEnd fuel a b e
+    → c ≡ record b { found_blocks = c.found_blocks }
     → HasAllBlocks c → IsEnd fuel a c e
 followed_end fuel a b c e h same current = subst (λ (s : SearchState). IsEnd fuel a s e) (sym same) (by_kind e h)
   where
     with_all : SearchState
-    with_all = record b { prints = c.prints }
+    with_all = record b { found_blocks = c.found_blocks }
 
     runs : Runs a b → Runs a with_all
     runs r = record { count = r.count; follows = r.follows; counted = r.counted }
@@ -414,7 +416,7 @@ followed_end fuel a b c e h same current = subst (λ (s : SearchState). IsEnd fu
       runs h.0,
       record {
         is_saturated = h.1.is_saturated;
-        is_current = subst (λ (s : SearchState). IsCurrent s.first (facts_in s.entries) c.prints) same current;
+        is_current = subst (λ (s : SearchState). IsCurrent s.first (facts_in s.entries) c.found_blocks) same current;
         ended = h.1.ended;
       },
     )

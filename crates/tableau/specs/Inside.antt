@@ -43,7 +43,7 @@ pub record IsKept (s : SearchState) (p : ProgressLists) : Type 0 where
   pub first_is : s.failed ≡ false → s.first ≡ (context_of s).first
   pub reached : s.failed ≡ false → IsReachedBy s
   pub has_run : s.failed ≡ false → HasRun s
-  pub blocks : s.failed ≡ false → AreFirstBlocks s.first (facts_in s.entries) s.prints
+  pub blocks : s.failed ≡ false → AreFirstBlocks s.first (facts_in s.entries) s.found_blocks
   pub progress : s.failed ≡ false → s.ended ≡ false → IsProgressOf s p
   pub searching : s.failed ≡ false → s.ended ≡ false → IsSearching (context_of s) p
 
@@ -69,7 +69,7 @@ pub record IsClosing (rules : RuleLists) (p : ProgressLists) : Type 0 where
 pub record HasClosed (rules : RuleLists) (r : RefutationLists) (old new : ProgressLists) : Type 0 where
   pub entries : new.entries ≡ old.entries
   pub first : new.first ≡ old.first
-  pub blocks : AreFirstBlocks new.first (facts_in new.entries) new.prints
+  pub blocks : AreFirstBlocks new.first (facts_in new.entries) new.found_blocks
   pub steps : new.steps ≡ old.steps
   pub has_clash : HasClash (context_in rules) (items_of new.entries)
   pub refutes : Refutes rules old.query r

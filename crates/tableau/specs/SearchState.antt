@@ -25,7 +25,7 @@ pub record SearchState : Type 0 where
   pub not_sup : ℕ
   pub first : ℕ
   pub entries : List Entry
-  pub prints : Printed
+  pub found_blocks : Printed
   pub seen : SeenSets
   pub steps : ℕ
   pub ended : Bool
@@ -52,7 +52,7 @@ IsReachedBy s = IsReached (question_of s) s.rules.table (context_of s).rows s.st
 
 -- the blocks that are known are those of all nodes of its tree
 abbrev pub HasAllBlocks : SearchState → Type 0
-HasAllBlocks s = IsCurrent s.first (facts_in s.entries) s.prints
+HasAllBlocks s = IsCurrent s.first (facts_in s.entries) s.found_blocks
 
 -- whether a query is on any element
 abbrev pub is_any : On → Bool

@@ -41,7 +41,7 @@ pub record Refutes (rules : RuleLists) (query : Query) (r : RefutationLists) : T
 -- its trail is saturated, and the blocks are those of the trail
 pub record IsAtModel (s : SearchState) : Type 0 where
   pub is_saturated : IsSaturated (context_of s) (trail_of s)
-  pub is_current : IsCurrent s.first (facts_in s.entries) s.prints
+  pub is_current : IsCurrent s.first (facts_in s.entries) s.found_blocks
   pub ended : s.ended ≡ true
 
 -- its trail has a clash, and the refutation is one of its query

@@ -31,7 +31,7 @@ pub(crate) fn advance<A: Allocator + Copy>(
     ensures advanced { IfOk result (IsAdvanced rules.now progress.old progress.new) }
     ensures noted { IfOk result (IsNotedAfter rules.now progress.old progress.new seen.old seen.new) }
     ensures current { OnOk result
-        (IsTrue follows → IsCurrent progress.new.first (facts_in progress.new.entries) progress.new.prints) }
+        (IsTrue follows → IsCurrent progress.new.first (facts_in progress.new.entries) progress.new.found_blocks) }
 {
     let event = advance_once(heap, progress, seen, rules)?;
     if !follows {

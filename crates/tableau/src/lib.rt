@@ -1,4 +1,5 @@
-//! A search whether a query follows from a set of axioms.
+//! A search whether a query follows from a set of axioms, by a tableau (Horrocks, Sattler and Tobies, "Practical
+//! Reasoning for Expressive Description Logics", 1999).
 //!
 //! Going back takes facts out of a trail. What one run shows of other queries depends on all that it ever put
 //! (`search_laws`), so with which classes a run has had to do is noted beside the trail (`seen`), as two sets of bits

@@ -180,12 +180,12 @@ impl<'b, A: Allocator + Copy> Search<'b, A> {
     }
 
     /// The blocks of all nodes of the tree, unless memory was refused.
-    pub fn prints(&self) -> &Blocks
-        ensures blocks { result.now ≡ self.now.prints }
+    pub fn found_blocks(&self) -> &Blocks
+        ensures blocks { result.now ≡ self.now.found_blocks }
         ensures current { self.now.failed ≡ false
-            → IsCurrent self.now.first (facts_in self.now.entries) self.now.prints }
+            → IsCurrent self.now.first (facts_in self.now.entries) self.now.found_blocks }
     {
-        self.walker.prints()
+        self.walker.found_blocks()
     }
 
     /// The rules of the search.

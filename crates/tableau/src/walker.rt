@@ -56,7 +56,7 @@ impl<'b, A: Allocator> Model for Walker<'b, A> {
       not_sup = s.not_sup;
       first = s.progress.first;
       entries = s.progress.entries;
-      prints = s.progress.prints;
+      found_blocks = s.progress.found_blocks;
       seen = s.seen;
       steps = s.steps;
       ended = s.ended;
@@ -72,7 +72,7 @@ impl<'b, A: Allocator> Model for Walker<'b, A> {
       not_sup = s.not_sup;
       first = s.progress.first;
       entries = s.progress.entries;
-      prints = s.progress.prints;
+      found_blocks = s.progress.found_blocks;
       seen = s.seen;
       steps = s.steps;
       ended = s.ended;
@@ -170,7 +170,7 @@ impl<'b, A: Allocator + Copy> Walker<'b, A> {
     // Finds the blocks of all nodes. Nothing else changes.
     fn follow(&mut self) -> Result<(), NoMemory>
         requires whole { self.old.failed ≡ false }
-        ensures followed { OnOk result (self.new ≡ record self.old { prints = self.new.prints }) }
+        ensures followed { OnOk result (self.new ≡ record self.old { found_blocks = self.new.found_blocks }) }
         ensures current { self.new.failed ≡ false → HasAllBlocks self.new }
         ensures same { IsSameSearch self.old self.new }
         ensures steps { self.new.steps ≡ self.old.steps }
@@ -305,10 +305,10 @@ impl<'b, A: Allocator + Copy> Walker<'b, A> {
     }
 
     /// The blocks that are known of the tree's nodes.
-    pub(crate) fn prints(&self) -> &Blocks
-        ensures { result.now ≡ self.now.prints }
+    pub(crate) fn found_blocks(&self) -> &Blocks
+        ensures { result.now ≡ self.now.found_blocks }
     {
-        self.progress.prints()
+        self.progress.found_blocks()
     }
 
     /// The rules of the search.

@@ -1,7 +1,7 @@
 use Rattle.std.proofs.Common.{◌∙◌, List, sym, subst, arith, inl, inr}
 use Rattle.axiom_sets.specs.Sets.{Limited}
 use Rattle.justification_shrink.specs.Shrunk.{ShrinksTo, LosesNothing}
-use Rattle.justification_shrink.specs.declared.Shrunk.TheVariants.{Just, Spent}
+use Rattle.justification_shrink.specs.declared.Shrunk.TheVariants.{Smallest, Spent}
 use Rattle.hitting_set_tree.specs.Tree.{lists}
 use Rattle.hitting_set_tree.specs.Open.{HasOpen, HasPending, IsEnded}
 use Rattle.hitting_set_tree.proofs.Opening.{ended_pending}
@@ -17,40 +17,45 @@ add_label-requires-clause-node g c = own_limit _ c.args.node c.requires.node
 pub add_label-requires-clause-limit : goal.add_label-requires-clause-limit
 add_label-requires-clause-limit g c =
     let m' = g.E.Entail.meaning c.shrink.new.entail in
-    let shrunk : ShrinksTo m' c.args.part.now (Just c.in-Just.just) = rw c.in-Just.is at c.in_ok-just.ensures.shrunk in
+    let shrunk : ShrinksTo m' c.args.part.now (Smallest c.in-Smallest.just) =
+    rw c.in-Smallest.is at c.in_ok-just.ensures.shrunk in
     shrunk.0 ∙ c.requires.part.0
 
 pub add_label-requires-clause-apart : goal.add_label-requires-clause-apart
 add_label-requires-clause-apart g c =
     let m' = g.E.Entail.meaning c.shrink.new.entail in
-    let shrunk : ShrinksTo m' c.args.part.now (Just c.in-Just.just) = rw c.in-Just.is at c.in_ok-just.ensures.shrunk in
-    apart_from_rest c.args.node.hit c.args.part.now.members c.in-Just.just.members shrunk.1 c.requires.part.1
+    let shrunk : ShrinksTo m' c.args.part.now (Smallest c.in-Smallest.just) =
+    rw c.in-Smallest.is at c.in_ok-just.ensures.shrunk in
+    apart_from_rest c.args.node.hit c.args.part.now.members c.in-Smallest.just.members shrunk.1 c.requires.part.1
 
-pub returns-in_ok-add_label-in-Just-clause-step : goal.returns-in_ok-add_label-in-Just-clause-step
-returns-in_ok-add_label-in-Just-clause-step g c =
+pub returns-in_ok-add_label-in-Smallest-clause-step : goal.returns-in_ok-add_label-in-Smallest-clause-step
+returns-in_ok-add_label-in-Smallest-clause-step g c =
     let m = g.E.Entail.meaning c.args.entail.now in
     let m' = g.E.Entail.meaning c.shrink.new.entail in
     let keeps = c.shrink.ensures.keeps in
-    let shrunk : ShrinksTo m' c.args.part.now (Just c.in-Just.just) = rw c.in-Just.is at c.in_ok-just.ensures.shrunk in
+    let shrunk : ShrinksTo m' c.args.part.now (Smallest c.in-Smallest.just) =
+    rw c.in-Smallest.is at c.in_ok-just.ensures.shrunk in
     let good = node_still m m' c.args.node keeps c.requires.node in
-    let shown : m'.shown_yes c.in-Just.just.members = elim shrunk.3 [
+    let shown : m'.shown_yes c.in-Smallest.just.members = elim shrunk.3 [
       | inl e ↦ subst m'.shown_yes (sym e) (keeps.keeps_yes c.args.part.now.members c.requires.part.3)
       | inr s ↦ s
     ] in
     labelled_step (lists c.args.tree.now) (lists c.add_label.new.tree) c.add_label.new.tree.rooted c.args.node m' good
-    (keeps_listed m m' (lists c.args.tree.now) keeps c.requires.listed) c.in-Just.just c.in_ok-add_label-in-Just.ensures
+    (keeps_listed m m' (lists c.args.tree.now) keeps c.requires.listed) c.in-Smallest.just
+    c.in_ok-add_label-in-Smallest.ensures
     (shrunk.0 ∙ c.requires.part.0 ∙ good.hit_limit) shrunk.2 shown
 
-pub returns-in_ok-add_label-in-Just-clause-open : goal.returns-in_ok-add_label-in-Just-clause-open
-returns-in_ok-add_label-in-Just-clause-open g c =
+pub returns-in_ok-add_label-in-Smallest-clause-open : goal.returns-in_ok-add_label-in-Smallest-clause-open
+returns-in_ok-add_label-in-Smallest-clause-open g c =
     let m = g.E.Entail.meaning c.args.entail.now in
     let new = c.add_label.new.tree in
     subst (λ (t : List Limited). HasOpen t (lists new) new.rooted) (sym c.shrink.ensures.taken)
-    (labelled_open (lists c.args.tree.now) (lists new) new.rooted c.args.node m.taken c.requires.pending c.in-Just.just
-    c.in_ok-add_label-in-Just.ensures)
+    (labelled_open (lists c.args.tree.now) (lists new) new.rooted c.args.node m.taken c.requires.pending
+    c.in-Smallest.just
+    c.in_ok-add_label-in-Smallest.ensures)
 
-pub returns-in_ok-add_label-in-Just-clause-asked : goal.returns-in_ok-add_label-in-Just-clause-asked
-returns-in_ok-add_label-in-Just-clause-asked g c = omega (
+pub returns-in_ok-add_label-in-Smallest-clause-asked : goal.returns-in_ok-add_label-in-Smallest-clause-asked
+returns-in_ok-add_label-in-Smallest-clause-asked g c = omega (
   arith,
   c.shrink.ensures.asked,
   few_in_rest c.args.node.hit c.args.part.now (g.E.Entail.meaning c.args.entail.now).size c.requires.part.1
@@ -86,22 +91,23 @@ returns-in-Spent-clause-asked g c = omega (
       c.requires.part.0 c.requires.node.hit_limit,
 )
 
-pub returns-in_ok-add_label-in-Just-clause-shown : goal.returns-in_ok-add_label-in-Just-clause-shown
-returns-in_ok-add_label-in-Just-clause-shown g c =
+pub returns-in_ok-add_label-in-Smallest-clause-shown : goal.returns-in_ok-add_label-in-Smallest-clause-shown
+returns-in_ok-add_label-in-Smallest-clause-shown g c =
     let m = g.E.Entail.meaning c.args.entail.now in
     let m' = g.E.Entail.meaning c.shrink.new.entail in
-    let above : LosesNothing m m' c.args.part.now (Just c.in-Just.just) =
-    rw c.in-Just.is at c.in_ok-just.ensures.shown in
+    let above : LosesNothing m m' c.args.part.now (Smallest c.in-Smallest.just) =
+    rw c.in-Smallest.is at c.in_ok-just.ensures.shown in
     shown_label m m' (lists c.args.tree.now) (lists c.add_label.new.tree) c.add_label.new.tree.rooted c.args.node
-    c.args.part.now c.in-Just.just c.in_ok-add_label-in-Just.ensures above
+    c.args.part.now c.in-Smallest.just c.in_ok-add_label-in-Smallest.ensures above
 
-pub returns-in_ok-add_label-in-Just-clause-named : goal.returns-in_ok-add_label-in-Just-clause-named
-returns-in_ok-add_label-in-Just-clause-named g c =
+pub returns-in_ok-add_label-in-Smallest-clause-named : goal.returns-in_ok-add_label-in-Smallest-clause-named
+returns-in_ok-add_label-in-Smallest-clause-named g c =
     let m = g.E.Entail.meaning c.args.entail.now in
     let m' = g.E.Entail.meaning c.shrink.new.entail in
-    let shrunk : ShrinksTo m' c.args.part.now (Just c.in-Just.just) = rw c.in-Just.is at c.in_ok-just.ensures.shrunk in
+    let shrunk : ShrinksTo m' c.args.part.now (Smallest c.in-Smallest.just) =
+    rw c.in-Smallest.is at c.in_ok-just.ensures.shrunk in
     label_found m m' (lists c.args.tree.now) (lists c.add_label.new.tree) c.add_label.new.tree.rooted c.args.node
-    c.args.part.now c.in-Just.just c.in_ok-add_label-in-Just.ensures shrunk.1
+    c.args.part.now c.in-Smallest.just c.in_ok-add_label-in-Smallest.ensures shrunk.1
 
 pub returns-in-Spent-clause-shown : goal.returns-in-Spent-clause-shown
 returns-in-Spent-clause-shown g c =
@@ -132,15 +138,15 @@ returns-in_err-just-clause-asked g c = omega (
       c.requires.part.0 c.requires.node.hit_limit,
 )
 
-pub returns-in_err-add_label-in-Just-clause-begun : goal.returns-in_err-add_label-in-Just-clause-begun
-returns-in_err-add_label-in-Just-clause-begun g c =
-    in_err c.from_residual-in_err-add_label-in-Just.result
+pub returns-in_err-add_label-in-Smallest-clause-begun : goal.returns-in_err-add_label-in-Smallest-clause-begun
+returns-in_err-add_label-in-Smallest-clause-begun g c =
+    in_err c.from_residual-in_err-add_label-in-Smallest.result
     (pending_later (g.E.Entail.meaning c.args.entail.now) (g.E.Entail.meaning c.shrink.new.entail)
     (lists c.args.tree.now) c.args.node c.shrink.ensures.keeps c.shrink.ensures.taken c.requires.listed
     c.requires.pending)
 
-pub returns-in_err-add_label-in-Just-clause-asked : goal.returns-in_err-add_label-in-Just-clause-asked
-returns-in_err-add_label-in-Just-clause-asked g c =
+pub returns-in_err-add_label-in-Smallest-clause-asked : goal.returns-in_err-add_label-in-Smallest-clause-asked
+returns-in_err-add_label-in-Smallest-clause-asked g c =
     omega (
       arith,
       c.shrink.ensures.asked,

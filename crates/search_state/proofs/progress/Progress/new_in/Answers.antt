@@ -11,7 +11,7 @@ use Rattle.search_state.proofs.progress.Progress.new_in.Goals as goal
 pub complete-requires : goal.complete-requires
 complete-requires g c =
     let t = c.put_start-2.new.tree in
-    subst (AreFirstBlocks t.first (facts_in t.entries)) (sym c.new-prints.ensures)
+    subst (AreFirstBlocks t.first (facts_in t.entries)) (sym c.new-found_blocks.ensures)
     (c.blocks_stay.ensures.none t.first (facts_in t.entries) no_prints)
 
 pub returns-clause-begun : goal.returns-clause-begun

@@ -34,7 +34,7 @@ keep_blocks-requires-clause-stood g c =
       not_sup = s.not_sup;
       first = s.tree.first;
       entries = s.tree.entries;
-      prints = s.prints;
+      found_blocks = s.found_blocks;
       trace = s.trace;
       marks = reverse s.marks.items;
       clash = s.clash;
@@ -49,10 +49,11 @@ keep_blocks-requires-clause-stood g c =
     let front : take c.len-place.result c.put_alternative.new.tree.entries ≡ s.tree.entries =
     (λ i. take (c.len-place.ensures i) (put i)) ∙ take-append_seam s.tree.entries more in
     subst (λ (k : ℕ). AreBlocksBelow k (facts_in (take c.len-place.result c.put_alternative.new.tree.entries))
-    c.len-known.result s.prints)
+    c.len-known.result s.found_blocks)
     (sym (ap (λ (t : TreeEntries). t.first) c.in_ok-put_alternative.ensures))
-    (subst (λ (es : List Entry). AreBlocksBelow s.tree.first (facts_in es) c.len-known.result s.prints) (sym front)
-    (subst (λ (n : ℕ). AreBlocksBelow s.tree.first (facts_in s.tree.entries) n s.prints) (sym c.len-known.ensures)
+    (subst (λ (es : List Entry). AreBlocksBelow s.tree.first (facts_in es) c.len-known.result s.found_blocks)
+    (sym front)
+    (subst (λ (n : ℕ). AreBlocksBelow s.tree.first (facts_in s.tree.entries) n s.found_blocks) (sym c.len-known.ensures)
     st.blocks))
 
 pub returns-clause-moved : goal.returns-clause-moved
@@ -67,7 +68,7 @@ returns-clause-moved g c =
       not_sup = s.not_sup;
       first = s.tree.first;
       entries = s.tree.entries;
-      prints = s.prints;
+      found_blocks = s.found_blocks;
       trace = s.trace;
       marks = reverse s.marks.items;
       clash = s.clash;
@@ -84,7 +85,7 @@ returns-clause-moved g c =
       not_sup = s.not_sup;
       first = c.put_alternative.new.tree.first;
       entries = c.put_alternative.new.tree.entries;
-      prints = c.keep_blocks.new.prints;
+      found_blocks = c.keep_blocks.new.found_blocks;
       trace = c.open.new.self;
       marks = reverse c.push.new.self.items;
       clash = s.clash;
@@ -130,7 +131,7 @@ returns-clause-last g c =
       not_sup = s.not_sup;
       first = s.tree.first;
       entries = s.tree.entries;
-      prints = s.prints;
+      found_blocks = s.found_blocks;
       trace = s.trace;
       marks = reverse s.marks.items;
       clash = s.clash;

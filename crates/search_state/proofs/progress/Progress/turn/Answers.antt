@@ -26,7 +26,7 @@ cut_marks-place-requires-clause-within g c =
       not_sup = s.not_sup;
       first = s.tree.first;
       entries = s.tree.entries;
-      prints = s.prints;
+      found_blocks = s.found_blocks;
       trace = s.trace;
       marks = reverse s.marks.items;
       clash = s.clash;
@@ -49,7 +49,7 @@ choice_at-choice-requires g c =
       not_sup = s.not_sup;
       first = s.tree.first;
       entries = s.tree.entries;
-      prints = s.prints;
+      found_blocks = s.found_blocks;
       trace = s.trace;
       marks = reverse s.marks.items;
       clash = s.clash;
@@ -73,7 +73,7 @@ alternative_after-fact-requires-clause-more g c =
       not_sup = s.not_sup;
       first = s.tree.first;
       entries = s.tree.entries;
-      prints = s.prints;
+      found_blocks = s.found_blocks;
       trace = s.trace;
       marks = reverse s.marks.items;
       clash = s.clash;
@@ -97,7 +97,7 @@ alternative_after-fact-requires-clause-numbered g c =
       not_sup = s.not_sup;
       first = s.tree.first;
       entries = s.tree.entries;
-      prints = s.prints;
+      found_blocks = s.found_blocks;
       trace = s.trace;
       marks = reverse s.marks.items;
       clash = s.clash;
@@ -121,7 +121,7 @@ at_next-next-requires g c =
       not_sup = s.not_sup;
       first = s.tree.first;
       entries = s.tree.entries;
-      prints = s.prints;
+      found_blocks = s.found_blocks;
       trace = s.trace;
       marks = reverse s.marks.items;
       clash = s.clash;
@@ -145,7 +145,7 @@ cut-from-requires g c =
       not_sup = s.not_sup;
       first = s.tree.first;
       entries = s.tree.entries;
-      prints = s.prints;
+      found_blocks = s.found_blocks;
       trace = s.trace;
       marks = reverse s.marks.items;
       clash = s.clash;
@@ -169,7 +169,7 @@ put_alternative-requires g c =
       not_sup = s.not_sup;
       first = s.tree.first;
       entries = s.tree.entries;
-      prints = s.prints;
+      found_blocks = s.found_blocks;
       trace = s.trace;
       marks = reverse s.marks.items;
       clash = s.clash;
@@ -199,7 +199,7 @@ keep_blocks-requires-clause-place g c =
       not_sup = s.not_sup;
       first = s.tree.first;
       entries = s.tree.entries;
-      prints = s.prints;
+      found_blocks = s.found_blocks;
       trace = s.trace;
       marks = reverse s.marks.items;
       clash = s.clash;
@@ -233,7 +233,7 @@ keep_blocks-requires-clause-stood g c =
       not_sup = s.not_sup;
       first = s.tree.first;
       entries = s.tree.entries;
-      prints = s.prints;
+      found_blocks = s.found_blocks;
       trace = s.trace;
       marks = reverse s.marks.items;
       clash = s.clash;
@@ -252,13 +252,13 @@ keep_blocks-requires-clause-stood g c =
     c.in_ok-put_alternative.ensures
     ∙ ap (λ (k : TreeEntries). record { first = k.first; entries = with_choice k.entries next f by })
     c.cut-from.ensures.cut in
-    subst (λ (k : TreeEntries). AreBlocksBelow k.first (facts_in (take at k.entries)) c.cut-from.result s.prints)
+    subst (λ (k : TreeEntries). AreBlocksBelow k.first (facts_in (take at k.entries)) c.cut-from.result s.found_blocks)
     (sym put)
-    (subst (λ (es : List Entry). AreBlocksBelow s.tree.first (facts_in es) c.cut-from.result s.prints)
+    (subst (λ (es : List Entry). AreBlocksBelow s.tree.first (facts_in es) c.cut-from.result s.found_blocks)
     (sym (front_at w old m ms t s.marks.items refl c.open_count-count.result c.cut_marks-place.result
     c.open_count-count.ensures c.cut_marks-place.ensures.latest next f by))
-    (c.cut-from.ensures.stand s.prints
-    (subst (λ (n : ℕ). AreBlocksBelow s.tree.first (facts_in s.tree.entries) n s.prints) (sym c.len-known.ensures)
+    (c.cut-from.ensures.stand s.found_blocks
+    (subst (λ (n : ℕ). AreBlocksBelow s.tree.first (facts_in s.tree.entries) n s.found_blocks) (sym c.len-known.ensures)
     t.blocks)))
 
 pub returns-clause-last : goal.returns-clause-last
@@ -272,7 +272,7 @@ returns-clause-last g c =
       not_sup = s.not_sup;
       first = s.tree.first;
       entries = s.tree.entries;
-      prints = s.prints;
+      found_blocks = s.found_blocks;
       trace = s.trace;
       marks = reverse s.marks.items;
       clash = s.clash;
@@ -308,7 +308,7 @@ returns-clause-moved g c =
       not_sup = s.not_sup;
       first = s.tree.first;
       entries = s.tree.entries;
-      prints = s.prints;
+      found_blocks = s.found_blocks;
       trace = s.trace;
       marks = reverse s.marks.items;
       clash = s.clash;
@@ -334,7 +334,7 @@ returns-clause-moved g c =
       not_sup = s.not_sup;
       first = c.put_alternative.new.tree.first;
       entries = c.put_alternative.new.tree.entries;
-      prints = c.keep_blocks.new.prints;
+      found_blocks = c.keep_blocks.new.found_blocks;
       trace = s.trace;
       marks = reverse c.cut_marks-place.new.marks.items;
       clash = s.clash;
