@@ -1,17 +1,18 @@
 // Each call over sets in memory once.
 
-ghost use Rattle.std.specs.Prelude.{◌≡◌, []};
+ghost use Rattle.std.specs.Prelude.{◌≡◌, [], IfOk};
+ghost use Rattle.std.specs.List.{All};
 ghost use Rattle.set_questions.specs.Kept.{kept_sets};
 
-use crate::written_sets::{mask_of, masks_of, set_of, sets_of};
+use crate::written_sets::{are_sets, mask_of, set_of, sets_of};
 use axiom_sets::AxiomSet;
 use justification_shrink::{Shrunk, shrink};
 use set_questions::{
     Antichain, Entail, Reply, SetOracle, in_order, place_apart, place_of_part, put_in_order,
     rest_of,
 };
+use shq_terms::NoMemory;
 use std::alloc::Global;
-use std::process::Abort;
 use std::test::Fail;
 
 /// What an answer says: the bits of a part, or `None` where there is none.
@@ -23,13 +24,23 @@ fn part_in(answer: &Reply) -> Option<u64> {
     }
 }
 
+/// Asks about a set: the bits of the part that the answer names.
+fn part_of(oracle: &mut SetOracle, set: &AxiomSet) -> Result<Option<u64>, NoMemory>
+    requires { set.now.limit ≡ (⟦<SetOracle as Entail>⟧.meaning oracle.old).size }
+    ensures { (⟦<SetOracle as Entail>⟧.meaning oracle.new).size
+        ≡ (⟦<SetOracle as Entail>⟧.meaning oracle.old).size }
+{
+    let answer = oracle.ask(set)?;
+    Ok(part_in(&answer))
+}
+
 /// Asks about a set, and shrinks what is named.
-fn shrunk_in<E: Entail>(oracle: &mut E, set: &AxiomSet) -> Result<Option<u64>, Fail>
+fn shrunk_in<E: Entail>(oracle: &mut E, set: &AxiomSet) -> Result<Option<u64>, NoMemory>
     requires { set.now.limit ≡ (E.meaning oracle.old).size }
 {
     match oracle.ask(set)? {
         Reply::Yes(part) => match shrink(oracle, &part)? {
-            Shrunk::Smallest(just) => Ok(Some(mask_of(&just))),
+            Shrunk::Smallest(smallest) => Ok(Some(mask_of(&smallest))),
             Shrunk::Spent => Ok(None),
         },
         Reply::No => Ok(None),
@@ -37,89 +48,144 @@ fn shrunk_in<E: Entail>(oracle: &mut E, set: &AxiomSet) -> Result<Option<u64>, F
     }
 }
 
-/// Asks and takes until the budget is spent.
-fn spend(rt: &impl Abort, alloc: Global, oracle: &mut SetOracle) -> Result<(), Fail>
-    requires { (⟦<SetOracle as Entail>⟧.meaning oracle.old).size ≡ 4 }
+/// The first listed part is told, and is shrunk with three asks more.
+fn is_shrunk(oracle: &mut SetOracle, full: &AxiomSet) -> Result<bool, NoMemory>
+    requires size { (⟦<SetOracle as Entail>⟧.meaning oracle.old).size ≡ 4 }
+    requires limit { full.now.limit ≡ 4 }
+{
+    let part = part_of(oracle, full)?;
+    let smallest = shrunk_in(oracle, full)?;
+    let counts = oracle.asks() == 5 && oracle.count() == 4;
+    Ok(part == Some(0b1110) && smallest == Some(0b110) && counts)
+}
+
+/// A node is taken, and then all numbers are asked about.
+fn answers(oracle: &mut SetOracle, node: &AxiomSet, full: &AxiomSet) -> Result<bool, NoMemory>
+    requires size { (⟦<SetOracle as Entail>⟧.meaning oracle.old).size ≡ 4 }
+    requires none { (⟦<SetOracle as Entail>⟧.meaning oracle.old).taken ≡ [] }
+    requires node { node.now.limit ≡ 4 }
+    requires full { full.now.limit ≡ 4 }
+{
+    let is_taken = oracle.take_node(node)? && oracle.nodes() == 1;
+    Ok(is_shrunk(oracle, full)? && is_taken)
+}
+
+/// Without a budget no node is taken, and nothing is answered.
+fn is_idle(oracle: &mut SetOracle, set: &AxiomSet) -> Result<bool, NoMemory>
+    requires size { (⟦<SetOracle as Entail>⟧.meaning oracle.old).size ≡ 4 }
+    requires none { (⟦<SetOracle as Entail>⟧.meaning oracle.old).taken ≡ [] }
+    requires limit { set.now.limit ≡ 4 }
+{
+    let is_taken = oracle.take_node(set)?;
+    let answer = oracle.ask(set)?;
+    Ok(!is_taken && matches!(answer, Reply::Spent))
+}
+
+fn answers_by_sets(alloc: Global, node: &AxiomSet, full: &AxiomSet) -> Result<bool, NoMemory>
+    requires node { node.now.limit ≡ 4 }
+    requires full { full.now.limit ≡ 4 }
+{
+    let sets = sets_of(alloc, 4, &["123", "12"])?;
+    let mut oracle = SetOracle::new(alloc, 4, sets, 6);
+    answers(&mut oracle, node, full)
+}
+
+fn is_idle_without(alloc: Global, set: &AxiomSet) -> Result<bool, NoMemory>
+    requires { set.now.limit ≡ 4 }
+{
+    let mut oracle = SetOracle::new(alloc, 4, Vec::new(alloc), 0);
+    is_idle(&mut oracle, set)
+}
+
+/// What a set lacks.
+fn lacks(alloc: Global, set: &AxiomSet, mask: u64) -> Result<bool, NoMemory> {
+    let rest = rest_of(alloc, set)?;
+    Ok(mask_of(&rest) == mask)
+}
+
+fn are_answered(alloc: Global, node: &AxiomSet) -> Result<bool, NoMemory>
+    requires { node.now.limit ≡ 4 }
 {
     let full = AxiomSet::full(alloc, 4)?;
-    let answer = oracle.ask(&full)?;
-    assert_eq!(rt; part_in(&answer), Some(0b1110), "the first listed part");
-    assert_eq!(rt; shrunk_in(oracle, &full)?, Some(0b110), "shrunk");
-    assert_eq!(rt; oracle.asks(), 5, "asks");
-    assert_eq!(rt; oracle.count(), 4, "count");
-    Ok(())
+    Ok(answers_by_sets(alloc, node, &full)? && is_idle_without(alloc, &full)?)
 }
 
 #[test]
 fn questions(rt: HostRuntime) -> Result<(), Fail> {
-    let alloc = rt.alloc();
-    let sets = sets_of(alloc, 4, &["123", "12"])?;
-    let mut oracle = SetOracle::new(alloc, 4, sets, 6);
-    let node = set_of(alloc, 4, "1")?;
-    assert!(rt; oracle.take_node(&node)?, "a node");
-    assert_eq!(rt; oracle.nodes(), 1, "nodes");
-    spend(&rt, alloc, &mut oracle)?;
-    let rest = rest_of(alloc, &node)?;
-    assert_eq!(rt; mask_of(&rest), 0b11100, "what a set lacks");
-    let mut idle = SetOracle::new(alloc, 4, Vec::new(alloc), 0);
-    assert!(rt; !idle.take_node(&node)?, "no node without a budget");
+    let node = set_of(rt.alloc(), 4, "1")?;
     assert!(rt;
-        matches!(idle.ask(&rest)?, Reply::Spent),
-        "no answer without a budget"
+        are_answered(rt.alloc(), &node)?,
+        "with a budget and without"
     );
+    assert!(rt; lacks(rt.alloc(), &node, 0b11100)?, "what a set lacks");
     Ok(())
+}
+
+fn are_placed(sets: &[AxiomSet], set: &AxiomSet) -> bool
+    requires { All (λ s. s.limit ≡ set.now.limit) sets.now }
+{
+    place_of_part(sets, set) == Some(0) && place_apart(sets, set).is_none()
+}
+
+fn are_found(alloc: Global, sets: &[AxiomSet]) -> Result<bool, NoMemory>
+    requires { All (λ s. s.limit ≡ 4) sets.now }
+{
+    let set = set_of(alloc, 4, "13")?;
+    Ok(are_placed(sets, &set))
+}
+
+fn are_put_in_order(alloc: Global) -> Result<bool, NoMemory> {
+    let sets = sets_of(alloc, 4, &["3", "12", "1", "3"])?;
+    let ordered = in_order(alloc, &sets)?;
+    Ok(are_sets(&ordered, &["1", "12", "3"]) && are_found(alloc, &sets)?)
+}
+
+fn is_put(alloc: Global) -> Result<bool, NoMemory> {
+    let mut single = Vec::new(alloc);
+    put_in_order(&mut single, set_of(alloc, 4, "13")?)?;
+    Ok(are_sets(&single, &["13"]))
 }
 
 #[test]
 fn lists(rt: HostRuntime) -> Result<(), Fail> {
-    let alloc = rt.alloc();
-    let sets = sets_of(alloc, 4, &["3", "12", "1", "3"])?;
-    let one = set_of(alloc, 4, "13")?;
-    assert_eq!(rt; place_of_part(&sets, &one), Some(0), "a part");
-    assert_eq!(rt; place_apart(&sets, &one), None, "all meet it");
-    let ordered = in_order(alloc, &sets)?;
-    assert_eq!(rt;
-        masks_of(alloc, &ordered)?.as_slice(),
-        [2, 6, 8].as_slice(),
-        "in order"
+    assert!(rt;
+        are_put_in_order(rt.alloc())?,
+        "in order, a part, and one that meets all"
     );
-    let mut single = Vec::new(alloc);
-    put_in_order(&mut single, one)?;
-    assert_eq!(rt;
-        masks_of(alloc, &single)?.as_slice(),
-        [10].as_slice(),
-        "one more"
-    );
+    assert!(rt; is_put(rt.alloc())?, "one more");
     Ok(())
 }
 
-/// Puts sets into an antichain, and compares what it keeps.
-fn put_all(
-    rt: &impl Abort,
-    alloc: Global,
-    mut chain: Antichain,
-    words: &[&str],
-    kept: &[u64],
-) -> Result<(), Fail>
-    requires { kept_sets chain ≡ [] }
+/// Puts sets into an antichain.
+fn put_each(alloc: Global, chain: &mut Antichain, words: &[&str]) -> Result<(), NoMemory>
+    requires { kept_sets chain.old ≡ [] }
 {
     for word in words {
-        chain.put(set_of(alloc, 4, word)?)?;
+        let set = set_of(alloc, 4, word)?;
+        chain.put(set)?;
     }
-    assert_eq!(rt; masks_of(alloc, chain.sets())?.as_slice(), kept);
     Ok(())
+}
+
+/// The sets that are put into each antichain.
+const PUT: &[&str] = &["13", "12", "123", "2", "13"];
+
+fn keeps(alloc: Global, chain: &mut Antichain, kept: &[&str]) -> Result<bool, NoMemory>
+    requires { kept_sets chain.old ≡ [] }
+{
+    put_each(alloc, chain, PUT)?;
+    Ok(are_sets(chain.sets(), kept))
 }
 
 #[test]
 fn least_and_greatest(rt: HostRuntime) -> Result<(), Fail> {
-    let alloc = rt.alloc();
-    let words = ["13", "12", "123", "2", "13"];
-    put_all(
-        &rt,
-        alloc,
-        Antichain::minimal(alloc),
-        &words,
-        &[0b1010, 0b100],
+    let least = keeps(
+        rt.alloc(),
+        &mut Antichain::minimal(rt.alloc()),
+        &["13", "2"],
     )?;
-    put_all(&rt, alloc, Antichain::maximal(alloc), &words, &[0b1110])
+    assert!(rt; least, "the smallest");
+    let greatest = keeps(rt.alloc(), &mut Antichain::maximal(rt.alloc()), &["123"])?;
+    assert!(rt; greatest, "the greatest");
+    Ok(())
 }

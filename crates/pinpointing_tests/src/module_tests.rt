@@ -229,8 +229,24 @@ fn has_module(
     Ok(is_module(alloc, ontology, &query, wanted)?)
 }
 
-/// The numbers of axioms, classes and roles of a document, if these are the numbers of the axioms in the module of
-/// the query.
+/// The numbers of axioms, classes and roles, if these are the numbers of the axioms in the module of the query.
+fn counts_of(
+    alloc: Global,
+    ontology: &mut Ontology,
+    context: &Context,
+    query: &str,
+    wanted: &[u32],
+) -> Result<Option<(u32, u32, u32)>, Refusal> {
+    let counts = (
+        ontology.axiom_count(),
+        ontology.class_count(),
+        ontology.role_count(),
+    );
+    let is_so = has_module(alloc, ontology, context, query, wanted)?;
+    Ok(if is_so { Some(counts) } else { None })
+}
+
+/// The same of a document.
 fn counts_with(
     alloc: Global,
     text: &[u8],
@@ -238,13 +254,7 @@ fn counts_with(
     wanted: &[u32],
 ) -> Result<Option<(u32, u32, u32)>, Refusal> {
     let (mut ontology, context, _) = read_ontology(alloc, short_bytes(text))?;
-    let counts = (
-        ontology.axiom_count(),
-        ontology.class_count(),
-        ontology.role_count(),
-    );
-    let is_so = has_module(alloc, &mut ontology, &context, query, wanted)?;
-    Ok(if is_so { Some(counts) } else { None })
+    counts_of(alloc, &mut ontology, &context, query, wanted)
 }
 
 fn gives(alloc: Global, axioms: &str, query: &str, wanted: &[u32]) -> Result<bool, Refusal> {
