@@ -5,4 +5,4 @@ use Rattle.set_questions.specs.Kept.{kept_sets}
 use Rattle.pinpointing_tests.proofs.call_tests.put_each.Given as goal
 
 abbrev pub invariant-loop-word : goal.invariant-loop-word
-invariant-loop-word g l = All (λ (s : Limited). s.limit ≡ 4) (kept_sets l.chain.now)
+invariant-loop-word l = All (λ (s : Limited). s.limit ≡ 4) (kept_sets l.chain)
