@@ -144,7 +144,17 @@ const ADDED: &[(&str, &[(&str, Put)])] = &[
 
 /// The start of a document, a piece that stands so often, or where it is empty so many new names, and the end; what is
 /// put into it without a refusal, and what is refused then.
-const LIMITS: &[(&str, &str, u32, &str, &str, &str, Refusal)] = &[
+type Limit = (
+    &'static str,
+    &'static str,
+    u32,
+    &'static str,
+    &'static str,
+    &'static str,
+    Refusal,
+);
+
+const LIMITS: &[Limit] = &[
     (
         "Ontology(\n",
         "TransitiveObjectProperty(<r>)\n",
@@ -194,108 +204,187 @@ const LIMITS: &[(&str, &str, u32, &str, &str, &str, Refusal)] = &[
     ),
 ];
 
+// Puts texts one after another.
+fn put_each(
+    rt: &impl Abort,
+    alloc: Global,
+    texts: &[(&str, Put)],
+    ontology: &mut Ontology,
+    context: &mut Context,
+) {
+    for (text, wanted) in texts {
+        assert!(rt; put(alloc, text, ontology, context) == *wanted, "{text}");
+    }
+}
+
+fn check_added(
+    rt: &impl Abort,
+    alloc: Global,
+    document: &str,
+    texts: &[(&str, Put)],
+) -> Result<(), Refusal> {
+    let (mut ontology, mut context, _) = read_ontology(alloc, short_bytes(document))?;
+    put_each(rt, alloc, texts, &mut ontology, &mut context);
+    Ok(())
+}
+
 fn test_added(rt: &impl Abort, alloc: Global) -> Result<(), Refusal> {
     for (document, texts) in ADDED {
-        let (mut ontology, mut context, _) = read_ontology(alloc, short_bytes(document))?;
-        for (text, wanted) in *texts {
-            assert!(rt;
-                put(alloc, text, &mut ontology, &mut context) == *wanted,
-                "{text}"
-            );
-        }
+        check_added(rt, alloc, document, texts)?;
     }
     Ok(())
+}
+
+// Whether an axiom that is put into the document is the first one, of that kind.
+fn is_kind(alloc: Global, document: &str, kind: u32, axiom: &str) -> Result<bool, Refusal> {
+    let (mut ontology, mut context, _) = read_ontology(alloc, short_bytes(document))?;
+    let number = read_axiom(alloc, axiom, &mut ontology, &mut context);
+    Ok(number == Ok(1) && first_axiom(&ontology) == Some((kind, 1)))
 }
 
 fn test_kinds(rt: &impl Abort, alloc: Global) -> Result<(), Refusal> {
+    let empty = document_of(alloc, HEAD, "\n", 1, TAIL)?;
     for (kind, axiom) in KINDS {
-        let empty = document_of(alloc, HEAD, "\n", 1, TAIL)?;
-        let (mut ontology, mut context, _) = read_ontology(alloc, short_bytes(&empty))?;
-        assert!(rt;
-            read_axiom(alloc, axiom, &mut ontology, &mut context) == Ok(1),
-            "{axiom}"
-        );
-        assert!(rt; first_axiom(&ontology) == Some((*kind, 1)), "{axiom}");
+        assert!(rt; is_kind(alloc, &empty, *kind, axiom)?, "{axiom}");
     }
     Ok(())
+}
+
+// Whether one text is put into the document, and the next is refused and nothing put.
+fn is_last(
+    alloc: Global,
+    document: &str,
+    last: &str,
+    text: &str,
+    wanted: Refusal,
+) -> Result<bool, Refusal> {
+    let (mut ontology, mut context, _) = read_ontology(alloc, short_bytes(document))?;
+    let count = ontology.axiom_count();
+    let number = read_axiom(alloc, last, &mut ontology, &mut context);
+    let refused = read_axiom(alloc, text, &mut ontology, &mut context);
+    let is_one_more = number.ok() == count.checked_add(1)
+        && number.ok() == Some(ontology.axiom_count());
+    Ok(is_one_more && refused == Err(wanted))
+}
+
+fn is_limit(alloc: Global, limit: &Limit) -> Result<bool, Refusal> {
+    let (head, piece, count, tail, last, text, wanted) = *limit;
+    let document = document_of(alloc, head, piece, count, tail)?;
+    is_last(alloc, &document, last, text, wanted)
 }
 
 fn test_limits(rt: &impl Abort, alloc: Global) -> Result<(), Refusal> {
-    for (head, piece, count, tail, last, text, wanted) in LIMITS {
-        let document = document_of(alloc, head, piece, *count, tail)?;
-        let (mut ontology, mut context, _) = read_ontology(alloc, short_bytes(&document))?;
-        read_axiom(alloc, last, &mut ontology, &mut context)?;
-        let before = ontology.axiom_count();
-        assert!(rt;
-            read_axiom(alloc, text, &mut ontology, &mut context) == Err(*wanted),
-            "{text}"
-        );
-        assert!(rt; ontology.axiom_count() == before, "{text}");
+    for limit in LIMITS {
+        assert!(rt; is_limit(alloc, limit)?, "{}", limit.5);
     }
     Ok(())
 }
 
-// Queries go on from what was put in, and axioms from what is there: the names of a query are listed, and its nodes are
-// not counted.
-fn test_nodes(rt: &impl Abort, alloc: Global) -> Result<(), Refusal> {
+/// What is said of an ontology.
+#[derive(Clone, Copy)]
+enum Said {
+    /// It is a query on it.
+    Asked(&'static str),
+    /// It is put in as an axiom.
+    Put(&'static str),
+}
+
+/// What is said one after another of an ontology of one class, with room for three nodes of class expressions more, and
+/// why it is refused. Queries go on from what was put in, and axioms from what is there: the names of a query are
+/// listed, and its nodes are not counted.
+const SAID: &[(Said, Option<Refusal>)] = &[
+    (Said::Asked("SubClassOf(<0> <1>)"), None),
+    (Said::Put("SubClassOf(<0> <2>)"), None),
+    (Said::Asked("SubClassOf(<0> <2>)"), None),
+    (Said::Put("ClassAssertion(<0> <a>)"), None),
+    (
+        Said::Asked("SubClassOf(<0> <2>)"),
+        Some(Refusal::Limit(Which::Nodes, 1)),
+    ),
+    (
+        Said::Put("SubClassOf(<0> <0>)"),
+        Some(Refusal::Limit(Which::Nodes, 1)),
+    ),
+];
+
+fn refusal_of(
+    alloc: Global,
+    said: Said,
+    ontology: &mut Ontology,
+    context: &mut Context,
+) -> Option<Refusal> {
+    match said {
+        Said::Asked(text) => read_query(alloc, text, ontology, context).err(),
+        Said::Put(text) => read_axiom(alloc, text, ontology, context).err(),
+    }
+}
+
+fn are_counted(alloc: Global, ontology: &mut Ontology, context: &mut Context) -> bool {
+    let mut are_so = true;
+    for (said, wanted) in SAID {
+        are_so &= refusal_of(alloc, *said, ontology, context) == *wanted;
+    }
+    are_so && ontology.class_number("1") == Some(1) && ontology.class_number("2") == Some(2)
+}
+
+fn are_counted_in(alloc: Global, document: &str) -> Result<bool, Refusal> {
+    let (mut ontology, mut context, _) = read_ontology(alloc, short_bytes(document))?;
+    Ok(are_counted(alloc, &mut ontology, &mut context))
+}
+
+fn are_nodes_counted(alloc: Global) -> Result<bool, Refusal> {
     let document = document_of(alloc, SAME_CLASSES, "<0> ", 262_140, "))")?;
-    let (mut ontology, mut context, _) = read_ontology(alloc, short_bytes(&document))?;
-    read_query(alloc, "SubClassOf(<0> <1>)", &mut ontology, &context)?;
-    read_axiom(alloc, "SubClassOf(<0> <2>)", &mut ontology, &mut context)?;
-    assert!(rt; ontology.class_number("2") == Some(2));
-    read_query(alloc, "SubClassOf(<0> <2>)", &mut ontology, &context)?;
-    read_axiom(
-        alloc,
-        "ClassAssertion(<0> <a>)",
-        &mut ontology,
-        &mut context,
-    )?;
-    let asked = read_query(alloc, "SubClassOf(<0> <2>)", &mut ontology, &context).err();
-    assert!(rt; asked == Some(Refusal::Limit(Which::Nodes, 1)));
-    let number = read_axiom(alloc, "SubClassOf(<0> <0>)", &mut ontology, &mut context);
-    assert!(rt; number == Err(Refusal::Limit(Which::Nodes, 1)));
-    Ok(())
+    are_counted_in(alloc, &document)
+}
+
+fn push_role(alloc: Global, text: &mut String, number: u32) -> Result<(), AllocError> {
+    let declaration = format!(in alloc; "Declaration(ObjectProperty(<{number}>))")?;
+    text.push_str(&declaration)
 }
 
 // Roles that are declared, and no axiom.
 fn with_roles(alloc: Global, count: u32) -> Result<String, AllocError> {
     let mut text = String::from_str(alloc, "Ontology(")?;
     for number in 0..count {
-        let declaration = format!(in alloc; "Declaration(ObjectProperty(<{number}>))")?;
-        text.push_str(&declaration)?;
+        push_role(alloc, &mut text, number)?;
     }
     text.push_str(")")?;
     Ok(text)
 }
 
-fn test_roles(rt: &impl Abort, alloc: Global) -> Result<(), Refusal> {
+fn is_last_role(alloc: Global) -> Result<bool, Refusal> {
     let document = with_roles(alloc, 999)?;
-    let (mut ontology, mut context, _) = read_ontology(alloc, short_bytes(&document))?;
-    let number = read_axiom(
+    let last = "FunctionalObjectProperty(<r>)";
+    let text = "FunctionalObjectProperty(<s>)";
+    is_last(
         alloc,
-        "FunctionalObjectProperty(<r>)",
-        &mut ontology,
-        &mut context,
-    );
-    assert!(rt; number == Ok(1));
-    let number = read_axiom(
-        alloc,
-        "FunctionalObjectProperty(<s>)",
-        &mut ontology,
-        &mut context,
-    );
-    assert!(rt; number == Err(Refusal::Limit(Which::Roles, 1)));
-    Ok(())
+        &document,
+        last,
+        text,
+        Refusal::Limit(Which::Roles, 1),
+    )
 }
 
-fn test_long(rt: &impl Abort, alloc: Global) -> Result<(), Refusal> {
-    let roles = document_of(alloc, ROLES, "\n", 1, TAIL)?;
-    let (mut ontology, mut context, _) = read_ontology(alloc, short_bytes(&roles))?;
+// A text that is too long by its blanks alone.
+fn long_text(alloc: Global) -> Result<String, AllocError> {
     let blanks = document_of(alloc, "", "                ", 1_024, "")?;
-    let text = document_of(alloc, "SubClassOf(:A", &blanks, 1_024, " :B)")?;
-    let refused = read_axiom(alloc, &text, &mut ontology, &mut context).err();
-    assert!(rt; refused == Some(Refusal::Limit(Which::Text, 0)));
-    Ok(())
+    document_of(alloc, "SubClassOf(:A", &blanks, 1_024, " :B)")
+}
+
+fn refused_of(alloc: Global, document: &str, text: &str) -> Result<Option<Refusal>, Refusal> {
+    let (mut ontology, mut context, _) = read_ontology(alloc, short_bytes(document))?;
+    Ok(read_axiom(alloc, text, &mut ontology, &mut context).err())
+}
+
+fn is_too_long(alloc: Global, document: &str) -> Result<bool, Refusal> {
+    let text = long_text(alloc)?;
+    let refused = refused_of(alloc, document, &text)?;
+    Ok(refused == Some(Refusal::Limit(Which::Text, 0)))
+}
+
+fn is_long_refused(alloc: Global) -> Result<bool, Refusal> {
+    let roles = document_of(alloc, ROLES, "\n", 1, TAIL)?;
+    is_too_long(alloc, &roles)
 }
 
 #[test]
@@ -308,8 +397,8 @@ fn reads_axioms_one_by_one(rt: HostRuntime) -> Result<(), Fail> {
 #[test]
 fn counts_all_axioms_that_are_held(rt: HostRuntime) -> Result<(), Fail> {
     test_limits(&rt, rt.alloc())?;
-    test_nodes(&rt, rt.alloc())?;
-    test_roles(&rt, rt.alloc())?;
-    test_long(&rt, rt.alloc())?;
+    assert!(rt; are_nodes_counted(rt.alloc())?, "nodes");
+    assert!(rt; is_last_role(rt.alloc())?, "roles");
+    assert!(rt; is_long_refused(rt.alloc())?, "a long text");
     Ok(())
 }
