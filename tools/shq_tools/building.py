@@ -15,7 +15,7 @@ from shq_tools import kit_command, proving
 from shq_tools.places import CRATE_LIST, CRATES, PROGRAM, PROGRAM_CRATE, TOOLS
 
 # How long a build takes where nothing is kept. The README says the same, and no other place.
-TIME_FROM_NOTHING = "half an hour to an hour on four processors"
+TIME_FROM_NOTHING = "half an hour to an hour and a half on four processors"
 # What one check may take of the memory, in bytes.
 MEMORY_OF_A_CHECK = 4_000_000_000
 NOT_BUILT = 127
