@@ -12,8 +12,8 @@ use std::fmt;
 /// Why lines are not the text that they are read as.
 #[derive(Clone, Copy, Debug, PartialEq, Eq)]
 pub enum LineFault {
-    /// The number of the first line outside the format, where the first line of the text has the number 2. A number
-    /// above 4,294,967,295 is told as 4,294,967,295.
+    /// The number of the first line outside the format. The lines of a certificate have the numbers from 2 on, behind
+    /// the line with the answer. A number above 4,294,967,295 is told as 4,294,967,295.
     Malformed(u32),
     NoMemory,
 }

@@ -8,7 +8,7 @@ ghost use Rattle.ofn_expressions.specs.Classes.{IsListedAxiom};
 ghost use Rattle.ofn_expressions.specs.Walk.{Tested, add_refusal, numbered, parts, nodes, class, role, individual};
 
 use crate::{Refusal, Which};
-use shq_terms::{AddFault, Axiom, MAX_AXIOMS, MAX_CLASSES, MAX_INDIVIDUALS, MAX_ROLES, Ontology};
+use shq_terms::{AddFault, Axiom, MAX_AXIOMS, Ontology};
 use std::marker::Model;
 
 /// The ontology so far, with the axioms that were begun, their parts, and the nodes of class expressions that were met.
