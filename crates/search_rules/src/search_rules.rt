@@ -1,12 +1,19 @@
 // The rules of searches over one set of axioms.
-ghost use Rattle.std.specs.Prelude.{◌≡◌, ℕ, ◌<◌, ◌≤◌, All, IsTrue, IfOk, OnErr, length};
+ghost use Rattle.std.specs.Prelude.{◌≡◌, ℕ, ◌<◌, ◌≤◌, All, IsTrue, IfOk, OnOk, OnErr, length};
 ghost use Rattle.calculus_specs.specs.Shape.{IsTable};
 ghost use Rattle.absorption.specs.Sets.{IsWithin, member_list};
+ghost use Rattle.absorption.specs.Tables.{IsRowTable};
+ghost use Rattle.absorption.specs.Closed.{IsClosed};
+ghost use Rattle.assertion_box.specs.Stated.{stated_facts};
 ghost use Rattle.ontology_limits.specs.Counts.{has_counts_within};
 ghost use Rattle.ontology_limits.specs.Numbers.{Extends};
 ghost use Rattle.ontology_limits.specs.RoleAxioms.{role_axioms};
+ghost use Rattle.ontology_limits.specs.Steps.{is_transitive};
+ghost use Rattle.ontology_limits.specs.Paths.{is_below};
 ghost use Rattle.absorption.specs.Theory.{node_in_question};
 ghost use Rattle.ontology_limits.specs.Limits.{IsOntologyInLimit};
+ghost use Rattle.search_rules.specs.GivenFacts.{AreNumbered};
+ghost use Rattle.search_rules.specs.Tables.{AreNumberLists, AreEdgeLists};
 
 use crate::NoMemory;
 use crate::edge_tables::EdgeTables;
@@ -75,25 +82,8 @@ impl<'a> SearchRules<'a> {
         ensures ontology { IfOk result (λ r. r.ontology ≡ ontology.now) }
         ensures set { IfOk result (λ r. r.set ≡ set.now) }
     {
-        each_axiom_is_in_limit();
         let only = listed(alloc, set)?;
-        let roles = RoleBox::build(alloc, ontology, &only)?;
-        let mut concepts = Concepts::new(alloc)?;
-        let rows = RowTable::build(alloc, ontology, set, &mut concepts)?;
-        let given = GivenFacts::build(alloc, ontology, &only, &mut concepts)?;
-        put_complements_of_names(&mut concepts)?;
-        let numbers = closed_tables(alloc, &mut concepts, &roles, &rows)?;
-        let edges = EdgeTables::build(alloc, &roles, &rows)?;
-        Ok(SearchRules {
-            ontology,
-            set: set.try_clone()?,
-            concepts,
-            roles,
-            rows,
-            given,
-            numbers,
-            edges,
-        })
+        rules_of(alloc, ontology, set, &only)
     }
 
     /// The numbers of what a query asks whose cardinalities are at most 100: of its left side, and of the complement of
@@ -178,6 +168,75 @@ impl<'a> SearchRules<'a> {
     {
         &self.rows
     }
+}
+
+// The rules of the axioms of a set, whose numbers are listed.
+fn rules_of<'a>(
+    alloc: Global,
+    ontology: &'a Ontology,
+    set: &AxiomSet,
+    only: &[u32],
+) -> Result<SearchRules<'a>, NoMemory>
+    requires numbers { IsWithin (length ontology.now.axioms) set.now.members }
+    requires listed { only.now ≡ member_list set.now }
+    requires in_limit { IsOntologyInLimit ontology.now }
+    ensures ontology { IfOk result (λ r. r.ontology ≡ ontology.now) }
+    ensures set { IfOk result (λ r. r.set ≡ set.now) }
+{
+    let roles = RoleBox::build(alloc, ontology, only)?;
+    let mut concepts = Concepts::new(alloc)?;
+    let (rows, given) = rows_and_facts(alloc, ontology, set, only, &mut concepts)?;
+    let (numbers, edges) = tables_of(alloc, &mut concepts, &roles, &rows)?;
+    let set = set.try_clone()?;
+    Ok(SearchRules {
+        ontology,
+        set,
+        concepts,
+        roles,
+        rows,
+        given,
+        numbers,
+        edges,
+    })
+}
+
+// The rows and the stated facts of a set. Their concepts are put into the table, and the complement of each name.
+fn rows_and_facts(
+    alloc: Global,
+    ontology: &Ontology,
+    set: &AxiomSet,
+    only: &[u32],
+    concepts: &mut Concepts,
+) -> Result<(RowTable, GivenFacts), NoMemory>
+    requires numbers { IsWithin (length ontology.now.axioms) set.now.members }
+    requires listed { only.now ≡ member_list set.now }
+    requires in_limit { IsOntologyInLimit ontology.now }
+    ensures rows { IfOk result (λ p. IsRowTable ontology.now.axioms (member_list set.now) concepts.new p.0) }
+    ensures facts { IfOk result (λ p. AreNumbered concepts.new (stated_facts ontology.now.axioms only.now) p.1) }
+{
+    each_axiom_is_in_limit();
+    let rows = RowTable::build(alloc, ontology, set, concepts)?;
+    let given = GivenFacts::build(alloc, ontology, only, concepts)?;
+    put_complements_of_names(concepts)?;
+    Ok((rows, given))
+}
+
+// The tables by number of a table of concepts, which is closed for them.
+fn tables_of(
+    alloc: Global,
+    concepts: &mut Concepts,
+    roles: &RoleBox,
+    rows: &RowTable,
+) -> Result<(NumberTables, EdgeTables), NoMemory>
+    ensures numbers { IfOk result (λ p. AreNumberLists concepts.new roles.now rows.now.at_names p.0) }
+    ensures edges { IfOk result (λ p. AreEdgeLists (is_below roles.now) rows.now p.1) }
+    ensures closed { OnOk result (IsClosed (is_below roles.now) (is_transitive roles.now) concepts.new) }
+    ensures kept { Extends concepts.old concepts.new }
+    ensures concepts { IsTable concepts.new }
+{
+    let numbers = closed_tables(alloc, concepts, roles, rows)?;
+    let edges = EdgeTables::build(alloc, roles, rows)?;
+    Ok((numbers, edges))
 }
 
 // The members of the set, ascending.
