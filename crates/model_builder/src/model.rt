@@ -1,5 +1,6 @@
 // The model of a saturated tree.
-ghost use Rattle.std.specs.Prelude.{◌≡◌, IsTrue, IfOk, length};
+ghost use Rattle.std.specs.Prelude.{◌≡◌, ◌<◌, ◌^◌, IsTrue, IfOk, length};
+ghost use Rattle.calculus_specs.specs.State.{node_count_from};
 ghost use Rattle.search_laws.specs.Limits.{IsInLimit};
 ghost use Rattle.finite_model.specs.ModelLists.{meaning};
 ghost use Rattle.finite_model.specs.Written.{uses_listed_names};
@@ -9,6 +10,7 @@ ghost use Rattle.search_laws.specs.CounterModelLaws.{IsCounterModel};
 ghost use Rattle.blocking.specs.Followed.{IsCurrent};
 ghost use Rattle.search_rules.specs.RuleLists.{numbers_in, context_in};
 ghost use Rattle.model_builder.specs.Collected.{IsOfElements};
+ghost use Rattle.model_builder.specs.Numbered.{AreNumbered};
 ghost use Rattle.model_builder.specs.Saturated.{IsSaturatedTrail};
 
 use crate::elements::elements_of;
@@ -84,14 +86,32 @@ pub fn interpretation_of_elements<A: Allocator + Copy>(
     ensures { IfOk result
         (λ k. IsOfElements concepts.now roles.now count tree.now.first (facts_in tree.now.entries) (meaning k)) }
 {
-    elements_are_few();
     let elements = elements_of(alloc, tree, found_blocks)?;
     let numbers = elements.numbers.as_slice();
     let originals = elements.originals.as_slice();
+    interpretation_of(alloc, tree, numbers, originals, concepts, roles, count)
+}
+
+// The interpretation of elements by the numbers of nodes and the nodes that they are like.
+fn interpretation_of<A: Allocator + Copy>(
+    alloc: Global,
+    tree: &Tree<A>,
+    numbers: &[Option<u32>],
+    originals: &[u32],
+    concepts: &Concepts,
+    roles: &RoleBox,
+    count: u32,
+) -> Result<Interp, NoMemory>
+    requires numbered { AreNumbered tree.now.first (facts_in tree.now.entries)
+        (node_count_from tree.now.first (facts_in tree.now.entries)) numbers.now originals.now }
+    requires few { length originals.now < 2 ^ 32 }
+    ensures { IfOk result
+        (λ k. IsOfElements concepts.now roles.now count tree.now.first (facts_in tree.now.entries) (meaning k)) }
+{
+    elements_are_few();
     let size = originals.len() as u32;
     let members = members_of(alloc, tree, concepts, originals, size)?;
     let edges = edges_of(alloc, tree, numbers, originals, size)?;
     let places = places_of(alloc, tree, numbers, tree.first() - 1)?;
-    let model = interpretation(alloc, size, &members, &edges, roles, count, &places)?;
-    Ok(model)
+    interpretation(alloc, size, &members, &edges, roles, count, &places)
 }
