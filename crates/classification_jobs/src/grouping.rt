@@ -76,9 +76,26 @@ fn groups(alloc: Global, relation: &Relation) -> Result<Vec<Group>, NoMemory>
     let between = classes_between(alloc, relation)?;
     let firsts = first_classes(alloc, relation, &between)?;
     let classes = classes_of(alloc, &firsts)?;
+    groups_by(alloc, relation, &between, &firsts, &classes)
+}
+
+// The groups of these first classes.
+fn groups_by(
+    alloc: Global,
+    relation: &Relation,
+    between: &AxiomSet,
+    firsts: &AxiomSet,
+    classes: &[u32],
+) -> Result<Vec<Group>, NoMemory>
+    requires between { HoldsClasses relation.now.count (is_between relation.now.count (holds relation.now))
+        between.now }
+    requires firsts { HoldsClasses relation.now.count (is_first relation.now.count (holds relation.now)) firsts.now }
+    requires classes { classes.now ≡ passing (is_first relation.now.count (holds relation.now)) 0 relation.now.count }
+    ensures { IfOk result (λ gs. gs.items ≡ groups_of relation.now.count (holds relation.now)) }
+{
     let mut groups = Vec::new(alloc);
-    for class in &classes {
-        groups.push(group(alloc, relation, &between, &firsts, *class)?)?;
+    for class in classes {
+        groups.push(group(alloc, relation, between, firsts, *class)?)?;
     }
     Ok(groups)
 }

@@ -85,18 +85,36 @@ pub(crate) fn text_of(
     ensures kept { OnOk result (IsKeptModel ontology.now decision.now) }
 {
     let mut out = Vec::new(alloc);
+    put_text(alloc, &mut out, question, ontology, decision)?;
+    Ok(Text::Bytes(out))
+}
+
+// Puts the text of a decision where no bytes are.
+fn put_text(
+    alloc: Global,
+    out: &mut Vec<u8>,
+    question: WrittenQuestion<'_>,
+    ontology: &Ontology,
+    decision: &Answer,
+) -> Result<(), NoMemory>
+    requires writable { CanBeWritten ontology.now decision.now }
+    requires empty { out.old.items ≡ [] }
+    ensures text { OnOk result
+        (out.new.items ≡ decision_text ontology.now (question_text question.entry) decision.now) }
+    ensures kept { OnOk result (IsKeptModel ontology.now decision.now) }
+{
     match decision {
         Answer::Entailed(refutation) => {
-            push_line(&mut out, entailed_line(question))?;
-            refutation.text(alloc, &mut out, ontology)?;
+            push_line(out, entailed_line(question))?;
+            refutation.text(alloc, out, ontology)?;
         }
         Answer::NotEntailed(model) => {
-            push_line(&mut out, not_entailed_line(question))?;
-            model.text(alloc, &mut out, ontology)?;
+            push_line(out, not_entailed_line(question))?;
+            model.text(alloc, out, ontology)?;
         }
-        Answer::Undecided => push_line(&mut out, "undecided")?,
+        Answer::Undecided => push_line(out, "undecided")?,
     }
-    Ok(Text::Bytes(out))
+    Ok(())
 }
 
 // Appends a line.

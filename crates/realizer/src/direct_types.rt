@@ -28,10 +28,26 @@ pub(crate) fn type_lines(
 {
     let between = classes_between(alloc, relation)?;
     let firsts = first_classes(alloc, relation, &between)?;
+    lines_by(alloc, relation, &firsts, rows, individuals)
+}
+
+// The direct types, of which each is the first class of its group.
+fn lines_by(
+    alloc: Global,
+    relation: &Relation,
+    firsts: &AxiomSet,
+    rows: &[AxiomSet],
+    individuals: u32,
+) -> Result<TypeLines, NoMemory>
+    requires firsts { HoldsClasses relation.now.count (is_first relation.now.count (holds relation.now)) firsts.now }
+    requires rows { AreTypeRows relation.now.count individuals rows.now }
+    ensures { IfOk result
+        (λ ts. ts ≡ type_lists relation.now.count (holds relation.now) individuals (typed_by rows.now)) }
+{
     let mut lines = Vec::new(alloc);
     for individual in 0..individuals {
         let row = &rows[individual as usize];
-        lines.push(type_line(alloc, relation, &firsts, individual, row)?)?;
+        lines.push(type_line(alloc, relation, firsts, individual, row)?)?;
     }
     Ok(TypeLines::new(lines))
 }

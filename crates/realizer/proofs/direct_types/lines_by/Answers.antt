@@ -8,7 +8,7 @@ use Rattle.subsumption.specs.ClassSets.{has_class}
 use Rattle.realizer.specs.TypeLists.{TypeLists}
 use Rattle.realizer.specs.Realization.{direct_types}
 use Rattle.realizer.specs.TypeRows.{typed_by}
-use Rattle.realizer.proofs.direct_types.type_lines.Goals as goal
+use Rattle.realizer.proofs.direct_types.lines_by.Goals as goal
 
 pub loop-individual-preserved : goal.loop-individual-preserved
 loop-individual-preserved c =
@@ -22,7 +22,7 @@ loop-individual-preserved c =
     let row : c.index-rows-individual.result ≡ row_in rows a =
     c.index-rows-individual.is
     ∙ get_or_default rows a c.index-rows-individual.result no_row
-    (omega (arith, c.requires.long, c.loop-individual-test.true)) in
+    (omega (arith, c.requires.rows.long, c.loop-individual-test.true)) in
     let line : c.in_ok-type_line.field-0 ≡ line_of a = c.in_ok-type_line.ensures ∙ ap line_by row in
     c.in_ok-push.ensures.items ∙ (λ i. c.loop-individual.invariant i ++ line i ∷ [])
     ∙ sym (map-range_with_len_more line_of 0 a a (omega arith))
