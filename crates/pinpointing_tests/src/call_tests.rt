@@ -1,6 +1,6 @@
 // Each call over sets in memory once.
 
-ghost use Rattle.std.specs.Prelude.{◌≡◌, [], IfOk};
+ghost use Rattle.std.specs.Prelude.{◌≡◌, []};
 ghost use Rattle.std.specs.List.{All};
 ghost use Rattle.set_questions.specs.Kept.{kept_sets};
 
@@ -13,38 +13,59 @@ use set_questions::{
 };
 use shq_terms::NoMemory;
 use std::alloc::Global;
+use std::process::Abort;
 use std::test::Fail;
 
-/// What an answer says: the bits of a part, or `None` where there is none.
-fn part_in(answer: &Reply) -> Option<u64> {
+/// What is told: the bits of a set, or that there is none.
+#[derive(Clone, Copy)]
+enum Told {
+    Set(u64),
+    No,
+    Spent,
+}
+
+fn told_by(answer: &Reply) -> Told {
     match answer {
-        Reply::Yes(part) => Some(mask_of(part)),
-        Reply::No => None,
-        Reply::Spent => None,
+        Reply::Yes(part) => Told::Set(mask_of(part)),
+        Reply::No => Told::No,
+        Reply::Spent => Told::Spent,
     }
 }
 
-/// Asks about a set: the bits of the part that the answer names.
-fn part_of(oracle: &mut SetOracle, set: &AxiomSet) -> Result<Option<u64>, NoMemory>
+/// Asks about a set.
+fn ask(oracle: &mut SetOracle, set: &AxiomSet) -> Result<Told, NoMemory>
     requires { set.now.limit ≡ (⟦<SetOracle as Entail>⟧.meaning oracle.old).size }
     ensures { (⟦<SetOracle as Entail>⟧.meaning oracle.new).size
         ≡ (⟦<SetOracle as Entail>⟧.meaning oracle.old).size }
 {
     let answer = oracle.ask(set)?;
-    Ok(part_in(&answer))
+    Ok(told_by(&answer))
+}
+
+fn told_of(shrunk: &Shrunk) -> Told {
+    match shrunk {
+        Shrunk::Smallest(smallest) => Told::Set(mask_of(smallest)),
+        Shrunk::Spent => Told::Spent,
+    }
+}
+
+/// Shrinks a set.
+fn smallest_in<E: Entail>(oracle: &mut E, part: &AxiomSet) -> Result<Told, NoMemory>
+    requires limit { part.now.limit ≡ (E.meaning oracle.old).size }
+    requires yes_set { (E.meaning oracle.old).holds part.now.members }
+{
+    let shrunk = shrink(oracle, part)?;
+    Ok(told_of(&shrunk))
 }
 
 /// Asks about a set, and shrinks what is named.
-fn shrunk_in<E: Entail>(oracle: &mut E, set: &AxiomSet) -> Result<Option<u64>, NoMemory>
+fn shrunk_in<E: Entail>(oracle: &mut E, set: &AxiomSet) -> Result<Told, NoMemory>
     requires { set.now.limit ≡ (E.meaning oracle.old).size }
 {
     match oracle.ask(set)? {
-        Reply::Yes(part) => match shrink(oracle, &part)? {
-            Shrunk::Smallest(smallest) => Ok(Some(mask_of(&smallest))),
-            Shrunk::Spent => Ok(None),
-        },
-        Reply::No => Ok(None),
-        Reply::Spent => Ok(None),
+        Reply::Yes(part) => smallest_in(oracle, &part),
+        Reply::No => Ok(Told::No),
+        Reply::Spent => Ok(Told::Spent),
     }
 }
 
@@ -53,10 +74,10 @@ fn is_shrunk(oracle: &mut SetOracle, full: &AxiomSet) -> Result<bool, NoMemory>
     requires size { (⟦<SetOracle as Entail>⟧.meaning oracle.old).size ≡ 4 }
     requires limit { full.now.limit ≡ 4 }
 {
-    let part = part_of(oracle, full)?;
+    let part = ask(oracle, full)?;
     let smallest = shrunk_in(oracle, full)?;
     let counts = oracle.asks() == 5 && oracle.count() == 4;
-    Ok(part == Some(0b1110) && smallest == Some(0b110) && counts)
+    Ok(matches!(part, Told::Set(0b1110)) && matches!(smallest, Told::Set(0b110)) && counts)
 }
 
 /// A node is taken, and then all numbers are asked about.
@@ -77,8 +98,8 @@ fn is_idle(oracle: &mut SetOracle, set: &AxiomSet) -> Result<bool, NoMemory>
     requires limit { set.now.limit ≡ 4 }
 {
     let is_taken = oracle.take_node(set)?;
-    let answer = oracle.ask(set)?;
-    Ok(!is_taken && matches!(answer, Reply::Spent))
+    let told = ask(oracle, set)?;
+    Ok(!is_taken && matches!(told, Told::Spent))
 }
 
 fn answers_by_sets(alloc: Global, node: &AxiomSet, full: &AxiomSet) -> Result<bool, NoMemory>
@@ -98,29 +119,33 @@ fn is_idle_without(alloc: Global, set: &AxiomSet) -> Result<bool, NoMemory>
 }
 
 /// What a set lacks.
-fn lacks(alloc: Global, set: &AxiomSet, mask: u64) -> Result<bool, NoMemory> {
+fn is_rest(alloc: Global, set: &AxiomSet) -> Result<bool, NoMemory> {
     let rest = rest_of(alloc, set)?;
-    Ok(mask_of(&rest) == mask)
+    Ok(mask_of(&rest) == 0b11100)
 }
 
-fn are_answered(alloc: Global, node: &AxiomSet) -> Result<bool, NoMemory>
+/// With a budget and without, and what the node lacks.
+fn are_answered(alloc: Global, node: &AxiomSet, full: &AxiomSet) -> Result<bool, NoMemory>
+    requires node { node.now.limit ≡ 4 }
+    requires full { full.now.limit ≡ 4 }
+{
+    let are_so = answers_by_sets(alloc, node, full)? && is_idle_without(alloc, full)?;
+    Ok(is_rest(alloc, node)? && are_so)
+}
+
+fn are_answered_at(alloc: Global, node: &AxiomSet) -> Result<bool, NoMemory>
     requires { node.now.limit ≡ 4 }
 {
     let full = AxiomSet::full(alloc, 4)?;
-    Ok(answers_by_sets(alloc, node, &full)? && is_idle_without(alloc, &full)?)
+    are_answered(alloc, node, &full)
 }
 
-#[test]
-fn questions(rt: HostRuntime) -> Result<(), Fail> {
-    let node = set_of(rt.alloc(), 4, "1")?;
-    assert!(rt;
-        are_answered(rt.alloc(), &node)?,
-        "with a budget and without"
-    );
-    assert!(rt; lacks(rt.alloc(), &node, 0b11100)?, "what a set lacks");
-    Ok(())
+fn are_all_answered(alloc: Global) -> Result<bool, NoMemory> {
+    let node = set_of(alloc, 4, "1")?;
+    are_answered_at(alloc, &node)
 }
 
+/// A part of a set, and that all sets meet it.
 fn are_placed(sets: &[AxiomSet], set: &AxiomSet) -> bool
     requires { All (λ s. s.limit ≡ set.now.limit) sets.now }
 {
@@ -134,26 +159,35 @@ fn are_found(alloc: Global, sets: &[AxiomSet]) -> Result<bool, NoMemory>
     Ok(are_placed(sets, &set))
 }
 
+fn are_ordered(alloc: Global, sets: &[AxiomSet]) -> Result<bool, NoMemory>
+    requires { All (λ s. s.limit ≡ 4) sets.now }
+{
+    let ordered = in_order(alloc, sets)?;
+    Ok(are_sets(&ordered, &["1", "12", "3"]))
+}
+
+fn are_listed(alloc: Global, sets: &[AxiomSet]) -> Result<bool, NoMemory>
+    requires { All (λ s. s.limit ≡ 4) sets.now }
+{
+    Ok(are_ordered(alloc, sets)? && are_found(alloc, sets)?)
+}
+
 fn are_put_in_order(alloc: Global) -> Result<bool, NoMemory> {
     let sets = sets_of(alloc, 4, &["3", "12", "1", "3"])?;
-    let ordered = in_order(alloc, &sets)?;
-    Ok(are_sets(&ordered, &["1", "12", "3"]) && are_found(alloc, &sets)?)
+    are_listed(alloc, &sets)
+}
+
+fn is_put_in(alloc: Global, sets: &mut Vec<AxiomSet>) -> Result<bool, NoMemory>
+    requires { sets.old.items ≡ [] }
+{
+    let set = set_of(alloc, 4, "13")?;
+    put_in_order(sets, set)?;
+    Ok(are_sets(sets, &["13"]))
 }
 
 fn is_put(alloc: Global) -> Result<bool, NoMemory> {
-    let mut single = Vec::new(alloc);
-    put_in_order(&mut single, set_of(alloc, 4, "13")?)?;
-    Ok(are_sets(&single, &["13"]))
-}
-
-#[test]
-fn lists(rt: HostRuntime) -> Result<(), Fail> {
-    assert!(rt;
-        are_put_in_order(rt.alloc())?,
-        "in order, a part, and one that meets all"
-    );
-    assert!(rt; is_put(rt.alloc())?, "one more");
-    Ok(())
+    let mut sets = Vec::new(alloc);
+    is_put_in(alloc, &mut sets)
 }
 
 /// Puts sets into an antichain.
@@ -177,15 +211,33 @@ fn keeps(alloc: Global, chain: &mut Antichain, kept: &[&str]) -> Result<bool, No
     Ok(are_sets(chain.sets(), kept))
 }
 
+fn keeps_smallest(alloc: Global) -> Result<bool, NoMemory> {
+    let mut chain = Antichain::minimal(alloc);
+    keeps(alloc, &mut chain, &["13", "2"])
+}
+
+fn keeps_greatest(alloc: Global) -> Result<bool, NoMemory> {
+    let mut chain = Antichain::maximal(alloc);
+    keeps(alloc, &mut chain, &["123"])
+}
+
+fn test_calls(rt: &impl Abort, alloc: Global) -> Result<(), NoMemory> {
+    assert!(rt;
+        are_all_answered(alloc)?,
+        "with a budget and without, and what a set lacks"
+    );
+    assert!(rt;
+        are_put_in_order(alloc)?,
+        "in order, a part, and one that meets all"
+    );
+    assert!(rt; is_put(alloc)?, "one more");
+    assert!(rt; keeps_smallest(alloc)?, "the smallest");
+    assert!(rt; keeps_greatest(alloc)?, "the greatest");
+    Ok(())
+}
+
 #[test]
-fn least_and_greatest(rt: HostRuntime) -> Result<(), Fail> {
-    let least = keeps(
-        rt.alloc(),
-        &mut Antichain::minimal(rt.alloc()),
-        &["13", "2"],
-    )?;
-    assert!(rt; least, "the smallest");
-    let greatest = keeps(rt.alloc(), &mut Antichain::maximal(rt.alloc()), &["123"])?;
-    assert!(rt; greatest, "the greatest");
+fn calls_over_sets(rt: HostRuntime) -> Result<(), Fail> {
+    test_calls(&rt, rt.alloc())?;
     Ok(())
 }

@@ -1,10 +1,11 @@
 // Families whose smallest sets and repairs were worked out by hand, each under every budget.
 
-ghost use Rattle.std.specs.Prelude.{◌≡◌, []};
+ghost use Rattle.std.specs.Prelude.{◌≡◌, ◌++◌, []};
+ghost use Rattle.set_questions.specs.InOrder.{HaveOneLimit};
 
 use crate::written_sets::{are_among, are_sets, sets_of};
 use axiom_sets::AxiomSet;
-use hitting_set_tree::enumerate;
+use hitting_set_tree::{Found, enumerate};
 use repair_list::repairs;
 use set_questions::{Entail, SetOracle};
 use shq_terms::NoMemory;
@@ -80,7 +81,13 @@ fn outcome_by<E: Entail>(alloc: Global, oracle: &mut E, family: Family) -> Resul
     requires { (E.meaning oracle.old).taken ≡ [] }
 {
     let found = enumerate(alloc, oracle)?;
-    let list = repairs(alloc, &found)?;
+    outcome_in(alloc, &found, family)
+}
+
+fn outcome_in(alloc: Global, found: &Found, family: Family) -> Result<Outcome, NoMemory>
+    requires { HaveOneLimit (found.now.justifications.items ++ found.now.leaves.items) }
+{
+    let list = repairs(alloc, found)?;
     Ok(judged(&found.justifications, &list, found.finished, family))
 }
 

@@ -2,8 +2,6 @@
 #![tactic(auto)]
 
 #[cfg(test)]
-mod assertion_tests;
-#[cfg(test)]
 mod call_tests;
 #[cfg(test)]
 mod family_tests;

@@ -4,7 +4,7 @@ ghost use Rattle.std.specs.Prelude.{◌≤◌, length};
 use axiom_sets::AxiomSet;
 use module_extract::module;
 use ofn_reader::{Context, Refusal, read_ontology, read_query};
-use shq_terms::{NoMemory, Ontology, Query};
+use shq_terms::{Concept, NoMemory, Node, On, Ontology, Query};
 use std::alloc::Global;
 use std::process::Abort;
 use std::str;
@@ -198,7 +198,7 @@ fn short_bytes(text: &[u8]) -> &[u8]
 }
 
 /// Whether these are the numbers of the set.
-pub(crate) fn are_numbers(set: &AxiomSet, wanted: &[u32]) -> bool {
+fn are_numbers(set: &AxiomSet, wanted: &[u32]) -> bool {
     let mut numbers = set.numbers();
     let mut are_same = true;
     for number in wanted {
@@ -207,17 +207,18 @@ pub(crate) fn are_numbers(set: &AxiomSet, wanted: &[u32]) -> bool {
     are_same && numbers.next().is_none()
 }
 
+/// Whether these are the numbers of the axioms in the module of the query.
 fn is_module(
     alloc: Global,
     ontology: &Ontology,
     query: &Query,
     wanted: &[u32],
-) -> Result<bool, NoMemory> {
+) -> Result<bool, Refusal> {
     let found = module(alloc, ontology, query)?;
     Ok(are_numbers(&found, wanted))
 }
 
-/// Whether these are the numbers of the axioms in the module of the query.
+/// The same of a query that is read.
 fn has_module(
     alloc: Global,
     ontology: &mut Ontology,
@@ -226,46 +227,94 @@ fn has_module(
     wanted: &[u32],
 ) -> Result<bool, Refusal> {
     let query = read_query(alloc, query, ontology, context)?;
-    Ok(is_module(alloc, ontology, &query, wanted)?)
+    is_module(alloc, ontology, &query, wanted)
 }
 
-/// The numbers of axioms, classes and roles, if these are the numbers of the axioms in the module of the query.
-fn counts_of(
-    alloc: Global,
-    ontology: &mut Ontology,
-    context: &Context,
-    query: &str,
-    wanted: &[u32],
-) -> Result<Option<(u32, u32, u32)>, Refusal> {
+/// The numbers of axioms, classes and roles.
+type Counts = (u32, u32, u32);
+
+/// Whether these are the counts, where some are wanted.
+fn are_counts(ontology: &Ontology, wanted: Option<Counts>) -> bool {
     let counts = (
         ontology.axiom_count(),
         ontology.class_count(),
         ontology.role_count(),
     );
-    let is_so = has_module(alloc, ontology, context, query, wanted)?;
-    Ok(if is_so { Some(counts) } else { None })
+    wanted.is_none() || wanted == Some(counts)
 }
 
-/// The same of a document.
-fn counts_with(
+/// Whether a document has these counts, where some are wanted, and these are the numbers of the axioms in the module of
+/// the query.
+fn is_so(
     alloc: Global,
     text: &[u8],
     query: &str,
     wanted: &[u32],
-) -> Result<Option<(u32, u32, u32)>, Refusal> {
+    counts: Option<Counts>,
+) -> Result<bool, Refusal> {
     let (mut ontology, context, _) = read_ontology(alloc, short_bytes(text))?;
-    counts_of(alloc, &mut ontology, &context, query, wanted)
+    is_so_in(alloc, &mut ontology, &context, query, wanted, counts)
+}
+
+fn is_so_in(
+    alloc: Global,
+    ontology: &mut Ontology,
+    context: &Context,
+    query: &str,
+    wanted: &[u32],
+    counts: Option<Counts>,
+) -> Result<bool, Refusal> {
+    let are_right = are_counts(ontology, counts);
+    Ok(has_module(alloc, ontology, context, query, wanted)? && are_right)
 }
 
 fn gives(alloc: Global, axioms: &str, query: &str, wanted: &[u32]) -> Result<bool, Refusal> {
     let text = format!(in alloc; "Prefix(:=<e:>)\nOntology(\n{axioms}\n)\n")?;
-    Ok(counts_with(alloc, text.as_bytes(), query, wanted)?.is_some())
+    is_so(alloc, text.as_bytes(), query, wanted, None)
 }
 
 /// Whether an inclusion joins, or does not.
 fn joins(alloc: Global, sub: &str, sup: &str, query: &str, wanted: bool) -> Result<bool, Refusal> {
     let axiom = format!(in alloc; "SubClassOf({sub} {sup})")?;
     gives(alloc, &axiom, query, if wanted { &[1] } else { &[] })
+}
+
+/// Two classes; an assertion of each kind, an inclusion of the class that an individual is in, and another one.
+const ASSERTIONS: &[u8] =
+    b"Ontology(Declaration(Class(<A>))Declaration(Class(<B>))ClassAssertion(<C> <a>)\
+    ObjectPropertyAssertion(<r> <a> <b>)SameIndividual(<a> <b>)DifferentIndividuals(<a> <b>)SubClassOf(<C> <D>)\
+    SubClassOf(<E> <F>))";
+
+/// The numbers of the axioms that are in the module of the two classes: the assertions, and the inclusion of a class
+/// that one of them names.
+const IN_MODULE: &[u32] = &[1, 2, 3, 4, 5];
+
+fn class(number: u32) -> Concept {
+    Concept {
+        node: Node::Name(number),
+    }
+}
+
+/// Whether the assertions are in the module of a query on the two classes.
+fn has_assertions(alloc: Global, ontology: &Ontology, on: On) -> Result<bool, Refusal> {
+    let query = Query {
+        sub: class(0),
+        sup: class(1),
+        on,
+    };
+    is_module(alloc, ontology, &query, IN_MODULE)
+}
+
+/// Whether they are, whatever the query speaks of.
+fn have_assertions(alloc: Global, ontology: &Ontology) -> Result<bool, Refusal> {
+    let on_any = has_assertions(alloc, ontology, On::Any)?;
+    let on_one = has_assertions(alloc, ontology, On::Individual(1))?;
+    Ok(on_any && on_one)
+}
+
+fn are_asserted(alloc: Global, text: &[u8]) -> Result<bool, Refusal> {
+    let (ontology, _, _) = read_ontology(alloc, short_bytes(text))?;
+    have_assertions(alloc, &ontology)
 }
 
 fn test_modules(rt: &impl Abort, alloc: Global) -> Result<(), Refusal> {
@@ -282,6 +331,7 @@ fn test_modules(rt: &impl Abort, alloc: Global) -> Result<(), Refusal> {
             "{class} on the right"
         );
     }
+    assert!(rt; are_asserted(alloc, ASSERTIONS)?, "assertions");
     Ok(())
 }
 
@@ -318,14 +368,15 @@ fn is_made(alloc: Global) -> Result<bool, NoMemory> {
 /// its query.
 fn is_read(alloc: Global, groups: u32, listed: u32) -> Result<bool, Refusal> {
     let text = made(alloc, groups)?;
-    let counts = counts_with(alloc, &text, QUERY, &[1, 2, 3, 4, 5, 6])?;
-    Ok(counts == Some((listed, listed, 2)))
+    let counts = Some((listed, listed, 2));
+    is_so(alloc, &text, QUERY, &[1, 2, 3, 4, 5, 6], counts)
 }
 
 fn test_workloads(rt: &impl Abort, alloc: Global) -> Result<(), Refusal> {
     for (groups, listed) in GROUPS {
         assert!(rt; is_read(alloc, *groups, *listed)?, "{groups} groups");
     }
+    assert!(rt; is_made(alloc)?, "the text of two groups");
     Ok(())
 }
 
@@ -333,6 +384,5 @@ fn test_workloads(rt: &impl Abort, alloc: Global) -> Result<(), Refusal> {
 fn modules_and_workloads(rt: HostRuntime) -> Result<(), Fail> {
     test_modules(&rt, rt.alloc())?;
     test_workloads(&rt, rt.alloc())?;
-    assert!(rt; is_made(rt.alloc())?, "the text of two groups");
     Ok(())
 }
