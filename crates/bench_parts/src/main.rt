@@ -39,7 +39,7 @@ enum Part {
 }
 
 /// The word of each part.
-const PARTS: [(&str, Part); 4] = [
+const PARTS: &[(&str, Part)] = &[
     ("sets", Part::Sets),
     ("pinpointing", Part::Pinpointing),
     ("tree", Part::Tree),
@@ -47,7 +47,7 @@ const PARTS: [(&str, Part); 4] = [
 ];
 
 /// The families and their sizes.
-const ROWS: [(&str, Family, u32); 27] = [
+const ROWS: &[(&str, Family, u32)] = &[
     ("chain", Family::Chain, 1_000),
     ("chain", Family::Chain, 10_000),
     ("closed chain", Family::ClosedChain, 10_000),
@@ -83,7 +83,7 @@ fn out_of_memory() -> io::Error {
 
 /// Prints what the search does on each family.
 fn search_families(rt: &(impl Print + Clock), alloc: Global) -> io::Result<()> {
-    for (name, family, size) in &ROWS {
+    for (name, family, size) in ROWS {
         report(rt, alloc, name, *family, *size)?;
     }
     Ok(())
@@ -91,7 +91,7 @@ fn search_families(rt: &(impl Print + Clock), alloc: Global) -> io::Result<()> {
 
 /// The part that a word asks for.
 fn part_of(wanted: &str) -> Option<Part> {
-    for (word, part) in &PARTS {
+    for (word, part) in PARTS {
         if wanted == *word {
             return Some(*part);
         }

@@ -29,8 +29,20 @@ fn fill(alloc: Global, ontology: &mut Ontology, family: Family, size: u32) -> Re
     ensures in_limit { OnOk result (IsInLimit ontology.new asked) }
 {
     let statements = family.statements(alloc, size)?;
-    list_names(alloc, ontology, family.class_count(size))?;
-    put_all(alloc, ontology, &statements)?;
+    fill_with(alloc, ontology, family.class_count(size), &statements)
+}
+
+fn fill_with(
+    alloc: Global,
+    ontology: &mut Ontology,
+    count: u32,
+    statements: &[Statement],
+) -> Result<(), AddFault>
+    requires { AreSmall ontology.old.axioms }
+    ensures in_limit { OnOk result (IsInLimit ontology.new asked) }
+{
+    list_names(alloc, ontology, count)?;
+    put_all(alloc, ontology, statements)?;
     check(alloc, ontology)
 }
 
@@ -40,10 +52,16 @@ fn list_names(alloc: Global, ontology: &mut Ontology, count: u32) -> Result<(), 
 {
     ontology.add_role("r")?;
     for number in 0..count {
-        let text = format!(in alloc; "C{number}")?;
-        ontology.add_class(text.as_str())?;
+        list_class(alloc, ontology, number)?;
     }
     Ok(())
+}
+
+fn list_class(alloc: Global, ontology: &mut Ontology, number: u32) -> Result<u32, AddFault>
+    ensures { ontology.new.axioms ≡ ontology.old.axioms }
+{
+    let text = format!(in alloc; "C{number}")?;
+    ontology.add_class(text.as_str())
 }
 
 fn put_all(alloc: Global, ontology: &mut Ontology, statements: &[Statement]) -> Result<(), AddFault>

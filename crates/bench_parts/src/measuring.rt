@@ -1,5 +1,6 @@
 // What a search did, and how long it took.
-ghost use Rattle.std.specs.Prelude.{◌≡◌, IfOk, length};
+ghost use Rattle.std.specs.Prelude.{◌≡◌, ◌+◌, ◌<◌, ◌^◌, false, IfOk, length};
+ghost use Rattle.axiom_sets.specs.Sets.{IsWithin};
 ghost use Rattle.ontology_limits.specs.Limits.{IsInLimit};
 ghost use Rattle.search_rules.specs.RuleLists.{AreNumbersOf};
 ghost use Rattle.bench_parts.specs.Small.{asked};
@@ -58,8 +59,20 @@ fn report_rules(
     requires in_limit { IsInLimit ontology.now asked }
 {
     let query = query();
-    match ask(alloc, ontology, &query) {
-        Ok(rules) => report_search(rt, alloc, &rules, &query, fuel),
+    report_query(rt, alloc, ontology, &query, fuel)
+}
+
+fn report_query(
+    rt: &(impl Print + Clock),
+    alloc: Global,
+    ontology: &Ontology,
+    query: &Query,
+    fuel: u64,
+) -> io::Result<()>
+    requires { IsInLimit ontology.now query.now }
+{
+    match ask(alloc, ontology, query) {
+        Ok(asked) => report_search(rt, alloc, &asked, query, fuel),
         Err(_) => println!(rt; "out of memory"),
     }
 }
@@ -129,7 +142,23 @@ fn ask<'a>(alloc: Global, ontology: &'a Ontology, query: &Query) -> Result<Asked
 {
     let set = AxiomSet::full(alloc, ontology.axiom_count())?;
     let _limit = set.limit();
-    let mut rules = SearchRules::build(alloc, ontology, &set)?;
+    ask_over(alloc, ontology, &set, query)
+}
+
+fn ask_over<'a>(
+    alloc: Global,
+    ontology: &'a Ontology,
+    set: &AxiomSet,
+    query: &Query,
+) -> Result<Asked<'a>, NoMemory>
+    requires in_limit { IsInLimit ontology.now query.now }
+    requires limit { set.now.limit ≡ length ontology.now.axioms }
+    requires within { IsWithin (length ontology.now.axioms) set.now.members }
+    ensures numbers { IfOk result (λ a. AreNumbersOf a.rules query.now a.sub a.not_sup) }
+    ensures set { IfOk result (λ a. a.rules.set.limit ≡ length a.rules.ontology.axioms) }
+    ensures ontology { IfOk result (λ a. a.rules.ontology ≡ ontology.entry.now) }
+{
+    let mut rules = SearchRules::build(alloc, ontology, set)?;
     let (sub, not_sup) = rules.numbers_of(alloc, query)?;
     Ok(Asked {
         rules,
@@ -160,8 +189,16 @@ fn search_in<A: Allocator + Copy>(
     requires in_limit { IsInLimit asked.now.rules.ontology query.now }
 {
     let mut search = Search::new_in(arena, alloc, &asked.rules, query, asked.sub, asked.not_sup)?;
+    run(&mut search, fuel)
+}
+
+fn run<A: Allocator + Copy>(search: &mut Search<'_, A>, fuel: u64) -> Result<Outcome, NoMemory>
+    requires goes_on { search.old.ended ≡ false }
+    requires whole { search.old.failed ≡ false }
+    requires countable { search.old.steps + fuel < 2 ^ 64 }
+{
     let end = search.run(fuel)?;
-    Ok(outcome_of(&search, &end))
+    Ok(outcome_of(search, &end))
 }
 
 fn outcome_of<A: Allocator + Copy>(search: &Search<'_, A>, end: &End) -> Outcome {

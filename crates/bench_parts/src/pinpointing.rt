@@ -1,11 +1,12 @@
 // How many nodes and questions the hitting-set tree takes on families of sets, and how long it takes: one line for each
 // family.
-ghost use Rattle.std.specs.Prelude.{◌≡◌, []};
+ghost use Rattle.std.specs.Prelude.{◌≡◌, ◌++◌, []};
 ghost use Rattle.std.specs.List.{All};
+ghost use Rattle.set_questions.specs.InOrder.{HaveOneLimit};
 
 use crate::families::{Family, diamonds, random_sets};
 use axiom_sets::AxiomSet;
-use hitting_set_tree::enumerate;
+use hitting_set_tree::{Found, enumerate};
 use repair_list::repairs;
 use set_questions::{Entail, SetOracle};
 use shq_base::NoMemory;
@@ -18,7 +19,7 @@ use std::time::Instant;
 const AMPLE: u64 = 1_000_000_000;
 
 /// What was found.
-#[derive(Drop)]
+#[derive(Clone, Copy)]
 struct Counts {
     justifications: usize,
     repairs: usize,
@@ -30,7 +31,13 @@ fn counts_of<E: Entail>(alloc: Global, oracle: &mut E) -> Result<Counts, NoMemor
     requires { (E.meaning oracle.old).taken ≡ [] }
 {
     let found = enumerate(alloc, oracle)?;
-    let list = repairs(alloc, &found)?;
+    counts_in(alloc, &found)
+}
+
+fn counts_in(alloc: Global, found: &Found) -> Result<Counts, NoMemory>
+    requires { HaveOneLimit (found.now.justifications.items ++ found.now.leaves.items) }
+{
+    let list = repairs(alloc, found)?;
     Ok(Counts {
         justifications: found.justifications.len(),
         repairs: list.len(),
@@ -50,8 +57,19 @@ fn report(
     requires { All (λ s. s.limit ≡ count) sets.items }
 {
     let mut oracle = SetOracle::new(alloc, count, sets, budget);
+    report_by(rt, alloc, name, &mut oracle)
+}
+
+fn report_by(
+    rt: &(impl Print + Clock),
+    alloc: Global,
+    name: &str,
+    oracle: &mut SetOracle,
+) -> io::Result<()>
+    requires { (⟦<SetOracle as Entail>⟧.meaning oracle.old).taken ≡ [] }
+{
     let start = Instant::now(rt)?;
-    match counts_of(alloc, &mut oracle) {
+    match counts_of(alloc, oracle) {
         Ok(counts) => {
             let micros = start.elapsed(rt)?.as_micros();
             let Counts {
@@ -101,16 +119,31 @@ fn report_random(
     }
 }
 
+/// The chains of diamonds: how many links each has, and how many ways through a link.
+const DIAMONDS: &[(&str, u32, u32)] = &[
+    ("4 diamonds of 3 ways", 4, 3),
+    ("5 diamonds of 3 ways", 5, 3),
+    ("8 diamonds of 2 ways", 8, 2),
+    ("8 disjoint pairs", 1, 8),
+    ("10 disjoint pairs", 1, 10),
+    ("12 disjoint pairs", 1, 12),
+];
+
+/// The random families: the seed, how many sets there are and how many numbers, and the budget.
+const RANDOM: &[(&str, u64, u32, u32, u64)] = &[
+    ("12 of 15, seed 1", 1, 12, 15, AMPLE),
+    ("12 of 15, seed 2", 2, 12, 15, AMPLE),
+    ("12 of 15, seed 3", 3, 12, 15, AMPLE),
+    ("40 of 60, seed 1", 1, 40, 60, 20_000),
+];
+
 /// Reports on each family.
 pub(crate) fn run(rt: &(impl Print + Clock), alloc: Global) -> io::Result<()> {
-    report_diamonds(rt, alloc, "4 diamonds of 3 ways", 4, 3)?;
-    report_diamonds(rt, alloc, "5 diamonds of 3 ways", 5, 3)?;
-    report_diamonds(rt, alloc, "8 diamonds of 2 ways", 8, 2)?;
-    report_diamonds(rt, alloc, "8 disjoint pairs", 1, 8)?;
-    report_diamonds(rt, alloc, "10 disjoint pairs", 1, 10)?;
-    report_diamonds(rt, alloc, "12 disjoint pairs", 1, 12)?;
-    report_random(rt, alloc, "12 of 15, seed 1", 1, 12, 15, AMPLE)?;
-    report_random(rt, alloc, "12 of 15, seed 2", 2, 12, 15, AMPLE)?;
-    report_random(rt, alloc, "12 of 15, seed 3", 3, 12, 15, AMPLE)?;
-    report_random(rt, alloc, "40 of 60, seed 1", 1, 40, 60, 20_000)
+    for (name, links, ways) in DIAMONDS {
+        report_diamonds(rt, alloc, name, *links, *ways)?;
+    }
+    for (name, seed, sets, count, budget) in RANDOM {
+        report_random(rt, alloc, name, *seed, *sets, *count, *budget)?;
+    }
+    Ok(())
 }

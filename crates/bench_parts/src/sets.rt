@@ -105,28 +105,41 @@ fn compare<P: FnMut(usize) -> usize, K: FnMut(usize) -> usize>(
     println!(rt; "{name}: {ratio:.2} times as fast, answers {plain_sum} and {kernel_sum}")
 }
 
-/// Compares the kernels over two lists of words.
-fn compare_sets(rt: &(impl Print + Clock)) -> io::Result<()> {
-    let set = set_of(1);
-    let apart = others(&set);
-    let mut whole = set;
-    plain_union(&mut whole, &apart);
-    let mut one = set;
-    let mut two = set;
+fn compare_subsets(
+    rt: &(impl Print + Clock),
+    set: &[u64; WORDS],
+    whole: &[u64; WORDS],
+) -> io::Result<()> {
     compare(
         rt,
         "subset_words",
         ROUNDS,
         |round| usize::from(plain_subset(&set[round % FRONTS..], &whole[round % FRONTS..])),
         |round| usize::from(subset_words(&set[round % FRONTS..], &whole[round % FRONTS..])),
-    )?;
+    )
+}
+
+fn compare_meets(
+    rt: &(impl Print + Clock),
+    set: &[u64; WORDS],
+    apart: &[u64; WORDS],
+) -> io::Result<()> {
     compare(
         rt,
         "meets_words",
         ROUNDS,
         |round| usize::from(plain_meets(&set[round % FRONTS..], &apart[round % FRONTS..])),
         |round| usize::from(meets_words(&set[round % FRONTS..], &apart[round % FRONTS..])),
-    )?;
+    )
+}
+
+fn compare_unions(
+    rt: &(impl Print + Clock),
+    set: &[u64; WORDS],
+    apart: &[u64; WORDS],
+) -> io::Result<()> {
+    let mut one = *set;
+    let mut two = *set;
     compare(
         rt,
         "union_words",
@@ -140,6 +153,17 @@ fn compare_sets(rt: &(impl Print + Clock)) -> io::Result<()> {
             usize::from(two[WORDS - 1] == u64::MAX)
         },
     )
+}
+
+/// Compares the kernels over two lists of words.
+fn compare_sets(rt: &(impl Print + Clock)) -> io::Result<()> {
+    let set = set_of(1);
+    let apart = others(&set);
+    let mut whole = set;
+    plain_union(&mut whole, &apart);
+    compare_subsets(rt, &set, &whole)?;
+    compare_meets(rt, &set, &apart)?;
+    compare_unions(rt, &set, &apart)
 }
 
 /// Compares the kernel over a table of prints. What a call answers depends on what it writes too, so that no compiler

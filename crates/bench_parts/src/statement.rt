@@ -76,22 +76,32 @@ fn boxed(alloc: Global, class: u32) -> Result<Box<Concept>, NoMemory> {
 
 fn named(alloc: Global, first: u32, count: u32) -> Result<Vec<Concept>, NoMemory> {
     let mut concepts = Vec::new(alloc);
-    for place in 0..count {
-        push_item(&mut concepts, name(first.wrapping_add(place)))?;
-    }
+    push_names(&mut concepts, first, count)?;
     Ok(concepts)
+}
+
+fn push_names(concepts: &mut Vec<Concept>, first: u32, count: u32) -> Result<(), NoMemory> {
+    for place in 0..count {
+        push_item(concepts, name(first.wrapping_add(place)))?;
+    }
+    Ok(())
 }
 
 fn both(alloc: Global, class: u32, filler: u32) -> Result<Vec<Concept>, NoMemory> {
     let mut concepts = Vec::new(alloc);
-    push_item(&mut concepts, name(class))?;
-    push_successor(alloc, &mut concepts, filler)?;
+    push_both(alloc, &mut concepts, class, filler)?;
     Ok(concepts)
 }
 
-/// Puts what has a successor in the class.
-fn push_successor(alloc: Global, concepts: &mut Vec<Concept>, class: u32) -> Result<(), NoMemory> {
-    let node = Node::SomeOf(ROLE, boxed(alloc, class)?);
+/// Puts a class, and what has a successor in another one.
+fn push_both(
+    alloc: Global,
+    concepts: &mut Vec<Concept>,
+    class: u32,
+    filler: u32,
+) -> Result<(), NoMemory> {
+    push_item(concepts, name(class))?;
+    let node = Node::SomeOf(ROLE, boxed(alloc, filler)?);
     push_item(concepts, Concept { node })
 }
 

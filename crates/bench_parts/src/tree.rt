@@ -242,6 +242,38 @@ fn fill_star<A: Allocator + Copy>(tree: &mut Tree<A>, by: &By) -> Result<(), NoM
     Ok(())
 }
 
+/// 1 where the edge into a node rests on mark 0, else 0.
+fn edge_mark<A: Allocator + Copy>(
+    heap: Global,
+    tree: &Tree<A>,
+    node: u32,
+) -> Result<u32, NoMemory> {
+    if node >= tree.nodes() {
+        return Ok(0);
+    }
+    match tree.origin(node) {
+        Some((role, from)) => {
+            let marks = tree.marks_of(heap, Fact::Edge(role, from, node))?;
+            Ok(u32::from(marks.has(0)))
+        }
+        None => Ok(0),
+    }
+}
+
+/// 1 where a concept of a node rests on mark 1, else 0.
+fn concept_mark<A: Allocator + Copy>(
+    heap: Global,
+    tree: &Tree<A>,
+    node: u32,
+    concept: u32,
+) -> Result<u32, NoMemory> {
+    if node >= tree.nodes() || !tree.has(node, concept) {
+        return Ok(0);
+    }
+    let marks = tree.marks_of(heap, Fact::Has(node, concept))?;
+    Ok(u32::from(marks.has(1)))
+}
+
 /// The marks of the edge into a node, and of one of its concepts.
 fn marks_at<A: Allocator + Copy>(
     heap: Global,
@@ -249,18 +281,8 @@ fn marks_at<A: Allocator + Copy>(
     node: u32,
     concept: u32,
 ) -> Result<u32, NoMemory> {
-    let mut count = 0u32;
-    if node < tree.nodes() {
-        if let Some((role, from)) = tree.origin(node) {
-            let marks = tree.marks_of(heap, Fact::Edge(role, from, node))?;
-            count = count.wrapping_add(u32::from(marks.has(0)));
-        }
-        if tree.has(node, concept) {
-            let marks = tree.marks_of(heap, Fact::Has(node, concept))?;
-            count = count.wrapping_add(u32::from(marks.has(1)));
-        }
-    }
-    Ok(count)
+    let count = edge_mark(heap, tree, node)?;
+    Ok(count.wrapping_add(concept_mark(heap, tree, node, concept)?))
 }
 
 fn all_marks<A: Allocator + Copy>(heap: Global, tree: &Tree<A>) -> Result<u32, NoMemory> {
