@@ -34,7 +34,17 @@ fn answer_to(
     document: &str,
 ) -> Result<Answer, NoMemory> {
     let mut input = String::from_str(alloc, document)?;
-    block.certificate.put(&mut input, turn)?;
+    answer_with(alloc, block, turn, &mut input)
+}
+
+// The same, where the certificate is put behind the document.
+fn answer_with(
+    alloc: Global,
+    block: &Block<'_>,
+    turn: Turn,
+    input: &mut String,
+) -> Result<Answer, NoMemory> {
+    block.certificate.put(input, turn)?;
     run_turn(alloc, &block.words, turn, input.as_bytes())
 }
 
@@ -54,11 +64,26 @@ fn run_within(
     input: &[u8],
 ) -> Result<Answer, NoMemory> {
     let number = format!(in alloc; "{budget}")?;
+    run_with(alloc, words, number.as_str(), input)
+}
+
+fn run_with(alloc: Global, words: &[&str], budget: &str, input: &[u8]) -> Result<Answer, NoMemory> {
     let mut all = Vec::new(alloc);
+    run_all(alloc, &mut all, words, budget, input)
+}
+
+// Runs these words, and those of a budget behind them.
+fn run_all<'a>(
+    alloc: Global,
+    all: &mut Vec<&'a str>,
+    words: &[&'a str],
+    budget: &'a str,
+    input: &[u8],
+) -> Result<Answer, NoMemory> {
     all.extend_from_slice(words)?;
     all.push("budget")?;
-    all.push(number.as_str())?;
-    run_on(alloc, &all, input)
+    all.push(budget)?;
+    run_on(alloc, all, input)
 }
 
 fn run_failing(
@@ -81,14 +106,30 @@ fn report_of(
     answer: &Answer,
 ) -> Result<String, NoMemory> {
     let mut line = named(alloc, block.name, turn.number)?;
-    let status = answer.status;
-    line.push_str(&format!(in alloc; ": {status:?}; ")?)?;
-    match question_in(block, answer) {
-        Some(words) => put_evidence(alloc, &mut line, words, document, answer)?,
-        None => put_whole(alloc, &mut line, answer.text())?,
-    }
-    put_shows(alloc, &mut line, &block.shows, answer)?;
+    put_report(alloc, &mut line, block, document, answer)?;
     Ok(line)
+}
+
+// Puts all behind the name.
+fn put_report(
+    alloc: Global,
+    line: &mut String,
+    block: &Block<'_>,
+    document: &str,
+    answer: &Answer,
+) -> Result<(), NoMemory> {
+    put_status(alloc, line, answer.status)?;
+    match question_in(block, answer) {
+        Some(words) => put_evidence(alloc, line, words, document, answer)?,
+        None => put_whole(alloc, line, answer.text())?,
+    }
+    put_shows(alloc, line, &block.shows, answer)
+}
+
+fn put_status(alloc: Global, line: &mut String, status: Status) -> Result<(), NoMemory> {
+    let text = format!(in alloc; ": {status:?}; ")?;
+    line.push_str(text.as_str())?;
+    Ok(())
 }
 
 // The name of a case, and the number of its run.

@@ -103,23 +103,44 @@ impl<'a> Document<'a> {
     /// The text of the document, with the blanks behind it.
     pub(crate) fn text(&self, alloc: Global) -> Result<String, NoMemory> {
         let mut text = self.bare_text(alloc)?;
-        for _ in text.len()..self.length {
-            text.push_str(" ")?;
-        }
+        fill(&mut text, self.length)?;
         Ok(text)
     }
 
     // The text of the document.
     fn bare_text(&self, alloc: Global) -> Result<String, NoMemory> {
-        let mut lines = joined(alloc, &self.pieces)?;
-        if !self.is_whole {
-            return document(alloc, lines.as_str());
+        let lines = self.lines(alloc)?;
+        if self.is_whole {
+            Ok(lines)
+        } else {
+            document(alloc, lines.as_str())
         }
-        if !self.pieces.is_empty() {
-            lines.push_str("\n")?;
-        }
-        Ok(lines)
     }
+
+    fn lines(&self, alloc: Global) -> Result<String, NoMemory> {
+        let mut text = String::new(alloc);
+        self.put(alloc, &mut text)?;
+        Ok(text)
+    }
+
+    // Puts the lines, with a line feed between each two, and one behind the last where the document is given whole.
+    fn put(&self, alloc: Global, text: &mut String) -> Result<(), NoMemory> {
+        for (index, piece) in self.pieces.iter().enumerate() {
+            put_piece(alloc, text, piece, index == 0)?;
+        }
+        if self.is_whole && !self.pieces.is_empty() {
+            text.push_str("\n")?;
+        }
+        Ok(())
+    }
+}
+
+// Puts blanks last, up to so many bytes.
+fn fill(text: &mut String, length: usize) -> Result<(), NoMemory> {
+    for _ in text.len()..length {
+        text.push_str(" ")?;
+    }
+    Ok(())
 }
 
 // A number from 1 on, and what stands behind it.
@@ -129,15 +150,6 @@ fn counted(rest: &str) -> Option<(u32, &str)> {
         Ok(count) if count > 0 => Some((count, text)),
         _ => None,
     }
-}
-
-// The lines, with a line feed between each two.
-fn joined(alloc: Global, pieces: &[Piece<'_>]) -> Result<String, NoMemory> {
-    let mut text = String::new(alloc);
-    for (index, piece) in pieces.iter().enumerate() {
-        put_piece(alloc, &mut text, piece, index == 0)?;
-    }
-    Ok(text)
 }
 
 fn put_piece(
@@ -169,19 +181,32 @@ fn put_lines(
     is_first: bool,
 ) -> Result<(), NoMemory> {
     for number in 0..count {
-        let line = numbered(alloc, line, number)?;
-        put_line(text, line.as_str(), is_first && number == 0)?;
+        put_numbered(alloc, text, line, number, is_first && number == 0)?;
     }
     Ok(())
 }
 
-// The line of a number, which is counted from 0 here.
-fn numbered(alloc: Global, line: &str, before: u32) -> Result<String, NoMemory> {
-    let before = u64::from(before);
-    let number = format!(in alloc; "{}", before + 1)?;
-    let next = format!(in alloc; "{}", before + 2)?;
-    let line = line.replace(alloc, "@", number.as_str())?;
-    Ok(line.replace(alloc, "%", next.as_str())?)
+// Puts the line of a number, which is counted from 0 here.
+fn put_numbered(
+    alloc: Global,
+    text: &mut String,
+    line: &str,
+    before: u32,
+    is_first: bool,
+) -> Result<(), NoMemory> {
+    let line = numbered(alloc, line, u64::from(before))?;
+    put_line(text, line.as_str(), is_first)
+}
+
+fn numbered(alloc: Global, line: &str, before: u64) -> Result<String, NoMemory> {
+    let line = with_number(alloc, line, "@", before.wrapping_add(1))?;
+    with_number(alloc, line.as_str(), "%", before.wrapping_add(2))
+}
+
+// A text with a number in the place of a sign.
+fn with_number(alloc: Global, text: &str, sign: &str, number: u64) -> Result<String, NoMemory> {
+    let number = format!(in alloc; "{number}")?;
+    Ok(text.replace(alloc, sign, number.as_str())?)
 }
 
 fn put_more(text: &mut String, count: u32, more: &str) -> Result<(), NoMemory> {

@@ -6,7 +6,7 @@ use std::io;
 use std::str::Utf8Error;
 
 /// Why a file of cases is not run to its end.
-#[derive(Clone, Copy, Debug, PartialEq, Eq)]
+#[derive(Clone, Copy, Debug)]
 pub(crate) enum Fault {
     /// This line, counted from 1, is none that may stand there.
     Malformed {

@@ -6,20 +6,22 @@ use crate::keys::{Key, key_of};
 use job_runs::NoMemory;
 use std::alloc::Global;
 
-/// The blocks of a file of cases.
+/// Puts the blocks of a file of cases.
 ///
 /// # Errors
 ///
 /// The line that is malformed first, that there is no case, or out of memory.
-pub(crate) fn read_cases(alloc: Global, text: &str) -> Result<Vec<Block<'_>>, Fault> {
-    let mut blocks = Vec::new(alloc);
+pub(crate) fn read_cases<'a>(
+    alloc: Global,
+    blocks: &mut Vec<Block<'a>>,
+    text: &'a str,
+) -> Result<(), Fault> {
     for (index, line) in text.lines().enumerate() {
-        if !take_line(alloc, &mut blocks, index + 1, line)? {
+        if !take_line(alloc, blocks, index + 1, line)? {
             return Err(Fault::Malformed { line: index + 1 });
         }
     }
-    check_all_asked(&blocks)?;
-    Ok(blocks)
+    check_all_asked(blocks)
 }
 
 // Takes what a line says; `false` where it is malformed.

@@ -76,8 +76,18 @@ fn main(rt: HostRuntime) -> Result<(), Fault> {
 
 fn run_cases(rt: &impl Print, alloc: Global, bytes: &[u8]) -> Result<(), Fault> {
     let text = str::from_utf8(bytes)?;
-    let blocks = read_cases(alloc, text)?;
-    print_cases(rt, alloc, &blocks)
+    let mut blocks = Vec::new(alloc);
+    run_text(rt, alloc, &mut blocks, text)
+}
+
+fn run_text<'a>(
+    rt: &impl Print,
+    alloc: Global,
+    blocks: &mut Vec<Block<'a>>,
+    text: &'a str,
+) -> Result<(), Fault> {
+    read_cases(alloc, blocks, text)?;
+    print_cases(rt, alloc, blocks)
 }
 
 fn print_cases(rt: &impl Print, alloc: Global, blocks: &[Block<'_>]) -> Result<(), Fault> {

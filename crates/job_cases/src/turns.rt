@@ -3,7 +3,7 @@
 use job_runs::Failing;
 
 /// What varies from run to run of a case.
-#[derive(Clone, Copy, Debug, PartialEq, Eq)]
+#[derive(Clone, Copy)]
 enum Kind {
     Budget,
     Cut,
