@@ -4,6 +4,7 @@ ghost use Rattle.std.specs.Prelude.{◌≡◌, []};
 ghost use Rattle.std.specs.List.{All};
 ghost use Rattle.set_questions.specs.Kept.{kept_sets};
 
+use crate::checks::check;
 use crate::written_sets::{are_sets, mask_of, set_of, sets_of};
 use axiom_sets::AxiomSet;
 use justification_shrink::{Shrunk, shrink};
@@ -222,17 +223,11 @@ fn keeps_greatest(alloc: Global) -> Result<bool, NoMemory> {
 }
 
 fn test_calls(rt: &impl Abort, alloc: Global) -> Result<(), NoMemory> {
-    assert!(rt;
-        are_all_answered(alloc)?,
-        "with a budget and without, and what a set lacks"
-    );
-    assert!(rt;
-        are_put_in_order(alloc)?,
-        "in order, a part, and one that meets all"
-    );
-    assert!(rt; is_put(alloc)?, "one more");
-    assert!(rt; keeps_smallest(alloc)?, "the smallest");
-    assert!(rt; keeps_greatest(alloc)?, "the greatest");
+    check(rt, are_all_answered(alloc)?, "budgets, and a rest");
+    check(rt, are_put_in_order(alloc)?, "in order");
+    check(rt, is_put(alloc)?, "one more");
+    check(rt, keeps_smallest(alloc)?, "the smallest");
+    check(rt, keeps_greatest(alloc)?, "the greatest");
     Ok(())
 }
 

@@ -3,6 +3,7 @@
 ghost use Rattle.std.specs.Prelude.{◌≡◌, ◌++◌, []};
 ghost use Rattle.set_questions.specs.InOrder.{HaveOneLimit};
 
+use crate::checks::check;
 use crate::written_sets::{are_among, are_sets, sets_of};
 use axiom_sets::AxiomSet;
 use hitting_set_tree::{Found, enumerate};
@@ -16,6 +17,7 @@ use std::test::Fail;
 /// How many numbers there are, the sets that are told, the smallest of them, and the repairs.
 #[derive(Clone, Copy)]
 struct Family {
+    name: &'static str,
     count: u32,
     told: &'static [&'static str],
     smallest: &'static [&'static str],
@@ -24,30 +26,35 @@ struct Family {
 
 const FAMILIES: &[Family] = &[
     Family {
+        name: "two of three",
         count: 4,
         told: &["12", "23", "13"],
         smallest: &["12", "13", "23"],
         repairs: &["12", "13", "23"],
     },
     Family {
+        name: "one in all",
         count: 4,
         told: &["123", "2", "24"],
         smallest: &["2"],
         repairs: &["2"],
     },
     Family {
+        name: "the empty set",
         count: 4,
         told: &["-", "12"],
         smallest: &["-"],
         repairs: &[],
     },
     Family {
+        name: "no set",
         count: 4,
         told: &[],
         smallest: &[],
         repairs: &["-"],
     },
     Family {
+        name: "one number in common",
         count: 7,
         told: &["127", "347", "567"],
         smallest: &["127", "347", "567"],
@@ -113,15 +120,15 @@ fn is_found(alloc: Global, family: Family) -> Result<bool, NoMemory> {
     Ok(is_so)
 }
 
-fn test_families(rt: &impl Abort, alloc: Global) -> Result<(), NoMemory> {
-    for family in FAMILIES {
-        assert!(rt; is_found(alloc, *family)?, "{:?}", family.told);
+fn test_families(rt: &impl Abort, alloc: Global, families: &[Family]) -> Result<(), NoMemory> {
+    for family in families {
+        check(rt, is_found(alloc, *family)?, family.name);
     }
     Ok(())
 }
 
 #[test]
 fn smallest_sets_and_repairs(rt: HostRuntime) -> Result<(), Fail> {
-    test_families(&rt, rt.alloc())?;
+    test_families(&rt, rt.alloc(), FAMILIES)?;
     Ok(())
 }

@@ -4,6 +4,8 @@
 #[cfg(test)]
 mod call_tests;
 #[cfg(test)]
+mod checks;
+#[cfg(test)]
 mod family_tests;
 #[cfg(test)]
 mod module_tests;

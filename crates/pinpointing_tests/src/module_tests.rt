@@ -1,11 +1,12 @@
 // Modules that were worked out by hand, and workloads, which are read.
 ghost use Rattle.std.specs.Prelude.{◌≤◌, length};
 
+use crate::checks::check;
 use axiom_sets::AxiomSet;
 use module_extract::module;
 use ofn_reader::{Context, Refusal, read_ontology, read_query};
 use shq_terms::{Concept, NoMemory, Node, On, Ontology, Query};
-use std::alloc::Global;
+use std::alloc::{AllocError, Global};
 use std::process::Abort;
 use std::str;
 use std::test::Fail;
@@ -18,7 +19,9 @@ const CLASSES: &str = "SubClassOf(:A :B)";
 const ROLE: &str = "SubClassOf(:A ObjectSomeValuesFrom(:r :B))";
 
 /// Axioms, a query, and the numbers of the axioms in its module.
-const MODULES: &[(&str, &str, &[u32])] = &[
+type Case = (&'static str, &'static str, &'static [u32]);
+
+const MODULES: &[Case] = &[
     ("", CLASSES, &[]),
     ("SubClassOf(:A :B)SubClassOf(:A :B)", CLASSES, &[1, 2]),
     ("SubClassOf(:A :B)SubClassOf(:C :D)", CLASSES, &[1]),
@@ -113,7 +116,9 @@ const MODULES: &[(&str, &str, &[u32])] = &[
 /// A class expression and a query. Whether the axiom with the expression on the left joins, and the axiom with it on
 /// the right; the other side is a class of the query. Where it is void the first does not, and where it is whole the
 /// second does not.
-const SIDES: &[(&str, &str, bool, bool)] = &[
+type Side = (&'static str, &'static str, bool, bool);
+
+const SIDES: &[Side] = &[
     (":A", CLASSES, true, true),
     (":C", CLASSES, false, true),
     ("ObjectComplementOf(:C)", CLASSES, true, false),
@@ -268,14 +273,27 @@ fn is_so_in(
     Ok(has_module(alloc, ontology, context, query, wanted)? && are_right)
 }
 
+fn put_each(text: &mut String, pieces: &[&str]) -> Result<(), AllocError> {
+    for piece in pieces {
+        text.push_str(piece)?;
+    }
+    Ok(())
+}
+
+fn joined(alloc: Global, pieces: &[&str]) -> Result<String, AllocError> {
+    let mut text = String::new(alloc);
+    put_each(&mut text, pieces)?;
+    Ok(text)
+}
+
 fn gives(alloc: Global, axioms: &str, query: &str, wanted: &[u32]) -> Result<bool, Refusal> {
-    let text = format!(in alloc; "Prefix(:=<e:>)\nOntology(\n{axioms}\n)\n")?;
+    let text = joined(alloc, &["Prefix(:=<e:>)\nOntology(\n", axioms, "\n)\n"])?;
     is_so(alloc, text.as_bytes(), query, wanted, None)
 }
 
 /// Whether an inclusion joins, or does not.
 fn joins(alloc: Global, sub: &str, sup: &str, query: &str, wanted: bool) -> Result<bool, Refusal> {
-    let axiom = format!(in alloc; "SubClassOf({sub} {sup})")?;
+    let axiom = joined(alloc, &["SubClassOf(", sub, " ", sup, ")"])?;
     gives(alloc, &axiom, query, if wanted { &[1] } else { &[] })
 }
 
@@ -317,22 +335,25 @@ fn are_asserted(alloc: Global, text: &[u8]) -> Result<bool, Refusal> {
     have_assertions(alloc, &ontology)
 }
 
-fn test_modules(rt: &impl Abort, alloc: Global) -> Result<(), Refusal> {
-    for (axioms, query, wanted) in MODULES {
-        assert!(rt; gives(alloc, axioms, query, wanted)?, "{axioms}");
+fn test_cases(rt: &impl Abort, alloc: Global, cases: &[Case]) -> Result<(), Refusal> {
+    for (axioms, query, wanted) in cases {
+        check(rt, gives(alloc, axioms, query, wanted)?, axioms);
     }
-    for (class, query, left, right) in SIDES {
-        assert!(rt;
-            joins(alloc, class, ":B", query, *left)?,
-            "{class} on the left"
-        );
-        assert!(rt;
-            joins(alloc, ":A", class, query, *right)?,
-            "{class} on the right"
-        );
-    }
-    assert!(rt; are_asserted(alloc, ASSERTIONS)?, "assertions");
     Ok(())
+}
+
+fn test_sides(rt: &impl Abort, alloc: Global, sides: &[Side]) -> Result<(), Refusal> {
+    for (class, query, left, right) in sides {
+        check(rt, joins(alloc, class, ":B", query, *left)?, class);
+        check(rt, joins(alloc, ":A", class, query, *right)?, class);
+    }
+    Ok(())
+}
+
+fn test_modules(rt: &impl Abort, alloc: Global) -> Result<(), Refusal> {
+    check(rt, are_asserted(alloc, ASSERTIONS)?, "assertions");
+    test_sides(rt, alloc, SIDES)?;
+    test_cases(rt, alloc, MODULES)
 }
 
 /// The text of a workload. A count that is not allowed counts as out of memory.
@@ -372,11 +393,17 @@ fn is_read(alloc: Global, groups: u32, listed: u32) -> Result<bool, Refusal> {
     is_so(alloc, &text, QUERY, &[1, 2, 3, 4, 5, 6], counts)
 }
 
-fn test_workloads(rt: &impl Abort, alloc: Global) -> Result<(), Refusal> {
-    for (groups, listed) in GROUPS {
-        assert!(rt; is_read(alloc, *groups, *listed)?, "{groups} groups");
+fn are_read(alloc: Global, groups: &[(u32, u32)]) -> Result<bool, Refusal> {
+    let mut are_so = true;
+    for (count, listed) in groups {
+        are_so &= is_read(alloc, *count, *listed)?;
     }
-    assert!(rt; is_made(alloc)?, "the text of two groups");
+    Ok(are_so)
+}
+
+fn test_workloads(rt: &impl Abort, alloc: Global) -> Result<(), Refusal> {
+    check(rt, are_read(alloc, GROUPS)?, "groups");
+    check(rt, is_made(alloc)?, "the text of two groups");
     Ok(())
 }
 
