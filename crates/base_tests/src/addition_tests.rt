@@ -1,7 +1,8 @@
 // Axioms that are put into an ontology, one after another.
+use crate::checks::check;
 use crate::document_tests::{
     DIFFERENT, DISJOINT, HEAD, KINDS, ROLES, SAME, SAME_CLASSES, TAIL, document_of, first_axiom,
-    short_bytes,
+    put_number, short_bytes,
 };
 use ofn_reader::{Construct, Context, Refusal, Which, read_axiom, read_ontology, read_query};
 use ofn_tree::TextFault;
@@ -14,20 +15,25 @@ use std::test::Fail;
 /// and individuals.
 type Put = (Result<u32, Refusal>, [u32; 4]);
 
-fn put(alloc: Global, text: &str, ontology: &mut Ontology, context: &mut Context) -> Put {
-    let number = read_axiom(alloc, text, ontology, context);
-    let counts = [
+fn counts_of(ontology: &Ontology) -> [u32; 4] {
+    [
         ontology.axiom_count(),
         ontology.class_count(),
         ontology.role_count(),
         ontology.individual_count(),
-    ];
-    (number, counts)
+    ]
+}
+
+fn put(alloc: Global, text: &str, ontology: &mut Ontology, context: &mut Context) -> Put {
+    let number = read_axiom(alloc, text, ontology, context);
+    (number, counts_of(ontology))
 }
 
 /// An ontology of no axiom, two axioms with a cardinality, or with a transitive role; and what comes of texts one after
 /// another.
-const ADDED: &[(&str, &[(&str, Put)])] = &[
+type Added = (&'static str, &'static [(&'static str, Put)]);
+
+const ADDED: &[Added] = &[
     (
         "Prefix(:=<e:>)Ontology()",
         &[
@@ -213,7 +219,7 @@ fn put_each(
     context: &mut Context,
 ) {
     for (text, wanted) in texts {
-        assert!(rt; put(alloc, text, ontology, context) == *wanted, "{text}");
+        check(rt, put(alloc, text, ontology, context) == *wanted, text);
     }
 }
 
@@ -228,8 +234,8 @@ fn check_added(
     Ok(())
 }
 
-fn test_added(rt: &impl Abort, alloc: Global) -> Result<(), Refusal> {
-    for (document, texts) in ADDED {
+fn test_added(rt: &impl Abort, alloc: Global, added: &[Added]) -> Result<(), Refusal> {
+    for (document, texts) in added {
         check_added(rt, alloc, document, texts)?;
     }
     Ok(())
@@ -238,16 +244,29 @@ fn test_added(rt: &impl Abort, alloc: Global) -> Result<(), Refusal> {
 // Whether an axiom that is put into the document is the first one, of that kind.
 fn is_kind(alloc: Global, document: &str, kind: u32, axiom: &str) -> Result<bool, Refusal> {
     let (mut ontology, mut context, _) = read_ontology(alloc, short_bytes(document))?;
-    let number = read_axiom(alloc, axiom, &mut ontology, &mut context);
-    Ok(number == Ok(1) && first_axiom(&ontology) == Some((kind, 1)))
+    Ok(is_put_as(alloc, kind, axiom, &mut ontology, &mut context))
+}
+
+fn is_put_as(
+    alloc: Global,
+    kind: u32,
+    axiom: &str,
+    ontology: &mut Ontology,
+    context: &mut Context,
+) -> bool {
+    read_axiom(alloc, axiom, ontology, context) == Ok(1) && first_axiom(ontology) == Some((kind, 1))
+}
+
+fn test_each_kind(rt: &impl Abort, alloc: Global, document: &str) -> Result<(), Refusal> {
+    for (kind, axiom) in KINDS {
+        check(rt, is_kind(alloc, document, *kind, axiom)?, axiom);
+    }
+    Ok(())
 }
 
 fn test_kinds(rt: &impl Abort, alloc: Global) -> Result<(), Refusal> {
     let empty = document_of(alloc, HEAD, "\n", 1, TAIL)?;
-    for (kind, axiom) in KINDS {
-        assert!(rt; is_kind(alloc, &empty, *kind, axiom)?, "{axiom}");
-    }
-    Ok(())
+    test_each_kind(rt, alloc, &empty)
 }
 
 // Whether one text is put into the document, and the next is refused and nothing put.
@@ -259,12 +278,21 @@ fn is_last(
     wanted: Refusal,
 ) -> Result<bool, Refusal> {
     let (mut ontology, mut context, _) = read_ontology(alloc, short_bytes(document))?;
-    let count = ontology.axiom_count();
-    let number = read_axiom(alloc, last, &mut ontology, &mut context);
-    let refused = read_axiom(alloc, text, &mut ontology, &mut context);
-    let is_one_more = number.ok() == count.checked_add(1)
-        && number.ok() == Some(ontology.axiom_count());
-    Ok(is_one_more && refused == Err(wanted))
+    Ok(is_last_in(alloc, last, text, wanted, &mut ontology, &mut context))
+}
+
+fn is_last_in(
+    alloc: Global,
+    last: &str,
+    text: &str,
+    wanted: Refusal,
+    ontology: &mut Ontology,
+    context: &mut Context,
+) -> bool {
+    let [count, _, _, _] = counts_of(ontology);
+    let (number, _) = put(alloc, last, ontology, context);
+    let (refused, [held, _, _, _]) = put(alloc, text, ontology, context);
+    number == Ok(held) && count.checked_add(1) == Some(held) && refused == Err(wanted)
 }
 
 fn is_limit(alloc: Global, limit: &Limit) -> Result<bool, Refusal> {
@@ -273,9 +301,9 @@ fn is_limit(alloc: Global, limit: &Limit) -> Result<bool, Refusal> {
     is_last(alloc, &document, last, text, wanted)
 }
 
-fn test_limits(rt: &impl Abort, alloc: Global) -> Result<(), Refusal> {
-    for limit in LIMITS {
-        assert!(rt; is_limit(alloc, limit)?, "{}", limit.5);
+fn test_limits(rt: &impl Abort, alloc: Global, limits: &[Limit]) -> Result<(), Refusal> {
+    for limit in limits {
+        check(rt, is_limit(alloc, limit)?, limit.5);
     }
     Ok(())
 }
@@ -337,18 +365,18 @@ fn are_nodes_counted(alloc: Global) -> Result<bool, Refusal> {
     are_counted_in(alloc, &document)
 }
 
-fn push_role(alloc: Global, text: &mut String, number: u32) -> Result<(), AllocError> {
-    let declaration = format!(in alloc; "Declaration(ObjectProperty(<{number}>))")?;
-    text.push_str(&declaration)
+fn put_roles(alloc: Global, text: &mut String, count: u32) -> Result<(), AllocError> {
+    text.push_str("Ontology(")?;
+    for number in 0..count {
+        put_number(alloc, text, "Declaration(ObjectProperty(<", number, ">))")?;
+    }
+    text.push_str(")")
 }
 
 // Roles that are declared, and no axiom.
 fn with_roles(alloc: Global, count: u32) -> Result<String, AllocError> {
-    let mut text = String::from_str(alloc, "Ontology(")?;
-    for number in 0..count {
-        push_role(alloc, &mut text, number)?;
-    }
-    text.push_str(")")?;
+    let mut text = String::new(alloc);
+    put_roles(alloc, &mut text, count)?;
     Ok(text)
 }
 
@@ -373,7 +401,7 @@ fn long_text(alloc: Global) -> Result<String, AllocError> {
 
 fn refused_of(alloc: Global, document: &str, text: &str) -> Result<Option<Refusal>, Refusal> {
     let (mut ontology, mut context, _) = read_ontology(alloc, short_bytes(document))?;
-    Ok(read_axiom(alloc, text, &mut ontology, &mut context).err())
+    Ok(put(alloc, text, &mut ontology, &mut context).0.err())
 }
 
 fn is_too_long(alloc: Global, document: &str) -> Result<bool, Refusal> {
@@ -387,18 +415,32 @@ fn is_long_refused(alloc: Global) -> Result<bool, Refusal> {
     is_too_long(alloc, &roles)
 }
 
+// All axioms that are held are counted.
+fn test_counts(rt: &impl Abort, alloc: Global) -> Result<(), Refusal> {
+    check(rt, are_nodes_counted(alloc)?, "nodes");
+    check(rt, is_last_role(alloc)?, "roles");
+    check(rt, is_long_refused(alloc)?, "a long text");
+    Ok(())
+}
+
+fn test_additions(rt: &impl Abort, alloc: Global) -> Result<(), Refusal> {
+    test_kinds(rt, alloc)?;
+    test_added(rt, alloc, ADDED)
+}
+
+fn test_held(rt: &impl Abort, alloc: Global) -> Result<(), Refusal> {
+    test_counts(rt, alloc)?;
+    test_limits(rt, alloc, LIMITS)
+}
+
 #[test]
 fn reads_axioms_one_by_one(rt: HostRuntime) -> Result<(), Fail> {
-    test_added(&rt, rt.alloc())?;
-    test_kinds(&rt, rt.alloc())?;
+    test_additions(&rt, rt.alloc())?;
     Ok(())
 }
 
 #[test]
 fn counts_all_axioms_that_are_held(rt: HostRuntime) -> Result<(), Fail> {
-    test_limits(&rt, rt.alloc())?;
-    assert!(rt; are_nodes_counted(rt.alloc())?, "nodes");
-    assert!(rt; is_last_role(rt.alloc())?, "roles");
-    assert!(rt; is_long_refused(rt.alloc())?, "a long text");
+    test_held(&rt, rt.alloc())?;
     Ok(())
 }

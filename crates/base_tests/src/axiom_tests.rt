@@ -1,5 +1,6 @@
 // Sets of axioms that are compared with lists and with each other.
 
+use crate::checks::check;
 use axiom_sets::AxiomSet;
 use shq_terms::NoMemory;
 use std::alloc::Global;
@@ -122,20 +123,62 @@ fn is_last(last: &AxiomSet, copy: &AxiomSet, set: &AxiomSet) -> bool {
         && matches!(told(set, last), Some((false, false, _)))
 }
 
-fn are_compared(
+// Whether the whole set is put together again from a set and its rest.
+fn is_put_back(full: &AxiomSet, set: &AxiomSet) -> Result<bool, NoMemory> {
+    let mut rest = full.try_clone()?;
+    Ok(is_rest(&mut rest, full, set))
+}
+
+// Whether the greatest number is what a set lacks.
+fn lacks_last(
+    alloc: Global,
+    copy: &AxiomSet,
+    set: &AxiomSet,
+    limit: u32,
+) -> Result<bool, NoMemory> {
+    let last = set_of(alloc, limit, &[limit])?;
+    Ok(is_last(&last, copy, set))
+}
+
+// Whether a set with its greatest number and the same without it are parts of the whole set.
+fn are_in(full: &AxiomSet, copy: &AxiomSet, set: &AxiomSet) -> Result<bool, NoMemory> {
+    Ok(is_put_back(full, set)? && are_parts(full, copy, set))
+}
+
+fn are_in_full(
     alloc: Global,
     copy: &AxiomSet,
     set: &AxiomSet,
     limit: u32,
 ) -> Result<bool, NoMemory> {
     let full = AxiomSet::full(alloc, limit)?;
-    let mut rest = full.try_clone()?;
-    let is_put_back = is_rest(&mut rest, &full, set);
-    let last = set_of(alloc, limit, &[limit])?;
-    Ok(is_put_back && are_parts(&full, copy, set) && is_last(&last, copy, set))
+    are_in(&full, copy, set)
 }
 
-// Compares a set, and it without its greatest number, with each other, with the whole set and with the list.
+// Compares the two with each other, with the whole set and with the list.
+fn are_compared(
+    alloc: Global,
+    copy: &AxiomSet,
+    set: &AxiomSet,
+    list: &[u32],
+    limit: u32,
+) -> Result<bool, NoMemory> {
+    let is_less = has_exactly(set, &list[..list.len().saturating_sub(1)]);
+    Ok(are_in_full(alloc, copy, set, limit)? && lacks_last(alloc, copy, set, limit)? && is_less)
+}
+
+// Takes the greatest number out of a set, and compares it with what it was.
+fn is_less_so(
+    alloc: Global,
+    set: &mut AxiomSet,
+    list: &[u32],
+    limit: u32,
+) -> Result<bool, NoMemory> {
+    let copy = set.try_clone()?;
+    take_from(set, limit);
+    are_compared(alloc, &copy, set, list, limit)
+}
+
 fn is_set_so(
     alloc: Global,
     set: &mut AxiomSet,
@@ -143,16 +186,17 @@ fn is_set_so(
     limit: u32,
 ) -> Result<bool, NoMemory> {
     let is_whole = set.limit() == limit && has_exactly(set, list) && has_each(set);
-    let copy = set.try_clone()?;
-    take_from(set, limit);
-    let is_less = has_exactly(set, &list[..list.len().saturating_sub(1)]);
-    Ok(is_whole && is_less && are_compared(alloc, &copy, set, limit)?)
+    Ok(is_less_so(alloc, set, list, limit)? && is_whole)
+}
+
+fn is_list_so(alloc: Global, list: &[u32], limit: u32) -> Result<bool, NoMemory> {
+    let mut set = set_of(alloc, limit, list)?;
+    is_set_so(alloc, &mut set, list, limit)
 }
 
 fn is_limit_so(alloc: Global, limit: u32) -> Result<bool, NoMemory> {
     let list = listed(alloc, limit)?;
-    let mut set = set_of(alloc, limit, &list)?;
-    is_set_so(alloc, &mut set, &list, limit)
+    is_list_so(alloc, &list, limit)
 }
 
 /// Lists in their order.
@@ -177,22 +221,26 @@ const LISTS: &[&[u32]] = &[
 
 fn is_order(
     alloc: Global,
-    left: &[u32],
+    first: &AxiomSet,
     right: &[u32],
     wanted: Ordering,
 ) -> Result<bool, NoMemory> {
-    let first = set_of(alloc, 300, left)?;
     let second = set_of(alloc, 300, right)?;
-    Ok(matches!(told(&first, &second), Some((_, _, order)) if order == wanted))
+    Ok(matches!(told(first, &second), Some((_, _, order)) if order == wanted))
 }
 
-// Whether the list is behind those before it, and before those behind it.
-fn is_in_order(alloc: Global, place: usize, left: &[u32]) -> Result<bool, NoMemory> {
+// Whether the set of the list at a place is behind those before it, and before those behind it.
+fn is_at(alloc: Global, place: usize, first: &AxiomSet) -> Result<bool, NoMemory> {
     let mut is_so = true;
     for (other, right) in LISTS.iter().enumerate() {
-        is_so &= is_order(alloc, left, right, place.cmp(&other))?;
+        is_so &= is_order(alloc, first, right, place.cmp(&other))?;
     }
     Ok(is_so)
+}
+
+fn is_in_order(alloc: Global, place: usize, left: &[u32]) -> Result<bool, NoMemory> {
+    let first = set_of(alloc, 300, left)?;
+    is_at(alloc, place, &first)
 }
 
 /// Limits, numbers, and whether no equal set was put before.
@@ -214,34 +262,44 @@ fn is_kept(
     Ok(kept.insert(set)?)
 }
 
-fn test_keys(rt: &impl Abort, alloc: Global, kept: &mut HashSet<AxiomSet>) -> Result<(), NoMemory> {
+fn are_kept(alloc: Global, kept: &mut HashSet<AxiomSet>) -> Result<bool, NoMemory> {
+    let mut are_so = true;
     for (limit, numbers, is_new) in KEYS {
-        assert!(rt;
-            is_kept(alloc, kept, *limit, numbers)? == *is_new,
-            "{numbers:?}"
-        );
+        are_so &= is_kept(alloc, kept, *limit, numbers)? == *is_new;
     }
-    Ok(())
+    Ok(are_so)
 }
 
-fn test_new_keys(rt: &impl Abort, alloc: Global) -> Result<(), NoMemory> {
+fn are_keys(alloc: Global) -> Result<bool, NoMemory> {
     let mut kept = HashSet::new(alloc);
-    test_keys(rt, alloc, &mut kept)
+    are_kept(alloc, &mut kept)
 }
 
-fn test_lists(rt: &impl Abort, alloc: Global) -> Result<(), NoMemory> {
+fn are_limits_so(alloc: Global) -> Result<bool, NoMemory> {
+    let mut are_so = true;
     for limit in LIMITS {
-        assert!(rt; is_limit_so(alloc, *limit)?, "limit {limit}");
+        are_so &= is_limit_so(alloc, *limit)?;
     }
+    Ok(are_so)
+}
+
+fn are_in_order(alloc: Global) -> Result<bool, NoMemory> {
+    let mut are_so = true;
     for (place, left) in LISTS.iter().enumerate() {
-        assert!(rt; is_in_order(alloc, place, left)?, "{place}");
+        are_so &= is_in_order(alloc, place, left)?;
     }
+    Ok(are_so)
+}
+
+fn test_sets(rt: &impl Abort, alloc: Global) -> Result<(), NoMemory> {
+    check(rt, are_limits_so(alloc)?, "sets of each limit");
+    check(rt, are_in_order(alloc)?, "the order of lists");
+    check(rt, are_keys(alloc)?, "sets as keys");
     Ok(())
 }
 
 #[test]
 fn sets_of_axioms(rt: HostRuntime) -> Result<(), Fail> {
-    test_lists(&rt, rt.alloc())?;
-    test_new_keys(&rt, rt.alloc())?;
+    test_sets(&rt, rt.alloc())?;
     Ok(())
 }

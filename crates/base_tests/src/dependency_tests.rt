@@ -1,5 +1,6 @@
 // Sets of marks that are compared with lists.
 
+use crate::checks::check;
 use axiom_sets::Deps;
 use shq_terms::NoMemory;
 use std::alloc::Global;
@@ -72,23 +73,19 @@ fn has_exactly(set: &Deps, list: &[u32]) -> bool {
     same
 }
 
-fn go_through(
-    rt: &impl Abort,
-    alloc: Global,
-    set: &mut Deps,
-    round: &Round,
-) -> Result<(), NoMemory> {
+fn go_through(alloc: Global, set: &mut Deps, round: &Round) -> Result<bool, NoMemory> {
+    let mut is_so = true;
     for i in 0..13 {
         *set = changed(alloc, set, round, i)?;
-        assert!(rt; has_exactly(set, left(round, i)), "change {i}");
+        is_so &= has_exactly(set, left(round, i));
     }
-    Ok(())
+    Ok(is_so)
 }
 
 // Changes a copy.
-fn go_back(rt: &impl Abort, alloc: Global, set: &Deps, round: &Round) -> Result<(), NoMemory> {
+fn go_back(alloc: Global, set: &Deps, round: &Round) -> Result<bool, NoMemory> {
     let mut copy = set.try_clone()?;
-    go_through(rt, alloc, &mut copy, round)
+    go_through(alloc, &mut copy, round)
 }
 
 /// What fills a set, and what makes it empty again.
@@ -100,9 +97,9 @@ fn there_and_back(
     set: &mut Deps,
     (there, back): &(Round, Round),
 ) -> Result<(), NoMemory> {
-    go_through(rt, alloc, set, there)?;
-    go_back(rt, alloc, set, back)?;
-    assert!(rt; has_exactly(set, &MARKS), "a copy was changed");
+    check(rt, go_through(alloc, set, there)?, "there");
+    check(rt, go_back(alloc, set, back)?, "back");
+    check(rt, has_exactly(set, &MARKS), "a copy was changed");
     Ok(())
 }
 
@@ -116,12 +113,12 @@ fn test_rounds(rt: &impl Abort, alloc: Global, set: &mut Deps) -> Result<(), NoM
 
 fn test_sets(rt: &impl Abort, alloc: Global) -> Result<(), NoMemory> {
     let mut set = Deps::none();
+    check(rt, has_exactly(&set, &[]), "none");
     test_rounds(rt, alloc, &mut set)
 }
 
 #[test]
 fn dependencies_against_lists(rt: HostRuntime) -> Result<(), Fail> {
-    assert!(rt; has_exactly(&Deps::none(), &[]), "none");
     test_sets(&rt, rt.alloc())?;
     Ok(())
 }

@@ -1,6 +1,7 @@
 // Documents, queries and class expressions that were worked out by hand.
 ghost use Rattle.std.specs.Prelude.{◌≤◌, length};
 
+use crate::checks::check;
 use ofn_reader::{Construct, Context, Refusal, Which, read_class, read_ontology, read_query};
 use ofn_tree::TextFault;
 use ofn_writer::ontology_text;
@@ -64,12 +65,25 @@ fn counts_of(ontology: &Ontology) -> (u32, u32, u32) {
 // What is told of a document, of which the ontology is written again.
 fn rewrite(alloc: Global, text: &str, written: &mut Vec<u8>) -> Result<Told, Refusal> {
     let (ontology, _, end) = read_ontology(alloc, short_bytes(text))?;
-    ontology_text(written, &ontology)?;
-    Ok(Told {
-        counts: counts_of(&ontology),
+    write_again(&ontology, end, written)
+}
+
+fn write(ontology: &Ontology, written: &mut Vec<u8>) -> Result<(), Refusal> {
+    ontology_text(written, ontology)?;
+    Ok(())
+}
+
+fn told_of(ontology: &Ontology, end: usize) -> Told {
+    Told {
+        counts: counts_of(ontology),
         end,
-        first: first_axiom(&ontology),
-    })
+        first: first_axiom(ontology),
+    }
+}
+
+fn write_again(ontology: &Ontology, end: usize, written: &mut Vec<u8>) -> Result<Told, Refusal> {
+    write(ontology, written)?;
+    Ok(told_of(ontology, end))
 }
 
 fn read_so(alloc: Global, text: &str) -> Result<Told, Refusal> {
@@ -233,7 +247,15 @@ const SAME_ROLES: &str = "Ontology(\nEquivalentObjectProperties(";
 
 /// The start of a document, a piece that stands so often, or where it is empty so many new names, the end, and why
 /// the document is refused, if it is.
-const REFUSALS: &[(&str, &str, u32, &str, Option<Refusal>)] = &[
+type Refused = (
+    &'static str,
+    &'static str,
+    u32,
+    &'static str,
+    Option<Refusal>,
+);
+
+const REFUSALS: &[Refused] = &[
     ("", "", 1, "", Some(Refusal::BadShape(1))),
     ("", "\nOntology", 1, "", Some(Refusal::BadShape(2))),
     ("", "Prefix(:=<x>)\n", 1, "", Some(Refusal::BadShape(2))),
@@ -579,12 +601,40 @@ const REFUSALS: &[(&str, &str, u32, &str, Option<Refusal>)] = &[
     ),
 ];
 
-fn put_piece(alloc: Global, text: &mut String, piece: &str, number: u32) -> Result<(), AllocError> {
-    if !piece.is_empty() {
-        return text.push_str(piece);
+// Puts a number in decimal.
+pub(crate) fn put_digits(alloc: Global, text: &mut String, number: u32) -> Result<(), AllocError> {
+    let digits = format!(in alloc; "{number}")?;
+    text.push_str(&digits)
+}
+
+// Puts a number between two texts.
+pub(crate) fn put_number(
+    alloc: Global,
+    text: &mut String,
+    front: &str,
+    number: u32,
+    back: &str,
+) -> Result<(), AllocError> {
+    text.push_str(front)?;
+    put_digits(alloc, text, number)?;
+    text.push_str(back)
+}
+
+fn put_pieces(
+    alloc: Global,
+    text: &mut String,
+    piece: &str,
+    count: u32,
+    tail: &str,
+) -> Result<(), AllocError> {
+    for number in 0..count {
+        if piece.is_empty() {
+            put_number(alloc, text, "<", number, "> ")?;
+        } else {
+            text.push_str(piece)?;
+        }
     }
-    let name = format!(in alloc; "<{number}> ")?;
-    text.push_str(&name)
+    text.push_str(tail)
 }
 
 pub(crate) fn document_of(
@@ -595,46 +645,66 @@ pub(crate) fn document_of(
     tail: &str,
 ) -> Result<String, AllocError> {
     let mut text = String::from_str(alloc, head)?;
-    for number in 0..count {
-        put_piece(alloc, &mut text, piece, number)?;
-    }
-    text.push_str(tail)?;
+    put_pieces(alloc, &mut text, piece, count, tail)?;
     Ok(text)
+}
+
+fn told_of_axiom(alloc: Global, axiom: &str) -> Result<Told, Refusal> {
+    let text = document_of(alloc, HEAD, axiom, 1, TAIL)?;
+    read_so(alloc, &text)
 }
 
 fn test_kinds(rt: &impl Abort, alloc: Global) -> Result<(), Refusal> {
     for (kind, axiom) in KINDS {
-        let text = document_of(alloc, HEAD, axiom, 1, TAIL)?;
-        let told = read_so(alloc, &text)?;
-        assert!(rt; told.first == Some((*kind, 3)), "{axiom}");
+        let told = told_of_axiom(alloc, axiom)?;
+        check(rt, told.first == Some((*kind, 3)), axiom);
     }
     Ok(())
 }
 
-fn test_refusals(rt: &impl Abort, alloc: Global) -> Result<(), Refusal> {
-    for (head, piece, count, tail, wanted) in REFUSALS {
-        let text = document_of(alloc, head, piece, *count, tail)?;
-        assert!(rt; read_so(alloc, &text).err() == *wanted, "{count} {piece}");
+fn refusal_of(
+    alloc: Global,
+    head: &str,
+    piece: &str,
+    count: u32,
+    tail: &str,
+) -> Result<Option<Refusal>, AllocError> {
+    let text = document_of(alloc, head, piece, count, tail)?;
+    Ok(read_so(alloc, &text).err())
+}
+
+fn test_refusals(rt: &impl Abort, alloc: Global, refusals: &[Refused]) -> Result<(), AllocError> {
+    for (head, piece, count, tail, wanted) in refusals {
+        let refusal = refusal_of(alloc, head, piece, *count, tail)?;
+        check(rt, refusal == *wanted, piece);
+    }
+    Ok(())
+}
+
+fn test_told(rt: &impl Abort, alloc: Global, documents: &[(&str, Told)]) {
+    for (text, wanted) in documents {
+        check(rt, read_so(alloc, text) == Ok(*wanted), text);
+    }
+}
+
+fn test_written(rt: &impl Abort, alloc: Global, written: &[(&str, &str)]) -> Result<(), Refusal> {
+    for (text, wanted) in written {
+        check(rt, is_rewritten_so(alloc, text, wanted)?, text);
+        check(rt, is_rewritten_so(alloc, wanted, wanted)?, wanted);
     }
     Ok(())
 }
 
 fn test_documents(rt: &impl Abort, alloc: Global) -> Result<(), Refusal> {
-    for (text, wanted) in DOCUMENTS {
-        assert!(rt; read_so(alloc, text) == Ok(*wanted), "{text}");
-    }
-    for (text, wanted) in WRITTEN {
-        assert!(rt; is_rewritten_so(alloc, text, wanted)?, "{text}");
-        assert!(rt; is_rewritten_so(alloc, wanted, wanted)?, "{wanted}");
-    }
-    Ok(())
+    test_told(rt, alloc, DOCUMENTS);
+    test_written(rt, alloc, WRITTEN)
 }
 
 #[test]
 fn reads_and_refuses_documents(rt: HostRuntime) -> Result<(), Fail> {
-    test_documents(&rt, rt.alloc())?;
     test_kinds(&rt, rt.alloc())?;
-    test_refusals(&rt, rt.alloc())?;
+    test_documents(&rt, rt.alloc())?;
+    test_refusals(&rt, rt.alloc(), REFUSALS)?;
     Ok(())
 }
 
@@ -762,6 +832,28 @@ const ASKED: &[(Ask, &str, Option<Refusal>, u32)] = &[
     ),
 ];
 
+fn refusal_of_asked(
+    alloc: Global,
+    ask: Ask,
+    text: &str,
+    ontology: &mut Ontology,
+    context: &Context,
+) -> Option<Refusal> {
+    match ask {
+        Ask::Query | Ask::Member => read_query(alloc, text, ontology, context).err(),
+        Ask::Class => read_class(alloc, text, ontology, context).err(),
+    }
+}
+
+// How many names there are of the kind that is counted.
+fn count_of(ask: Ask, ontology: &Ontology) -> u32 {
+    match ask {
+        Ask::Query => ontology.class_count(),
+        Ask::Member => ontology.individual_count(),
+        Ask::Class => ontology.role_count(),
+    }
+}
+
 fn ask_of(
     alloc: Global,
     ask: Ask,
@@ -769,20 +861,8 @@ fn ask_of(
     ontology: &mut Ontology,
     context: &Context,
 ) -> (Option<Refusal>, u32) {
-    match ask {
-        Ask::Query => {
-            let refused = read_query(alloc, text, ontology, context).err();
-            (refused, ontology.class_count())
-        }
-        Ask::Member => {
-            let refused = read_query(alloc, text, ontology, context).err();
-            (refused, ontology.individual_count())
-        }
-        Ask::Class => {
-            let refused = read_class(alloc, text, ontology, context).err();
-            (refused, ontology.role_count())
-        }
-    }
+    let refused = refusal_of_asked(alloc, ask, text, ontology, context);
+    (refused, count_of(ask, ontology))
 }
 
 fn answer_of(
@@ -802,17 +882,19 @@ fn answer_of(
 
 fn test_asked(rt: &impl Abort, alloc: Global, roles: &str) -> Result<(), Refusal> {
     for (asked, text, wanted, count) in ASKED {
-        assert!(rt;
-            answer_of(alloc, *asked, roles, text)? == (*wanted, *count),
-            "{text}"
-        );
+        let answer = answer_of(alloc, *asked, roles, text)?;
+        check(rt, answer == (*wanted, *count), text);
     }
     Ok(())
 }
 
+fn test_queries(rt: &impl Abort, alloc: Global) -> Result<(), Refusal> {
+    let roles = document_of(alloc, ROLES, "\n", 1, TAIL)?;
+    test_asked(rt, alloc, &roles)
+}
+
 #[test]
 fn reads_queries(rt: HostRuntime) -> Result<(), Fail> {
-    let roles = document_of(rt.alloc(), ROLES, "\n", 1, TAIL)?;
-    test_asked(&rt, rt.alloc(), &roles)?;
+    test_queries(&rt, rt.alloc())?;
     Ok(())
 }

@@ -1,5 +1,6 @@
 // Class expressions and queries that are compared with each other.
 
+use crate::checks::check;
 use shq_terms::{Concept, ConceptList, NoMemory, Node, On, Query};
 use std::alloc::Global;
 use std::test::Fail;
@@ -73,14 +74,12 @@ fn put_cardinalities(alloc: Global, concepts: &mut ConceptList) -> Result<(), No
     Ok(())
 }
 
-// Expressions of each kind, of which no two are the same.
-fn expressions(alloc: Global) -> Result<ConceptList, NoMemory> {
-    let mut concepts = ConceptList::new(alloc);
-    put_plain(alloc, &mut concepts)?;
-    put_combined(alloc, &mut concepts)?;
-    put_restrictions(alloc, &mut concepts)?;
-    put_cardinalities(alloc, &mut concepts)?;
-    Ok(concepts)
+// Puts expressions of each kind, of which no two are the same.
+fn put_all(alloc: Global, concepts: &mut ConceptList) -> Result<(), NoMemory> {
+    put_plain(alloc, concepts)?;
+    put_combined(alloc, concepts)?;
+    put_restrictions(alloc, concepts)?;
+    put_cardinalities(alloc, concepts)
 }
 
 // Whether an expression is that of the others which stands at its place, and no other one.
@@ -102,10 +101,20 @@ fn are_apart(concepts: &[Concept], others: &[Concept]) -> bool {
     true
 }
 
-fn expressions_are_apart(alloc: Global) -> Result<bool, NoMemory> {
-    let concepts = expressions(alloc)?;
-    let others = expressions(alloc)?;
+fn are_put_apart(
+    alloc: Global,
+    concepts: &mut ConceptList,
+    others: &mut ConceptList,
+) -> Result<bool, NoMemory> {
+    put_all(alloc, concepts)?;
+    put_all(alloc, others)?;
     Ok(are_apart(concepts.items(), others.items()))
+}
+
+fn expressions_are_apart(alloc: Global) -> Result<bool, NoMemory> {
+    let mut concepts = ConceptList::new(alloc);
+    let mut others = ConceptList::new(alloc);
+    are_put_apart(alloc, &mut concepts, &mut others)
 }
 
 fn query(sub: u32, sup: u32, on: On) -> Query {
@@ -116,13 +125,21 @@ fn query(sub: u32, sup: u32, on: On) -> Query {
     }
 }
 
+fn is_asked(asked: &Query, sub: u32, sup: u32, on: On) -> bool {
+    let other = query(sub, sup, on);
+    asked.is_same(&other)
+}
+
+fn are_alike(asked: &Query, on: On, is_equal: bool) -> bool {
+    is_asked(asked, 0, 1, on) == is_equal
+        && !is_asked(asked, 1, 1, on)
+        && !is_asked(asked, 0, 0, on)
+}
+
 // Whether queries of these elements are the same just where the elements are, and differ in each class.
 fn are_asked_alike(on: On, other: On, is_equal: bool) -> bool {
     let asked = query(0, 1, on);
-    on.is_same(other) == is_equal
-        && asked.is_same(&query(0, 1, other)) == is_equal
-        && !asked.is_same(&query(1, 1, other))
-        && !asked.is_same(&query(0, 0, other))
+    are_alike(&asked, other, is_equal) & (on.is_same(other) == is_equal)
 }
 
 fn queries_are_apart() -> bool {
@@ -138,7 +155,7 @@ fn queries_are_apart() -> bool {
 
 #[test]
 fn expressions_and_queries(rt: HostRuntime) -> Result<(), Fail> {
-    assert!(rt; expressions_are_apart(rt.alloc())?, "expressions");
-    assert!(rt; queries_are_apart(), "queries");
+    check(&rt, expressions_are_apart(rt.alloc())?, "expressions");
+    check(&rt, queries_are_apart(), "queries");
     Ok(())
 }

@@ -1,5 +1,6 @@
 // The kernels over words, and tables of prints, for lists of each length up to 70.
 
+use crate::checks::check;
 use lane_sieve::{Lanes, candidates, meets_words, subset_words, union_words};
 use shq_terms::NoMemory;
 use std::alloc::Global;
@@ -62,10 +63,14 @@ fn agree(most: &mut [u64], one: &mut [u64]) -> bool {
     is_so
 }
 
+fn agree_with(alloc: Global, most: &mut [u64], len: usize) -> Result<bool, NoMemory> {
+    let mut one = vec![in alloc; 0; len]?;
+    Ok(agree(most, &mut one))
+}
+
 fn are_words(alloc: Global, len: usize) -> Result<bool, NoMemory> {
     let mut most = vec![in alloc; u64::MAX; len]?;
-    let mut one = vec![in alloc; 0; len]?;
-    Ok(agree(&mut most, &mut one))
+    agree_with(alloc, &mut most, len)
 }
 
 // A print with the bits 3 and 200 where the two places are equal, and else one with one of the two.
@@ -117,8 +122,12 @@ const BOTH: [u64; 4] = [8, 0, 0, 256];
 
 fn is_table(alloc: Global, len: u32, place: u32, out: &mut [u32]) -> Result<bool, NoMemory> {
     let table = table_with(alloc, len, place)?;
-    let is_one = finds(&table, BOTH, out, place, 1);
-    Ok(is_one && table.len() == len && finds(&table, [0; 4], out, 0, len))
+    Ok(finds_both(&table, len, place, out))
+}
+
+// The place alone by the two bits, and all places by none.
+fn finds_both(table: &Lanes, len: u32, place: u32, out: &mut [u32]) -> bool {
+    finds(table, BOTH, out, place, 1) && table.len() == len && finds(table, [0; 4], out, 0, len)
 }
 
 fn is_list(found: &[u32], wanted: &[u32]) -> bool {
@@ -143,24 +152,39 @@ fn are_changed(alloc: Global) -> Result<bool, NoMemory> {
     Ok(changes(&mut table, &mut [77; 5]))
 }
 
-fn test_tables(rt: &impl Abort, alloc: Global, len: u32, out: &mut [u32]) -> Result<(), NoMemory> {
+fn are_tables(alloc: Global, len: u32, out: &mut [u32]) -> Result<bool, NoMemory> {
+    let mut are_so = true;
     for place in 0..len {
-        assert!(rt; is_table(alloc, len, place, out)?, "{place} of {len}");
+        are_so &= is_table(alloc, len, place, out)?;
     }
-    Ok(())
+    Ok(are_so)
 }
 
-fn test_lengths(rt: &impl Abort, alloc: Global, out: &mut [u32]) -> Result<(), NoMemory> {
+fn are_all_tables(alloc: Global, out: &mut [u32]) -> Result<bool, NoMemory> {
+    let mut are_so = true;
     for len in 0..71 {
-        assert!(rt; are_words(alloc, len as usize)?, "words of {len}");
-        test_tables(rt, alloc, len, out)?;
+        are_so &= are_tables(alloc, len, out)?;
     }
+    Ok(are_so)
+}
+
+fn are_all_words(alloc: Global) -> Result<bool, NoMemory> {
+    let mut are_so = true;
+    for len in 0..71 {
+        are_so &= are_words(alloc, len)?;
+    }
+    Ok(are_so)
+}
+
+fn test_lengths(rt: &impl Abort, alloc: Global) -> Result<(), NoMemory> {
+    check(rt, are_all_words(alloc)?, "words");
+    check(rt, are_all_tables(alloc, &mut [77; 71])?, "tables");
+    check(rt, are_changed(alloc)?, "changes");
     Ok(())
 }
 
 #[test]
 fn words_and_tables_of_each_length(rt: HostRuntime) -> Result<(), Fail> {
-    test_lengths(&rt, rt.alloc(), &mut [77; 71])?;
-    assert!(rt; are_changed(rt.alloc())?);
+    test_lengths(&rt, rt.alloc())?;
     Ok(())
 }

@@ -7,6 +7,8 @@ mod addition_tests;
 #[cfg(test)]
 mod axiom_tests;
 #[cfg(test)]
+mod checks;
+#[cfg(test)]
 mod dependency_tests;
 #[cfg(test)]
 mod document_tests;

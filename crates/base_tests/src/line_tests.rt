@@ -1,10 +1,12 @@
 // Lines, words and numbers as they are written in certificates.
 
+use crate::checks::check;
 use certificate_lines::{
     LineFault, clamped_line, first_unblank, iri, is_blank, lines, number, words,
 };
 use shq_terms::NoMemory;
 use std::alloc::{AllocError, Global};
+use std::process::Abort;
 use std::test::Fail;
 
 const NUMBERS: &[(&[u8], Option<u32>)] = &[
@@ -122,17 +124,25 @@ fn are_blank() -> bool {
     are_same
 }
 
+fn test_faults(rt: &impl Abort, alloc: Global) -> Result<(), AllocError> {
+    for (fault, text) in FAULTS {
+        check(rt, is_told_so(alloc, *fault, text)?, text);
+    }
+    Ok(())
+}
+
+fn test_lines(rt: &impl Abort, alloc: Global) -> Result<(), NoMemory> {
+    check(rt, are_lines(alloc)?, "lines");
+    check(rt, are_words(alloc)?, "words");
+    check(rt, are_numbers(), "numbers");
+    check(rt, are_iris(), "names");
+    check(rt, are_blank(), "blank lines");
+    Ok(())
+}
+
 #[test]
 fn cuts_lines_and_reads_words(rt: HostRuntime) -> Result<(), Fail> {
-    assert!(rt;
-        are_lines(rt.alloc())? && are_words(rt.alloc())?,
-        "lines and words"
-    );
-    assert!(rt; are_numbers(), "numbers");
-    assert!(rt; are_iris(), "names");
-    assert!(rt; are_blank(), "blank lines");
-    for (fault, text) in FAULTS {
-        assert!(rt; is_told_so(rt.alloc(), *fault, text)?, "{text}");
-    }
+    test_lines(&rt, rt.alloc())?;
+    test_faults(&rt, rt.alloc())?;
     Ok(())
 }

@@ -1,9 +1,11 @@
 // Small models, worked out by hand.
+ghost use Rattle.std.specs.Prelude.{◌≡◌, []};
 
+use crate::checks::check;
 use crate::small_ontologies::{add_individuals, add_names};
 use certificate_lines::lines;
 use finite_model::{Interp, ModelFault, NoMemory, read_text};
-use shq_terms::{Axiom, Concept, Node, NumberList, On, Ontology, Query};
+use shq_terms::{AddFault, Axiom, Concept, Node, NumberList, On, Ontology, Query};
 use std::alloc::Global;
 use std::process::Abort;
 use std::test::Fail;
@@ -63,7 +65,11 @@ fn one_successor(alloc: Global) -> Result<Concept, NoMemory> {
 // Whether a complete model of that size meets the axiom.
 fn is_met(alloc: Global, size: u32, axiom: &Axiom) -> Result<bool, NoMemory> {
     let mut model = Interp::new(alloc, size.max(1));
-    complete(&mut model, size)?;
+    is_met_by(&mut model, size, axiom)
+}
+
+fn is_met_by(model: &mut Interp, size: u32, axiom: &Axiom) -> Result<bool, NoMemory> {
+    complete(model, size)?;
     Ok(model.meets(axiom))
 }
 
@@ -233,30 +239,44 @@ fn counter_of_first(model: &Interp) -> Option<u32> {
     model.refutes(&query)
 }
 
+// Whether class 0 is in class 1.
+fn meets_inclusion(model: &Interp) -> bool {
+    model.meets(&Axiom::SubClassOf(name(0), name(1)))
+}
+
 // Of one element in class 0 alone, that class 0 is in class 1 is not so, and that individual 0 is in class 0 is.
+fn breaks_inclusion(model: &mut Interp) -> Result<bool, NoMemory> {
+    put(model, 0, 0)?;
+    Ok(is_member(model, 0) && !meets_inclusion(model) && counter_of_first(model) == Some(0))
+}
+
 fn breaks_inclusion_alone(alloc: Global) -> Result<bool, NoMemory> {
     let mut model = Interp::new(alloc, 1);
-    put(&mut model, 0, 0)?;
-    let inclusion = Axiom::SubClassOf(name(0), name(1));
-    Ok(is_member(&model, 0) && !model.meets(&inclusion) && counter_of_first(&model) == Some(0))
+    breaks_inclusion(&mut model)
+}
+
+fn are_named_in(alloc: Global, model: &mut Interp) -> Result<bool, NoMemory> {
+    put_named(model)?;
+    Ok(are_compared(alloc, model)? && are_asserted(model) && are_asked(model))
 }
 
 fn are_named(alloc: Global) -> Result<bool, NoMemory> {
     let mut model = Interp::new(alloc, 3);
-    put_named(&mut model)?;
-    Ok(are_compared(alloc, &model)? && are_asserted(&model) && are_asked(&model))
+    are_named_in(alloc, &mut model)
+}
+
+fn test_judgements(rt: &impl Abort, alloc: Global) -> Result<(), NoMemory> {
+    check(rt, are_successors(alloc)?, "two successors");
+    check(rt, are_ends(alloc)?, "one successor");
+    check(rt, are_counter_elements(alloc)?, "counter-elements");
+    check(rt, are_named(alloc)?, "individuals");
+    check(rt, breaks_inclusion_alone(alloc)?, "an inclusion");
+    Ok(())
 }
 
 #[test]
 fn judges_axioms_and_queries(rt: HostRuntime) -> Result<(), Fail> {
-    assert!(rt; are_successors(rt.alloc())?, "two successors");
-    assert!(rt; are_ends(rt.alloc())?, "one successor");
-    assert!(rt; are_counter_elements(rt.alloc())?, "counter-elements");
-    assert!(rt; are_named(rt.alloc())?, "individuals");
-    assert!(rt;
-        breaks_inclusion_alone(rt.alloc())?,
-        "an assertion beside an inclusion"
-    );
+    test_judgements(&rt, rt.alloc())?;
     Ok(())
 }
 
@@ -280,10 +300,14 @@ fn are_members(model: &Interp) -> bool {
     are_so
 }
 
+fn reads_lines(alloc: Global, ontology: &Ontology, lines: &[&[u8]]) -> Result<bool, ModelFault> {
+    let model = read_text(alloc, lines, ontology)?;
+    Ok(are_members(&model))
+}
+
 fn reads_model(alloc: Global, ontology: &Ontology) -> Result<bool, ModelFault> {
     let lines = lines(alloc, MODEL)?;
-    let model = read_text(alloc, &lines, ontology)?;
-    Ok(are_members(&model))
+    reads_lines(alloc, ontology, &lines)
 }
 
 /// Texts, and the first malformed line of each.
@@ -325,6 +349,17 @@ fn is_malformed(
 // Writes a model of two members and two pairs, and of two individuals, one of which is put.
 fn write_model(alloc: Global, text: &mut Vec<u8>, ontology: &Ontology) -> Result<(), NoMemory> {
     let mut model = Interp::new(alloc, 11);
+    write_of(alloc, text, ontology, &mut model)
+}
+
+fn write_of(
+    alloc: Global,
+    text: &mut Vec<u8>,
+    ontology: &Ontology,
+    model: &mut Interp,
+) -> Result<(), NoMemory>
+    requires { model.old ≡ record { size = 11; members = []; links = []; individuals = [] } }
+{
     model.put_class(1, 10)?;
     model.put_class(1, 2)?;
     model.put_pair(0, 10, 2)?;
@@ -339,22 +374,49 @@ fn write_model(alloc: Global, text: &mut Vec<u8>, ontology: &Ontology) -> Result
     Ok(())
 }
 
+fn is_model(text: &[u8]) -> bool {
+    let wanted: &[u8] =
+        b"#model 11\nclass <B> 2 10\nrole <R> 2,10 10,2\nindividual <a> 0\nindividual <b> 10\nend\n";
+    text == wanted
+}
+
 fn writes_model(alloc: Global, ontology: &Ontology) -> Result<bool, NoMemory> {
     let mut text = Vec::from_slice(alloc, b"#")?;
     write_model(alloc, &mut text, ontology)?;
-    let wanted: &[u8] =
-        b"#model 11\nclass <B> 2 10\nrole <R> 2,10 10,2\nindividual <a> 0\nindividual <b> 10\nend\n";
-    Ok(text.as_slice() == wanted)
+    Ok(is_model(&text))
+}
+
+fn add_all(ontology: &mut Ontology) -> Result<(), AddFault> {
+    add_names(ontology, &["A", "B"])?;
+    add_individuals(ontology, &["a", "b"])
+}
+
+fn are_malformed(
+    alloc: Global,
+    ontology: &Ontology,
+    texts: &[(&[u8], u32)],
+) -> Result<bool, NoMemory> {
+    let mut are_so = true;
+    for (text, line) in texts {
+        are_so &= is_malformed(alloc, ontology, text, *line)?;
+    }
+    Ok(are_so)
+}
+
+fn test_texts(rt: &impl Abort, alloc: Global, ontology: &Ontology) -> Result<(), ModelFault> {
+    check(rt, reads_model(alloc, ontology)?, "a model");
+    check(rt, writes_model(alloc, ontology)?, "text of a model");
+    check(
+        rt,
+        are_malformed(alloc, ontology, TEXTS)?,
+        "malformed texts",
+    );
+    Ok(())
 }
 
 fn test_on(rt: &impl Abort, alloc: Global, ontology: &mut Ontology) -> Result<(), Fail> {
-    add_names(ontology, &["A", "B"])?;
-    add_individuals(ontology, &["a", "b"])?;
-    assert!(rt; reads_model(alloc, ontology)?, "a model");
-    for (text, line) in TEXTS {
-        assert!(rt; is_malformed(alloc, ontology, text, *line)?, "{text:?}");
-    }
-    assert!(rt; writes_model(alloc, ontology)?, "text of a model");
+    add_all(ontology)?;
+    test_texts(rt, alloc, ontology)?;
     Ok(())
 }
 

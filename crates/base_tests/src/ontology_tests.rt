@@ -1,10 +1,12 @@
 // Names and axioms of small ontologies.
 ghost use Rattle.std.specs.Prelude.{◌≡◌, ◌<◌, ◌≤◌, [], length};
 
+use crate::checks::check;
+use crate::document_tests::put_digits;
 use shq_terms::{
     AddFault, Axiom, Concept, ConceptList, MAX_ROLES, NoMemory, Node, NumberList, Ontology,
 };
-use std::alloc::Global;
+use std::alloc::{AllocError, Global};
 use std::process::Abort;
 use std::test::Fail;
 
@@ -50,10 +52,20 @@ fn is_individual_as(ontology: &mut Ontology, iri: &str, number: u32) -> Result<b
     Ok(given == number && ontology.individual_number(iri) == Some(number))
 }
 
+fn is_role_as(ontology: &mut Ontology, iri: &str, number: u32) -> Result<bool, AddFault> {
+    let given = ontology.add_role(iri)?;
+    Ok(given == number && ontology.role_number(iri) == Some(number))
+}
+
+fn role_iri(alloc: Global, number: u32) -> Result<String, AllocError> {
+    let mut iri = String::from_str(alloc, "r")?;
+    put_digits(alloc, &mut iri, number)?;
+    Ok(iri)
+}
+
 fn is_role(alloc: Global, ontology: &mut Ontology, number: u32) -> Result<bool, AddFault> {
-    let iri = format!(in alloc; "r{number}")?;
-    let given = ontology.add_role(&iri)?;
-    Ok(given == number && ontology.role_number(&iri) == Some(number))
+    let iri = role_iri(alloc, number)?;
+    is_role_as(ontology, &iri, number)
 }
 
 fn add_axiom(ontology: &mut Ontology, line: u32) -> Result<u32, AddFault> {
@@ -151,11 +163,15 @@ fn add_assertion(ontology: &mut Ontology, individual: u32) -> Result<u32, AddFau
 }
 
 // One individual, and an assertion about it.
+fn is_asserted_in(ontology: &mut Ontology) -> Result<bool, AddFault> {
+    let individual = ontology.add_individual("a")?;
+    let number = add_assertion(ontology, individual)?;
+    Ok(number == 1 && is_about(ontology, number, individual))
+}
+
 fn is_asserted(alloc: Global) -> Result<bool, AddFault> {
     let mut ontology = Ontology::new(alloc);
-    let individual = ontology.add_individual("a")?;
-    let number = add_assertion(&mut ontology, individual)?;
-    Ok(number == 1 && is_about(&ontology, number, individual))
+    is_asserted_in(&mut ontology)
 }
 
 fn is_about(ontology: &Ontology, number: u32, individual: u32) -> bool {
@@ -174,21 +190,23 @@ fn is_cut(alloc: Global) -> Result<bool, AddFault> {
 }
 
 fn test_on(rt: &impl Abort, alloc: Global, ontology: &mut Ontology) -> Result<(), AddFault> {
-    assert!(rt;
-        are_added(alloc, ontology)?,
-        "names and axioms that are added"
-    );
-    assert!(rt;
-        are_counts(ontology) && are_found(ontology) && are_individuals(ontology),
-        "names and axioms"
-    );
-    assert!(rt; is_full(ontology), "one role more");
+    check(rt, are_added(alloc, ontology)?, "what is added");
+    check(rt, are_counts(ontology), "counts");
+    check(rt, are_found(ontology), "names and lines");
+    check(rt, are_individuals(ontology), "individuals");
+    check(rt, is_full(ontology), "one role more");
     Ok(())
 }
 
 fn test_ontology(rt: &impl Abort, alloc: Global) -> Result<(), AddFault> {
     let mut ontology = Ontology::new(alloc);
     test_on(rt, alloc, &mut ontology)
+}
+
+fn test_single(rt: &impl Abort, alloc: Global) -> Result<(), AddFault> {
+    check(rt, is_cut(alloc)?, "names that are cut off");
+    check(rt, is_asserted(alloc)?, "an assertion");
+    Ok(())
 }
 
 fn exactly_two(alloc: Global) -> Result<Concept, NoMemory> {
@@ -241,12 +259,16 @@ fn are_listed(alloc: Global, items: &[u32]) -> Result<bool, NoMemory> {
     Ok(numbers.items() == items)
 }
 
+fn test_lists(rt: &impl Abort, alloc: Global) -> Result<(), NoMemory> {
+    check(rt, is_copied(alloc)?, "copy");
+    check(rt, are_listed(alloc, &[0, 3, 6, 9, 12, 15])?, "numbers");
+    Ok(())
+}
+
 #[test]
 fn names_axioms_and_lists(rt: HostRuntime) -> Result<(), Fail> {
     test_ontology(&rt, rt.alloc())?;
-    assert!(rt; is_cut(rt.alloc())?, "names that are cut off");
-    assert!(rt; is_asserted(rt.alloc())?, "an assertion");
-    assert!(rt; is_copied(rt.alloc())?, "copy");
-    assert!(rt; are_listed(rt.alloc(), &[0, 3, 6, 9, 12, 15])?, "numbers");
+    test_single(&rt, rt.alloc())?;
+    test_lists(&rt, rt.alloc())?;
     Ok(())
 }

@@ -1,10 +1,11 @@
 // Refutations that are read and written again, and texts that are none.
 
+use crate::checks::check;
 use crate::small_ontologies::{add_axioms, add_names};
 use certificate_lines::lines;
 use refutation_tree::{CertFault, Line, Refutation, read_text};
 use shq_nnf::Shape;
-use shq_terms::{NoMemory, Ontology};
+use shq_terms::{AddFault, NoMemory, Ontology};
 use std::alloc::Global;
 use std::process::Abort;
 use std::test::Fail;
@@ -84,6 +85,17 @@ const TEXTS: &[(&[u8], &[u8], u32)] = &[
     (HEAD, b"start\nend\n\t\nend", 7),
 ];
 
+fn rewrite_lines(
+    alloc: Global,
+    ontology: &Ontology,
+    lines: &[&[u8]],
+    written: &mut Vec<u8>,
+) -> Result<(), CertFault> {
+    let refutation = read_text(alloc, lines, ontology)?;
+    refutation.text(alloc, written, ontology)?;
+    Ok(())
+}
+
 fn rewrite(
     alloc: Global,
     ontology: &Ontology,
@@ -91,9 +103,7 @@ fn rewrite(
     written: &mut Vec<u8>,
 ) -> Result<(), CertFault> {
     let lines = lines(alloc, text)?;
-    let refutation = read_text(alloc, &lines, ontology)?;
-    refutation.text(alloc, written, ontology)?;
-    Ok(())
+    rewrite_lines(alloc, ontology, &lines, written)
 }
 
 // Whether a text is read and written again.
@@ -123,10 +133,14 @@ fn are_successors(refutation: &Refutation) -> bool {
         && ends_with_two_nodes(refutation.lines())
 }
 
+fn has_successors(alloc: Global, ontology: &Ontology, lines: &[&[u8]]) -> Result<bool, CertFault> {
+    let refutation = read_text(alloc, lines, ontology)?;
+    Ok(are_successors(&refutation))
+}
+
 fn reads_successors(alloc: Global, ontology: &Ontology) -> Result<bool, CertFault> {
     let lines = lines(alloc, SUCCESSORS)?;
-    let refutation = read_text(alloc, &lines, ontology)?;
-    Ok(are_successors(&refutation))
+    has_successors(alloc, ontology, &lines)
 }
 
 // Whether a text is refused for this line.
@@ -151,20 +165,46 @@ fn is_refused(
     is_malformed(alloc, ontology, &text, *line)
 }
 
+fn are_refused(
+    alloc: Global,
+    ontology: &Ontology,
+    texts: &[(&[u8], &[u8], u32)],
+) -> Result<bool, NoMemory> {
+    let mut are_so = true;
+    for text in texts {
+        are_so &= is_refused(alloc, ontology, text)?;
+    }
+    Ok(are_so)
+}
+
 fn test_on(rt: &impl Abort, alloc: Global, ontology: &Ontology) -> Result<(), CertFault> {
-    for text in [CHAIN, SUCCESSORS, OTHERS] {
-        assert!(rt; is_written_again(alloc, ontology, text)?, "{text:?}");
-    }
-    assert!(rt; reads_successors(alloc, ontology)?, "successors");
-    for text in TEXTS {
-        assert!(rt; is_refused(alloc, ontology, text)?, "{text:?}");
-    }
+    check(rt, is_written_again(alloc, ontology, CHAIN)?, "a chain");
+    check(
+        rt,
+        is_written_again(alloc, ontology, SUCCESSORS)?,
+        "successors",
+    );
+    check(
+        rt,
+        is_written_again(alloc, ontology, OTHERS)?,
+        "other lines",
+    );
+    check(
+        rt,
+        reads_successors(alloc, ontology)?,
+        "successors that are read",
+    );
+    check(rt, are_refused(alloc, ontology, TEXTS)?, "malformed texts");
     Ok(())
 }
 
-fn test_named(rt: &impl Abort, alloc: Global, ontology: &mut Ontology) -> Result<(), Fail> {
+fn add_all(ontology: &mut Ontology) -> Result<(), AddFault> {
     add_names(ontology, &["A", "B", "C"])?;
-    add_axioms(ontology, 4)?;
+    add_axioms(ontology, 4)
+}
+
+fn test_named(rt: &impl Abort, alloc: Global, ontology: &mut Ontology) -> Result<(), Fail> {
+    add_all(ontology)?;
     test_on(rt, alloc, ontology)?;
     Ok(())
 }

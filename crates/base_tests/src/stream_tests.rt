@@ -1,5 +1,6 @@
 // Whole inputs and outputs in pieces, and faults in mid-stream.
 
+use crate::checks::check;
 use shq_io::{
     MemSink, MemSource, ReadEnd, StdSink, StdSource, SureSink, SureSource, WriteFailed, read_all,
     write_whole,
@@ -109,35 +110,48 @@ const LONG: &[Case] = &[
     (9999, 2, 4095, Err(ReadEnd::TooLong)),
 ];
 
-fn test_cases(
-    rt: &impl Abort,
-    alloc: Global,
-    bytes: &[u8],
-    cases: &[Case],
-) -> Result<(), NoMemory> {
+fn are_cases(alloc: Global, bytes: &[u8], cases: &[Case]) -> Result<bool, NoMemory> {
+    let mut are_so = true;
     for case in cases {
-        assert!(rt; is_case(alloc, bytes, case)?, "{case:?}");
+        are_so &= is_case(alloc, bytes, case)?;
     }
-    Ok(())
+    Ok(are_so)
+}
+
+fn is_read_by<R: Read + Drop>(
+    alloc: Global,
+    reader: R,
+    limit: u32,
+    bytes: &[u8],
+    wanted: Result<usize, ReadEnd>,
+) -> bool {
+    let read = read_all(alloc, &mut StdSource::new(reader), limit);
+    is_read_so(&read, bytes, wanted)
 }
 
 // Readers of std, of which one fails.
 fn are_read(alloc: Global, long: &[u8]) -> bool {
-    let whole = read_all(alloc, &mut StdSource::new(long), 5000);
-    let is_whole = is_read_so(&whole, long, Ok(5000));
-    let over = read_all(alloc, &mut StdSource::new(long), 4999);
-    let is_over = is_read_so(&over, long, Err(ReadEnd::TooLong));
-    let failed = read_all(alloc, &mut StdSource::new(Failing { calls: 0 }), 9);
-    is_whole & is_over & is_read_so(&failed, long, Err(ReadEnd::Fault))
+    is_read_by(alloc, long, 5000, long, Ok(5000))
+        && is_read_by(alloc, long, 4999, long, Err(ReadEnd::TooLong))
+        && is_read_by(alloc, Failing { calls: 0 }, 9, long, Err(ReadEnd::Fault))
+}
+
+fn test_reads(rt: &impl Abort, alloc: Global, long: &[u8]) -> Result<(), NoMemory> {
+    check(rt, are_cases(alloc, b"abc", SHORT)?, "three bytes");
+    check(rt, are_cases(alloc, b"", NONE)?, "no byte");
+    check(rt, are_cases(alloc, long, LONG)?, "many bytes");
+    check(rt, are_read(alloc, long), "readers");
+    Ok(())
+}
+
+fn test_inputs(rt: &impl Abort, alloc: Global) -> Result<(), NoMemory> {
+    let long = vec![in alloc; 7u8; 5000]?;
+    test_reads(rt, alloc, &long)
 }
 
 #[test]
 fn reads_whole_inputs(rt: HostRuntime) -> Result<(), Fail> {
-    let long = vec![in rt.alloc(); 7u8; 5000]?;
-    test_cases(&rt, rt.alloc(), b"abc", SHORT)?;
-    test_cases(&rt, rt.alloc(), b"", NONE)?;
-    test_cases(&rt, rt.alloc(), &long, LONG)?;
-    assert!(rt; are_read(rt.alloc(), &long), "readers");
+    test_inputs(&rt, rt.alloc())?;
     Ok(())
 }
 
@@ -158,11 +172,12 @@ fn is_written_so(alloc: Global, text: &[u8], case: &Written) -> Result<bool, NoM
     Ok(write_whole(&mut sink, text) == *wanted && sink.taken() == *taken)
 }
 
-fn test_memory(rt: &impl Abort, alloc: Global, text: &[u8]) -> Result<(), NoMemory> {
-    for case in WRITTEN {
-        assert!(rt; is_written_so(alloc, text, case)?, "{case:?}");
+fn are_written_so(alloc: Global, text: &[u8], cases: &[Written]) -> Result<bool, NoMemory> {
+    let mut are_so = true;
+    for case in cases {
+        are_so &= is_written_so(alloc, text, case)?;
     }
-    Ok(())
+    Ok(are_so)
 }
 
 fn write<W: Write + Drop>(inner: W, text: &[u8]) -> bool {
@@ -186,10 +201,15 @@ fn is_all_written(alloc: Global, text: &[u8]) -> bool {
     are_written(&mut written, &mut [0; 3], text)
 }
 
+fn test_writes(rt: &impl Abort, alloc: Global, text: &[u8]) -> Result<(), NoMemory> {
+    check(rt, are_written_so(alloc, text, WRITTEN)?, "memory");
+    check(rt, is_all_written(alloc, text), "writers");
+    Ok(())
+}
+
 #[test]
 fn writes_whole_outputs(rt: HostRuntime) -> Result<(), Fail> {
-    test_memory(&rt, rt.alloc(), b"hello")?;
-    assert!(rt; is_all_written(rt.alloc(), b"hello"), "writers");
+    test_writes(&rt, rt.alloc(), b"hello")?;
     Ok(())
 }
 
@@ -228,18 +248,28 @@ fn is_begun_so(one: &[u8], other: &[u8]) -> bool {
 }
 
 fn is_taken_surely(alloc: Global, text: &[u8], case: &Kept) -> Result<bool, NoMemory> {
-    let (room, once, twice) = case;
-    let mut sink = SureSink::with_room(alloc, *room)?;
-    let is_written = write_whole(&mut sink, text) == Ok(()) && is_kept_so(&sink, 74, *once, text);
-    let is_more = write_whole(&mut sink, b"hello") == Ok(()) && is_kept_so(&sink, 79, *twice, text);
-    Ok(is_written && is_more)
+    let mut sink = SureSink::with_room(alloc, case.0)?;
+    Ok(are_taken(&mut sink, text, case))
+}
+
+fn are_taken(sink: &mut SureSink, text: &[u8], (_, once, twice): &Kept) -> bool {
+    write_whole(sink, text) == Ok(())
+        && is_kept_so(sink, 74, *once, text)
+        && write_whole(sink, b"hello") == Ok(())
+        && is_kept_so(sink, 79, *twice, text)
+}
+
+fn are_taken_surely(alloc: Global, text: &[u8], cases: &[Kept]) -> Result<bool, NoMemory> {
+    let mut are_so = true;
+    for case in cases {
+        are_so &= is_taken_surely(alloc, text, case)?;
+    }
+    Ok(are_so)
 }
 
 fn test_sure(rt: &impl Abort, alloc: Global, text: &[u8]) -> Result<(), NoMemory> {
-    assert!(rt; is_read_surely(alloc, text)?, "source");
-    for case in KEPT {
-        assert!(rt; is_taken_surely(alloc, text, case)?, "{case:?}");
-    }
+    check(rt, is_read_surely(alloc, text)?, "source");
+    check(rt, are_taken_surely(alloc, text, KEPT)?, "sink");
     Ok(())
 }
 

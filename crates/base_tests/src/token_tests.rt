@@ -1,6 +1,7 @@
 // Texts with their tokens, and tokens with their trees.
 ghost use Rattle.std.specs.Prelude.{◌≤◌, length};
 
+use crate::checks::check;
 use ofn_tree::{Form, Kind, TextFault, Token, Tree, end_line, tokens, tree};
 use std::alloc::{AllocError, Global};
 use std::process::Abort;
@@ -46,7 +47,13 @@ fn read_as(alloc: Global, text: &[u8], letters: &[u8]) -> Result<(u32, usize), T
 
 /// Texts with a letter for each token, the line of the last one, and the place after what was read; or with the
 /// first fault.
-const TOKENS: &[(&[u8], &[u8], Result<(u32, usize), TextFault>)] = &[
+type Cut = (
+    &'static [u8],
+    &'static [u8],
+    Result<(u32, usize), TextFault>,
+);
+
+const TOKENS: &[Cut] = &[
     (b"", b"", Ok((0, 0))),
     (b"\xef\xbb\xbfA", b"n", Ok((1, 4))),
     (b"A\xef\xbb\xbf", b"n", Ok((1, 4))),
@@ -79,7 +86,9 @@ const TOKENS: &[(&[u8], &[u8], Result<(u32, usize), TextFault>)] = &[
 ];
 
 /// How many brackets are opened and then closed, what stands behind them, and how many items there are.
-const BRACKETS: &[(usize, usize, &[u8], Result<usize, TextFault>)] = &[
+type Bracketed = (usize, usize, &'static [u8], Result<usize, TextFault>);
+
+const BRACKETS: &[Bracketed] = &[
     (0, 0, b"", Ok(0)),
     (64, 64, b"A", Ok(2)),
     (65, 65, b"", Err(TextFault::TooDeep(1))),
@@ -127,15 +136,22 @@ fn item_count(alloc: Global, text: &[u8]) -> Result<usize, TextFault> {
     Ok(trees.len())
 }
 
-fn test_brackets(rt: &impl Abort, alloc: Global) -> Result<(), AllocError> {
-    for (opened, closed, rest, wanted) in BRACKETS {
-        let text = bracketed(alloc, *opened, *closed, rest)?;
-        assert!(rt;
-            item_count(alloc, &text) == *wanted,
-            "{opened} and {closed}"
-        );
+fn bracketed_count(
+    alloc: Global,
+    opened: usize,
+    closed: usize,
+    rest: &[u8],
+) -> Result<Result<usize, TextFault>, AllocError> {
+    let text = bracketed(alloc, opened, closed, rest)?;
+    Ok(item_count(alloc, &text))
+}
+
+fn are_counted(alloc: Global, brackets: &[Bracketed]) -> Result<bool, AllocError> {
+    let mut are_so = true;
+    for (opened, closed, rest, wanted) in brackets {
+        are_so &= bracketed_count(alloc, *opened, *closed, rest)? == *wanted;
     }
-    Ok(())
+    Ok(are_so)
 }
 
 // A letter for each item.
@@ -204,15 +220,37 @@ fn makes_trees(alloc: Global) -> Result<bool, TextFault> {
     Ok(are_trees(&trees))
 }
 
+fn are_tokens(alloc: Global, cuts: &[Cut]) -> bool {
+    let mut are_so = true;
+    for (text, letters, wanted) in cuts {
+        are_so &= read_as(alloc, text, letters) == *wanted;
+    }
+    are_so
+}
+
+fn have_items(alloc: Global, texts: &[(&[u8], &[u8])]) -> Result<bool, TextFault> {
+    let mut have = true;
+    for (text, letters) in texts {
+        have &= has_items(alloc, text, letters)?;
+    }
+    Ok(have)
+}
+
+fn test_texts(rt: &impl Abort, alloc: Global) -> Result<(), TextFault> {
+    check(rt, makes_trees(alloc)?, "trees");
+    check(rt, have_items(alloc, ITEMS)?, "items");
+    check(rt, are_tokens(alloc, TOKENS), "tokens");
+    Ok(())
+}
+
+fn test_brackets(rt: &impl Abort, alloc: Global) -> Result<(), AllocError> {
+    check(rt, are_counted(alloc, BRACKETS)?, "brackets");
+    Ok(())
+}
+
 #[test]
 fn reads_tokens_and_trees(rt: HostRuntime) -> Result<(), Fail> {
-    for (text, letters, wanted) in TOKENS {
-        assert!(rt; read_as(rt.alloc(), text, letters) == *wanted, "{text:?}");
-    }
-    for (text, letters) in ITEMS {
-        assert!(rt; has_items(rt.alloc(), text, letters)?, "{text:?}");
-    }
+    test_texts(&rt, rt.alloc())?;
     test_brackets(&rt, rt.alloc())?;
-    assert!(rt; makes_trees(rt.alloc())?, "trees");
     Ok(())
 }

@@ -1,5 +1,6 @@
 // Each call on words once, by tables.
 
+use crate::checks::check;
 use lane_sieve::{
     Numbers, compare_numbers, copy_words, count_numbers, do_meet, has_number, is_part, last_number,
     next_number, put_number, repeat_word, subtract, take_number, unite,
@@ -119,21 +120,31 @@ fn are_numbers(mut numbers: Numbers<'_>, wanted: &[u32]) -> bool {
     same && numbers.next() == None
 }
 
-fn check_tables(rt: &impl Abort, words: &mut [u64]) {
+fn are_pairs() -> bool {
+    let mut are_so = true;
     for (first, second, wanted) in PAIRS {
-        assert!(rt; told(first, second) == Some(*wanted), "{wanted:?}");
+        are_so &= told(first, second) == Some(*wanted);
     }
-    for (place, (change_by, wanted)) in CHANGES.iter().enumerate() {
-        do_change(words, change_by);
-        assert!(rt; is_list(words, wanted), "change {place}");
-    }
+    are_so
 }
 
-// Copies of words, and a word that is repeated.
+fn are_changed(words: &mut [u64]) -> bool {
+    let mut are_so = true;
+    for (change, wanted) in CHANGES {
+        do_change(words, change);
+        are_so &= is_list(words, wanted);
+    }
+    are_so
+}
+
 fn are_copied(alloc: Global, words: &[u64]) -> Result<bool, NoMemory> {
     let copy = copy_words(alloc, words)?;
+    Ok(is_list(&copy, words))
+}
+
+fn is_repeated(alloc: Global) -> Result<bool, NoMemory> {
     let repeated = repeat_word(alloc, 9, 2)?;
-    Ok(is_list(&copy, words) && is_list(&repeated, &[9, 9]))
+    Ok(is_list(&repeated, &[9, 9]))
 }
 
 fn are_told() -> bool {
@@ -142,9 +153,17 @@ fn are_told() -> bool {
         && last(WORDS) == Some((130, 3))
 }
 
+fn test_words(rt: &impl Abort, alloc: Global) -> Result<(), NoMemory> {
+    check(rt, are_told(), "numbers");
+    check(rt, are_copied(alloc, WORDS)?, "a copy");
+    check(rt, is_repeated(alloc)?, "a word that is repeated");
+    check(rt, are_pairs(), "pairs");
+    check(rt, are_changed(&mut [1 << 63, 0, 0b101]), "changes");
+    Ok(())
+}
+
 #[test]
 fn calls_on_words(rt: HostRuntime) -> Result<(), Fail> {
-    assert!(rt; are_told() && are_copied(rt.alloc(), WORDS)?);
-    check_tables(&rt, &mut [1 << 63, 0, 0b101]);
+    test_words(&rt, rt.alloc())?;
     Ok(())
 }

@@ -2,11 +2,13 @@
 ghost use Rattle.std.specs.Prelude.{◌≡◌, IfOk};
 ghost use Rattle.shq_terms.specs.Concept.{name, at_least};
 
+use crate::checks::check;
 use ofn_expressions::{Construct, Prefixes, Reading, Refusal, Which, excluded_axiom, read_class};
 use ofn_tree::{TextFault, Tree, end_line, tokens, tree};
 use ofn_writer::{axiom_text, concept_text};
 use shq_terms::{AddFault, Axiom, Concept, NoMemory, Node, Ontology};
 use std::alloc::Global;
+use std::process::Abort;
 use std::test::Fail;
 
 fn items<'a>(alloc: Global, text: &'a [u8]) -> Result<Vec<Tree<'a>>, TextFault> {
@@ -15,22 +17,39 @@ fn items<'a>(alloc: Global, text: &'a [u8]) -> Result<Vec<Tree<'a>>, TextFault> 
     tree(alloc, &read.0, end_line(text))
 }
 
+fn read_item(
+    alloc: Global,
+    items: &[Tree<'_>],
+    prefixes: &Prefixes,
+    state: &mut Reading,
+) -> Result<(), Refusal> {
+    if let Some(item) = items.first() {
+        drop(read_class(alloc, item, prefixes, state)?);
+    }
+    Ok(())
+}
+
 // Reads the first item as a class expression.
 fn read_first(alloc: Global, items: &[Tree<'_>], state: &mut Reading) -> Result<(), Refusal> {
     let prefixes = Prefixes::predeclared(alloc)?;
-    if let Some(item) = items.first() {
-        drop(read_class(alloc, item, &prefixes, state)?);
-    }
-    Ok(())
+    read_item(alloc, items, &prefixes, state)
+}
+
+fn counts_in(state: Reading) -> (u32, u32, u32) {
+    let parts = state.into_parts();
+    (parts.0.class_count(), parts.0.role_count(), parts.1)
+}
+
+fn counts_after(alloc: Global, items: &[Tree<'_>]) -> Result<(u32, u32, u32), Refusal> {
+    let mut state = Reading::new(Ontology::new(alloc), 0, 0);
+    read_first(alloc, items, &mut state)?;
+    Ok(counts_in(state))
 }
 
 // How many classes, roles and nodes there are when the first item was read as a class expression.
 fn counts_of(alloc: Global, text: &str) -> Result<(u32, u32, u32), Refusal> {
     let items = items(alloc, text.as_bytes()).map_err(Refusal::Text)?;
-    let mut state = Reading::new(Ontology::new(alloc), 0, 0);
-    read_first(alloc, &items, &mut state)?;
-    let parts = state.into_parts();
-    Ok((parts.0.class_count(), parts.0.role_count(), parts.1))
+    counts_after(alloc, &items)
 }
 
 const CLASSES: &[(&str, Result<(u32, u32, u32), Refusal>)] = &[
@@ -136,14 +155,19 @@ fn writes(alloc: Global) -> Result<bool, AddFault> {
     writes_on(alloc, &mut ontology)
 }
 
-#[test]
-fn reads_and_writes_expressions(rt: HostRuntime) -> Result<(), Fail> {
+fn test_expressions(rt: &impl Abort, alloc: Global) -> Result<(), AddFault> {
     for text in ["Import", "HasKey", "DataPropertyAssertion"] {
-        assert!(rt; is_excluded(text), "{text}");
+        check(rt, is_excluded(text), text);
     }
     for (text, wanted) in CLASSES {
-        assert!(rt; counts_of(rt.alloc(), text) == *wanted, "{text}");
+        check(rt, counts_of(alloc, text) == *wanted, text);
     }
-    assert!(rt; writes(rt.alloc())?);
+    check(rt, writes(alloc)?, "what is written");
+    Ok(())
+}
+
+#[test]
+fn reads_and_writes_expressions(rt: HostRuntime) -> Result<(), Fail> {
+    test_expressions(&rt, rt.alloc())?;
     Ok(())
 }
