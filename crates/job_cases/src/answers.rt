@@ -1,6 +1,7 @@
 // The lines that are printed of a case.
 
 use crate::blocks::Block;
+use crate::numbers::{decimal, put_decimal};
 use crate::shows::{put_shows, put_whole, text_of};
 use crate::turns::Turn;
 use job_runs::{Answer, Failing, NoMemory, Status, audited, checked, run_on, run_through};
@@ -63,7 +64,7 @@ fn run_within(
     budget: u32,
     input: &[u8],
 ) -> Result<Answer, NoMemory> {
-    let number = format!(in alloc; "{budget}")?;
+    let number = decimal(alloc, u64::from(budget))?;
     run_with(alloc, words, number.as_str(), input)
 }
 
@@ -105,8 +106,8 @@ fn report_of(
     document: &str,
     answer: &Answer,
 ) -> Result<String, NoMemory> {
-    let mut line = named(alloc, block.name, turn.number)?;
-    put_report(alloc, &mut line, block, document, answer)?;
+    let mut line = String::from_str(alloc, block.name)?;
+    put_report(alloc, &mut line, block, turn, document, answer)?;
     Ok(line)
 }
 
@@ -115,9 +116,11 @@ fn put_report(
     alloc: Global,
     line: &mut String,
     block: &Block<'_>,
+    turn: Turn,
     document: &str,
     answer: &Answer,
 ) -> Result<(), NoMemory> {
+    put_turn(alloc, line, turn.number)?;
     put_status(alloc, line, answer.status)?;
     match question_in(block, answer) {
         Some(words) => put_evidence(alloc, line, words, document, answer)?,
@@ -132,11 +135,14 @@ fn put_status(alloc: Global, line: &mut String, status: Status) -> Result<(), No
     Ok(())
 }
 
-// The name of a case, and the number of its run.
-fn named(alloc: Global, name: &str, number: Option<u32>) -> Result<String, NoMemory> {
+// Puts the number of a run, if it has one.
+fn put_turn(alloc: Global, line: &mut String, number: Option<u32>) -> Result<(), NoMemory> {
     match number {
-        Some(number) => Ok(format!(in alloc; "{name} {number}")?),
-        None => Ok(String::from_str(alloc, name)?),
+        Some(number) => {
+            line.push_str(" ")?;
+            put_decimal(alloc, line, u64::from(number))
+        }
+        None => Ok(()),
     }
 }
 

@@ -1,5 +1,6 @@
 // Documents, whole or by their axioms.
 
+use crate::numbers::decimal;
 use job_runs::{NoMemory, document};
 use std::alloc::Global;
 
@@ -205,7 +206,7 @@ fn numbered(alloc: Global, line: &str, before: u64) -> Result<String, NoMemory> 
 
 // A text with a number in the place of a sign.
 fn with_number(alloc: Global, text: &str, sign: &str, number: u64) -> Result<String, NoMemory> {
-    let number = format!(in alloc; "{number}")?;
+    let number = decimal(alloc, number)?;
     Ok(text.replace(alloc, sign, number.as_str())?)
 }
 

@@ -54,6 +54,7 @@ mod documents;
 mod faults;
 mod files;
 mod keys;
+mod numbers;
 mod shows;
 mod turns;
 

@@ -1,6 +1,7 @@
 // What of an answer is printed.
 
 use crate::blocks::Show;
+use crate::numbers::put_decimal;
 use job_runs::{Answer, NoMemory};
 use std::alloc::Global;
 
@@ -76,9 +77,9 @@ fn put_those(line: &mut String, text: &str, kinds: &str, are_there: bool) -> Res
 }
 
 fn put_number(alloc: Global, line: &mut String, name: &str, number: u64) -> Result<(), NoMemory> {
-    let text = format!(in alloc; "{name} {number}")?;
-    line.push_str(text.as_str())?;
-    Ok(())
+    line.push_str(name)?;
+    line.push_str(" ")?;
+    put_decimal(alloc, line, number)
 }
 
 fn put_first(line: &mut String, text: &str, kind: &str) -> Result<(), NoMemory> {
