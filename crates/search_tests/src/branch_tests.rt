@@ -2,7 +2,6 @@
 
 use branch_facts::{BranchFacts, Fact, Mark, NoMemory};
 use std::alloc::Global;
-use std::process::Abort;
 use std::test::Fail;
 
 /// What is asked of a branch.
@@ -106,15 +105,17 @@ fn holds(branch: &BranchFacts, asked: Asked) -> bool {
     }
 }
 
-fn check(rt: &impl Abort, branch: &BranchFacts, table: &[(Asked, bool)]) {
-    for (place, (asked, wanted)) in table.iter().enumerate() {
-        assert!(rt; holds(branch, *asked) == *wanted, "row {place}");
+fn are_so(branch: &BranchFacts, table: &[(Asked, bool)]) -> bool {
+    let mut are_so = true;
+    for (asked, wanted) in table {
+        are_so &= holds(branch, *asked) == *wanted;
     }
+    are_so
 }
 
-fn check_mark(rt: &impl Abort, branch: &BranchFacts, nodes: usize, facts: usize) {
+fn has_counts(branch: &BranchFacts, nodes: usize, facts: usize) -> bool {
     let mark = branch.mark();
-    assert!(rt; mark.nodes == nodes && mark.facts == facts, "{nodes} nodes");
+    mark.nodes == nodes && mark.facts == facts
 }
 
 fn back_to(branch: &mut BranchFacts, mark: Mark) {
@@ -124,46 +125,43 @@ fn back_to(branch: &mut BranchFacts, mark: Mark) {
     }
 }
 
-fn test_facts(rt: &impl Abort, branch: &mut BranchFacts) -> Result<(), NoMemory> {
+fn are_facts(branch: &mut BranchFacts) -> Result<bool, NoMemory> {
     add_nodes(branch, &[0, 1, 2, 3])?;
     add_all(branch, TWO_EDGES)?;
-    check(rt, branch, APART);
-    check_mark(rt, branch, 4, 5);
+    let are_apart = are_so(branch, APART) && has_counts(branch, 4, 5);
     let mark = branch.mark();
     add_all(branch, JOINED_PAIRS)?;
     add_nodes(branch, &[9])?;
     branch.add(Fact::Has(9, 5))?;
-    check(rt, branch, JOINED);
-    check_mark(rt, branch, 5, 8);
+    let are_joined = are_so(branch, JOINED) && has_counts(branch, 5, 8);
     back_to(branch, mark);
-    check(rt, branch, APART);
-    Ok(())
+    Ok(are_apart && are_joined && are_so(branch, APART))
 }
 
-fn test_joins(rt: &impl Abort, branch: &mut BranchFacts) -> Result<(), NoMemory> {
+fn are_joins(branch: &mut BranchFacts) -> Result<bool, NoMemory> {
     branch.add(Fact::Same(3, 2))?;
+    let mut are_right = true;
     for (facts, table) in JOINS {
         let mark = branch.mark();
         add_all(branch, facts)?;
-        check(rt, branch, table);
+        are_right &= are_so(branch, table);
         back_to(branch, mark);
     }
-    Ok(())
+    Ok(are_right)
 }
 
-fn test_new_facts(rt: &impl Abort, alloc: Global) -> Result<(), NoMemory> {
+fn are_read(alloc: Global, only_joins: bool) -> Result<bool, NoMemory> {
     let mut branch = BranchFacts::new(alloc);
-    test_facts(rt, &mut branch)
-}
-
-fn test_new_joins(rt: &impl Abort, alloc: Global) -> Result<(), NoMemory> {
-    let mut branch = BranchFacts::new(alloc);
-    test_joins(rt, &mut branch)
+    if only_joins {
+        are_joins(&mut branch)
+    } else {
+        are_facts(&mut branch)
+    }
 }
 
 #[test]
 fn facts_are_read_through_joined_nodes(rt: HostRuntime) -> Result<(), Fail> {
-    test_new_facts(&rt, rt.alloc())?;
-    test_new_joins(&rt, rt.alloc())?;
+    assert!(rt; are_read(rt.alloc(), false)?, "facts");
+    assert!(rt; are_read(rt.alloc(), true)?, "joins");
     Ok(())
 }

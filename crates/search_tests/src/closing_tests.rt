@@ -10,7 +10,7 @@ use std::process::Abort;
 use std::test::Fail;
 
 /// Role 0 is transitive, and below role 1.
-const ROLES: &[Says] = &[Says::Transitive(0), Says::Below(0, 1)];
+const ROLES: &[(Says, u32)] = &[(Says::Transitive(0), 1), (Says::Below(0, 1), 1)];
 
 /// Shapes, and one that the closed table has, with how many numbers there are then.
 type Case = (&'static [Shape<'static>], Shape<'static>, u32);
@@ -39,15 +39,24 @@ fn has_shape(concepts: &Concepts, wanted: Shape<'_>) -> bool {
     found
 }
 
-fn is_closed_so(alloc: Global, roles: &RoleBox, case: &Case) -> Result<bool, NoMemory> {
+fn is_closed_so(
+    alloc: Global,
+    concepts: &mut Concepts,
+    roles: &RoleBox,
+    case: &Case,
+) -> Result<bool, NoMemory> {
+    close(alloc, concepts, roles)?;
+    Ok(has_shape(concepts, case.1) && concepts.len() == case.2)
+}
+
+fn is_case(alloc: Global, roles: &RoleBox, case: &Case) -> Result<bool, NoMemory> {
     let mut concepts = table(alloc, case.0)?;
-    close(alloc, &mut concepts, roles)?;
-    Ok(has_shape(&concepts, case.1) && concepts.len() == case.2)
+    is_closed_so(alloc, &mut concepts, roles, case)
 }
 
 fn are_closed(rt: &impl Abort, alloc: Global, roles: &RoleBox) -> Result<(), NoMemory> {
-    for case in CASES {
-        assert!(rt; is_closed_so(alloc, roles, case)?, "{case:?}");
+    for (place, case) in CASES.iter().enumerate() {
+        assert!(rt; is_case(alloc, roles, case)?, "case {place}");
     }
     Ok(())
 }

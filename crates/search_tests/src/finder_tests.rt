@@ -1,18 +1,18 @@
 // Given facts in the order of their axioms, what they bring, and the clashes that they make.
-ghost use Rattle.std.specs.Prelude.{◌≡◌, ◌∷◌, [], IsTrue, IfOk, OnOk, length};
+ghost use Rattle.std.specs.Prelude.{◌≡◌, IsTrue, OnOk, length};
 ghost use Rattle.search_rules.specs.Limits.{IsOntologyInLimit};
 ghost use Rattle.shq_terms.specs.Listed.{with_axiom};
 ghost use Rattle.shq_terms.specs.Uses.{axiom_uses_listed};
 
 use crate::following::is_fit;
+use crate::small_axioms::{add_names, list_of};
 use axiom_sets::AxiomSet;
 use calculus_specs::{Fact, NoMemory};
 use completion_tree::{By, Deps, Tree};
 use refutation_tree::Line;
 use search_rules::SearchRules;
-use shq_terms::{AddFault, Axiom, NumberList, Ontology};
+use shq_terms::{AddFault, Axiom, Ontology};
 use std::alloc::Global;
-use std::process::Abort;
 use std::test::Fail;
 use step_agenda::{Agenda, TreeState};
 use step_finders::{Clash, Given, Rules, Step, find_clash_of_edge, find_giving, find_plain_clash};
@@ -20,13 +20,13 @@ use step_lines::line_of_given;
 
 // ---- the axioms
 
-fn pair(alloc: Global, first: u32, second: u32) -> Result<NumberList, NoMemory>
-    ensures { IfOk result (λ numbers. numbers ≡ first ∷ second ∷ []) }
-{
-    let mut numbers = NumberList::new(alloc);
-    numbers.push(first)?;
-    numbers.push(second)?;
-    Ok(numbers)
+/// A walk of the tests.
+#[derive(Clone, Copy)]
+enum Walk {
+    /// Edges between individuals, and two that are different.
+    Edges,
+    /// Two individuals that are one, and different.
+    One,
 }
 
 fn push(ontology: &mut Ontology, axiom: Axiom) -> Result<(), AddFault>
@@ -53,37 +53,26 @@ fn has_names_alone(ontology: &Ontology) -> bool
         && ontology.axiom_count() == 0
 }
 
-fn add_names(ontology: &mut Ontology) -> Result<(), AddFault> {
-    ontology.add_role("R")?;
-    for name in ["a", "b", "c", "d"] {
-        ontology.add_individual(name)?;
-    }
-    Ok(())
-}
-
-// An edge leads from individual 0 to 1 and one to 3, which are different.
-fn add_edges(alloc: Global, ontology: &mut Ontology) -> Result<(), AddFault>
+// The ontology of a walk, where none is there yet. An edge leads from individual 0 to 1 and one to 3, which are
+// different; or individuals 0 and 2 are one, and different.
+fn fill(alloc: Global, ontology: &mut Ontology, walk: Walk) -> Result<(), AddFault>
     ensures { OnOk result (IsOntologyInLimit ontology.new) }
 {
-    add_names(ontology)?;
+    add_names(ontology, &[], &["R"], &["a", "b", "c", "d"])?;
     if !has_names_alone(ontology) {
         return Err(AddFault::Full);
     }
-    push(ontology, Axiom::Pair(0, 0, 1))?;
-    push(ontology, Axiom::Pair(0, 0, 3))?;
-    push(ontology, Axiom::Different(pair(alloc, 1, 3)?))
-}
-
-// Individuals 0 and 2 are one, and different.
-fn add_one(alloc: Global, ontology: &mut Ontology) -> Result<(), AddFault>
-    ensures { OnOk result (IsOntologyInLimit ontology.new) }
-{
-    add_names(ontology)?;
-    if !has_names_alone(ontology) {
-        return Err(AddFault::Full);
+    match walk {
+        Walk::Edges => {
+            push(ontology, Axiom::Pair(0, 0, 1))?;
+            push(ontology, Axiom::Pair(0, 0, 3))?;
+            push(ontology, Axiom::Different(list_of(alloc, &[1, 3])?))
+        }
+        Walk::One => {
+            push(ontology, Axiom::SameAll(list_of(alloc, &[0, 2])?))?;
+            push(ontology, Axiom::Different(list_of(alloc, &[2, 0])?))
+        }
     }
-    push(ontology, Axiom::SameAll(pair(alloc, 0, 2)?))?;
-    push(ontology, Axiom::Different(pair(alloc, 2, 0)?))
 }
 
 // ---- a search
@@ -204,15 +193,6 @@ fn rules_of(heap: Global, ontology: &Ontology) -> Result<SearchRules<'_>, NoMemo
     SearchRules::build(heap, ontology, &set)
 }
 
-/// A walk of the tests.
-#[derive(Clone, Copy)]
-enum Walk {
-    /// Edges between individuals, and two that are different.
-    Edges,
-    /// Two individuals that are one, and different.
-    One,
-}
-
 // Whether the walk goes as it should, over a tree that has the first nodes alone.
 fn goes_as_it_should(
     heap: Global,
@@ -221,30 +201,17 @@ fn goes_as_it_should(
     rules: &SearchRules<'_>,
     walk: Walk,
 ) -> Result<bool, NoMemory> {
-    match walk {
-        Walk::Edges => go_over_edges(heap, agenda, tree, rules),
-        Walk::One => go_over_one(heap, agenda, tree, rules),
-    }
-}
-
-fn go_over_edges(
-    heap: Global,
-    agenda: &mut Agenda,
-    tree: &mut Tree<Global>,
-    rules: &SearchRules<'_>,
-) -> Result<bool, NoMemory> {
-    let are_given = give_each(heap, agenda, tree, rules, EDGES)?;
-    Ok(are_given && clash(tree, rules) == None && clash_of_edge(tree, rules) == None)
-}
-
-fn go_over_one(
-    heap: Global,
-    agenda: &mut Agenda,
-    tree: &mut Tree<Global>,
-    rules: &SearchRules<'_>,
-) -> Result<bool, NoMemory> {
-    let are_given = give_each(heap, agenda, tree, rules, ONE)?;
-    Ok(are_given && clash(tree, rules) == Some(Clash::Differ(0, 0)))
+    let facts = match walk {
+        Walk::Edges => EDGES,
+        Walk::One => ONE,
+    };
+    let are_given = give_each(heap, agenda, tree, rules, facts)?;
+    let last = clash(tree, rules);
+    let is_last = match walk {
+        Walk::Edges => last == None && clash_of_edge(tree, rules) == None,
+        Walk::One => last == Some(Clash::Differ(0, 0)),
+    };
+    Ok(are_given && is_last)
 }
 
 fn go_by_rules(heap: Global, rules: &SearchRules<'_>, walk: Walk) -> Result<bool, NoMemory> {
@@ -265,21 +232,22 @@ fn go(heap: Global, ontology: &Ontology, walk: Walk) -> Result<bool, NoMemory>
     outcome
 }
 
-#[test]
-fn edges_between_individuals_are_given_in_order(rt: HostRuntime) -> Result<(), Fail> {
-    let mut ontology = Ontology::new(rt.alloc());
-    add_edges(rt.alloc(), &mut ontology)?;
-    assert!(rt;
-        go(rt.alloc(), &ontology, Walk::Edges)?,
-        "edges, and two that are different"
-    );
-    Ok(())
+fn is_walk_in(heap: Global, ontology: &mut Ontology, walk: Walk) -> Result<bool, AddFault> {
+    fill(heap, ontology, walk)?;
+    Ok(go(heap, ontology, walk)?)
+}
+
+fn is_walk(heap: Global, walk: Walk) -> Result<bool, AddFault> {
+    let mut ontology = Ontology::new(heap);
+    is_walk_in(heap, &mut ontology, walk)
 }
 
 #[test]
-fn individuals_that_are_one_do_not_differ(rt: HostRuntime) -> Result<(), Fail> {
-    let mut ontology = Ontology::new(rt.alloc());
-    add_one(rt.alloc(), &mut ontology)?;
-    assert!(rt; go(rt.alloc(), &ontology, Walk::One)?, "one, and different");
+fn facts_of_individuals_are_given_in_order(rt: HostRuntime) -> Result<(), Fail> {
+    assert!(rt;
+        is_walk(rt.alloc(), Walk::Edges)?,
+        "edges, and two that are different"
+    );
+    assert!(rt; is_walk(rt.alloc(), Walk::One)?, "one, and different");
     Ok(())
 }

@@ -5,8 +5,6 @@
 #![tactic(auto)]
 
 #[cfg(test)]
-mod assertion_tests;
-#[cfg(test)]
 mod block_tests;
 #[cfg(test)]
 mod branch_tests;
@@ -35,6 +33,8 @@ mod room_tests;
 #[cfg(test)]
 mod row_tests;
 #[cfg(test)]
+mod rule_lines;
+#[cfg(test)]
 mod rule_tests;
 #[cfg(test)]
 mod small_axioms;
@@ -42,8 +42,6 @@ mod small_axioms;
 mod small_tables;
 #[cfg(test)]
 mod structure_tests;
-#[cfg(test)]
-mod table_tests;
 #[cfg(test)]
 mod trace_tests;
 #[cfg(test)]

@@ -1,12 +1,17 @@
 // Models of small trees, worked out by hand.
+ghost use Rattle.completion_tree.specs.Trail.{facts_in};
+ghost use Rattle.blocking.specs.Followed.{IsCurrent};
 
 use crate::following::{fill, start};
+use crate::small_axioms::class;
 use crate::small_tables::{CHAIN, role_box, table};
+use blocking::Blocks;
 use calculus_specs::Fact;
+use completion_tree::Tree;
 use finite_model::Interp;
 use model_builder::interpretation_of_elements;
 use role_box::RoleBox;
-use shq_nnf::Shape;
+use shq_nnf::{Concepts, Shape};
 use shq_terms::{AddFault, Axiom, Concept, NoMemory, Node, On, Query};
 use std::alloc::Global;
 use std::process::Abort;
@@ -19,12 +24,13 @@ const CLASSES: &[Shape<'static>] = &[Shape::Name(0), Shape::Name(1), Shape::Name
 type Successors = (u32, u32, u32, u32);
 
 /// The facts of a tree, how many elements its model has, which element is in which class, and which has which
-/// successors.
+/// successors; and whether it meets the axiom and refutes the query.
 type Case = (
     &'static [Fact<u32>],
     u32,
     &'static [(u32, u32, bool)],
     &'static [(Successors, bool)],
+    bool,
 );
 
 /// Both successors of node 0 are blocked by it, and lead to both.
@@ -39,7 +45,13 @@ const TWO: &[Fact<u32>] = &[
 
 const CASES: &[Case] = &[
     // One node.
-    (&[Fact::Has(0, 2)], 1, &[(0, 0, false), (0, 1, true)], &[]),
+    (
+        &[Fact::Has(0, 2)],
+        1,
+        &[(0, 0, false), (0, 1, true)],
+        &[],
+        false,
+    ),
     // Two that one node blocks.
     (
         TWO,
@@ -53,6 +65,7 @@ const CASES: &[Case] = &[
             ((1, 3, 2, 0), false),
             ((2, 3, 2, 0), false),
         ],
+        true,
     ),
     // Nodes 1 and 2 are one, node 3 is blocked by node 0, and node 4 under a block. Role 1 has chains, and role 2
     // too.
@@ -81,21 +94,33 @@ const CASES: &[Case] = &[
             ((2, 2, 0, 0), false),
             ((0, 3, 2, 0), false),
         ],
+        false,
     ),
 ];
 
 // The model of the tree of these facts, with three roles.
-fn made_model(alloc: Global, facts: &[Fact<u32>], roles: &RoleBox) -> Result<Interp, NoMemory> {
-    let concepts = table(alloc, CLASSES)?;
-    let (mut tree, mut blocks) = start(alloc, 1)?;
-    fill(&mut tree, &mut blocks, facts)?;
-    interpretation_of_elements(alloc, &tree, &blocks, &concepts, roles, 3)
+fn filled_model(
+    alloc: Global,
+    tree: &mut Tree<Global>,
+    blocks: &mut Blocks,
+    facts: &[Fact<u32>],
+    concepts: &Concepts,
+    roles: &RoleBox,
+) -> Result<Interp, NoMemory>
+    requires { IsCurrent tree.old.first (facts_in tree.old.entries) blocks.old }
+{
+    fill(tree, blocks, facts)?;
+    interpretation_of_elements(alloc, tree, blocks, concepts, roles, 3)
 }
 
-fn class(number: u32) -> Concept {
-    Concept {
-        node: Node::Name(number),
-    }
+fn made_model(
+    alloc: Global,
+    facts: &[Fact<u32>],
+    concepts: &Concepts,
+    roles: &RoleBox,
+) -> Result<Interp, NoMemory> {
+    let (mut tree, mut blocks) = start(alloc, 1)?;
+    filled_model(alloc, &mut tree, &mut blocks, facts, concepts, roles)
 }
 
 fn successors(alloc: Global, count: u32, role: u32, number: u32) -> Result<Concept, NoMemory> {
@@ -123,20 +148,6 @@ fn are_members(model: &Interp, members: &[(u32, u32, bool)]) -> bool {
     are_so
 }
 
-fn is_model(alloc: Global, model: &Interp, case: &Case) -> Result<bool, NoMemory> {
-    let (_, size, members, successors) = case;
-    let mut is_so = model.size() == *size && are_members(model, members);
-    for (asked, wanted) in *successors {
-        is_so &= has(alloc, model, *asked)? == *wanted;
-    }
-    Ok(is_so)
-}
-
-fn is_case(alloc: Global, roles: &RoleBox, case: &Case) -> Result<bool, NoMemory> {
-    let model = made_model(alloc, case.0, roles)?;
-    is_model(alloc, &model, case)
-}
-
 // Two nodes that one node blocks are two successors; without them the query would not be refuted.
 fn meets_axiom(alloc: Global, model: &Interp) -> Result<bool, NoMemory> {
     let axiom = Axiom::SubClassOf(class(0), successors(alloc, 2, 0, 0)?);
@@ -152,22 +163,48 @@ fn refutes_query(model: &Interp) -> bool {
     model.refutes(&query) == Some(0)
 }
 
-fn meets_and_refutes(alloc: Global, roles: &RoleBox) -> Result<bool, NoMemory> {
-    let model = made_model(alloc, TWO, roles)?;
-    Ok(meets_axiom(alloc, &model)? && refutes_query(&model))
+fn is_model(alloc: Global, model: &Interp, case: &Case) -> Result<bool, NoMemory> {
+    let (_, size, members, successors, refutes) = case;
+    let mut is_so = model.size() == *size && are_members(model, members);
+    for (asked, wanted) in *successors {
+        is_so &= has(alloc, model, *asked)? == *wanted;
+    }
+    if *refutes {
+        is_so &= meets_axiom(alloc, model)? && refutes_query(model);
+    }
+    Ok(is_so)
 }
 
-fn test_cases(rt: &impl Abort, alloc: Global, roles: &RoleBox) -> Result<(), NoMemory> {
+fn is_case(
+    alloc: Global,
+    concepts: &Concepts,
+    roles: &RoleBox,
+    case: &Case,
+) -> Result<bool, NoMemory> {
+    let model = made_model(alloc, case.0, concepts, roles)?;
+    is_model(alloc, &model, case)
+}
+
+fn test_cases(
+    rt: &impl Abort,
+    alloc: Global,
+    concepts: &Concepts,
+    roles: &RoleBox,
+) -> Result<(), NoMemory> {
     for (place, case) in CASES.iter().enumerate() {
-        assert!(rt; is_case(alloc, roles, case)?, "case {place}");
+        assert!(rt; is_case(alloc, concepts, roles, case)?, "case {place}");
     }
-    assert!(rt; meets_and_refutes(alloc, roles)?, "an axiom and a query");
     Ok(())
+}
+
+fn test_by_roles(rt: &impl Abort, alloc: Global, roles: &RoleBox) -> Result<(), NoMemory> {
+    let concepts = table(alloc, CLASSES)?;
+    test_cases(rt, alloc, &concepts, roles)
 }
 
 fn test_models(rt: &impl Abort, alloc: Global) -> Result<(), AddFault> {
     let roles = role_box(alloc, CHAIN, &[1, 2, 3])?;
-    Ok(test_cases(rt, alloc, &roles)?)
+    Ok(test_by_roles(rt, alloc, &roles)?)
 }
 
 #[test]

@@ -3,9 +3,10 @@ ghost use Rattle.std.specs.Prelude.{◌≡◌, ◌≤◌, IfOk, IsTrue, length};
 ghost use Rattle.shq_nnf.specs.Counts.{has_counts_within};
 ghost use Rattle.shq_nnf.specs.Parts.{axiom_parts, axiom_has_counts_within};
 
-use crate::small_axioms::class;
+use crate::small_axioms::{class, three_classes};
+use crate::small_tables::put;
 use shq_nnf::{Concepts, NoMemory, Part, Shape, part_count};
-use shq_terms::{Axiom, Concept, ConceptList, Node};
+use shq_terms::{Axiom, Concept, Node};
 use std::alloc::Global;
 use std::process::Abort;
 use std::test::Fail;
@@ -66,22 +67,6 @@ const SPLIT_NAMES: &[(Shape<'static>, u32)] = &[
 ];
 
 const SIDES: &[(u32, u32, u32)] = &[(2, 2, 1), (6, 2, 4), (7, 3, 4)];
-
-// Puts a shape of the kinds that these tests use. One that may not be put counts as out of memory.
-fn put(concepts: &mut Concepts, shape: Shape<'_>) -> Result<u32, NoMemory> {
-    let len = concepts.len();
-    match shape {
-        Shape::Bottom | Shape::Name(_) | Shape::NotName(_) => concepts.put(shape),
-        Shape::AllOf(_, filler) if filler < len => concepts.put(shape),
-        Shape::Min(count, _, filler) if 2 <= count && count <= 101 && filler < len => {
-            concepts.put(shape)
-        }
-        Shape::Max(count, _, filler) if 1 <= count && count <= 100 && filler < len => {
-            concepts.put(shape)
-        }
-        _ => Err(NoMemory),
-    }
-}
 
 fn complement(concepts: &mut Concepts, concept: u32) -> Result<u32, NoMemory> {
     if concept < concepts.len() {
@@ -183,10 +168,7 @@ fn split(alloc: Global) -> Result<Axiom, NoMemory>
     ensures listed { IfOk result (λ a. length (axiom_parts a) ≡ 7) }
     ensures counts { IfOk result (λ a. IsTrue (axiom_has_counts_within 100 a)) }
 {
-    let mut classes = ConceptList::new(alloc);
-    classes.push(class(0))?;
-    classes.push(class(1))?;
-    classes.push(class(2))?;
+    let classes = three_classes(alloc)?;
     Ok(Axiom::DisjointUnion(class(9), classes))
 }
 
@@ -226,17 +208,22 @@ fn have_sides(concepts: &mut Concepts, whole: &Axiom) -> Result<bool, NoMemory>
     Ok(are_so)
 }
 
+fn are_split(alloc: Global, concepts: &mut Concepts) -> Result<bool, NoMemory> {
+    let whole = split(alloc)?;
+    have_sides(concepts, &whole)
+}
+
+fn count_of(axiom: Axiom) -> u32
+    requires { length (axiom_parts «axiom») ≤ 500000 }
+{
+    part_count(&axiom)
+}
+
 fn are_parts(alloc: Global, concepts: &mut Concepts) -> Result<bool, NoMemory> {
     let are_named = are_put(concepts, SPLIT_NAMES)?;
-    let whole = split(alloc)?;
-    let are_so = have_sides(concepts, &whole);
-    drop(whole);
-    Ok(
-        are_named
-            && part_count(&Axiom::Transitive(0)) == 0
-            && part_count(&Axiom::Pair(0, 0, 1)) == 0
-            && are_so?,
-    )
+    let of_roles = count_of(Axiom::Transitive(0));
+    let of_facts = count_of(Axiom::Pair(0, 0, 1));
+    Ok(are_split(alloc, concepts)? && are_named && of_roles == 0 && of_facts == 0)
 }
 
 fn is_so_in(alloc: Global, concepts: &mut Concepts, tried: Tried) -> Result<bool, NoMemory> {

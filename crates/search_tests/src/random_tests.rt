@@ -54,21 +54,23 @@ fn facts_of(heap: Global, tree: &Tree<Global>) -> Result<Vec<Fact<u32>>, NoMemor
     Ok(facts)
 }
 
-fn check(
-    rt: &impl Abort,
-    heap: Global,
-    tree: &Tree<Global>,
-    blocks: &Blocks,
-) -> Result<(), NoMemory>
+// Whether each node has the block that it has by a plain reading.
+fn are_plain(tree: &Tree<Global>, blocks: &Blocks, facts: &[Fact<u32>]) -> bool
+    requires { IsCurrent tree.now.first (facts_in tree.now.entries) blocks.now }
+{
+    let plain = plain_blocks(facts, tree.first(), tree.nodes());
+    let mut are_so = true;
+    for node in 0..tree.nodes() {
+        are_so &= state(tree, blocks, node) == plain[node as usize % 64];
+    }
+    are_so
+}
+
+fn is_plain(heap: Global, tree: &Tree<Global>, blocks: &Blocks) -> Result<bool, NoMemory>
     requires { IsCurrent tree.now.first (facts_in tree.now.entries) blocks.now }
 {
     let facts = facts_of(heap, tree)?;
-    let plain = plain_blocks(&facts, tree.first(), tree.nodes());
-    for node in 0..tree.nodes() {
-        let is_same = state(tree, blocks, node) == plain[node as usize % 64];
-        assert!(rt; is_same, "of {node} by {facts:?}");
-    }
-    Ok(())
+    Ok(are_plain(tree, blocks, &facts))
 }
 
 fn step(tree: &mut Tree<Global>, blocks: &mut Blocks, seed: u64) -> Result<(), NoMemory>
@@ -83,20 +85,34 @@ fn step(tree: &mut Tree<Global>, blocks: &mut Blocks, seed: u64) -> Result<(), N
     put(tree, blocks, some_fact(seed, tree.nodes()))
 }
 
-fn walk(rt: &impl Abort, heap: Global, seed: u64) -> Result<(), NoMemory> {
+// A step, after which the blocks are looked at.
+fn go_on(
+    heap: Global,
+    tree: &mut Tree<Global>,
+    blocks: &mut Blocks,
+    seed: u64,
+) -> Result<bool, NoMemory>
+    requires { IsCurrent tree.old.first (facts_in tree.old.entries) blocks.old }
+    ensures { OnOk result (IsCurrent tree.new.first (facts_in tree.new.entries) blocks.new) }
+{
+    step(tree, blocks, seed)?;
+    is_plain(heap, tree, blocks)
+}
+
+fn is_walk(heap: Global, seed: u64) -> Result<bool, NoMemory> {
     let (mut tree, mut blocks) = start(heap, 1 + bits(seed, 8) % 5)?;
     let mut seed = seed;
+    let mut is_so = true;
     for _ in 0..STEPS {
         seed = next(seed);
-        step(&mut tree, &mut blocks, seed)?;
-        check(rt, heap, &tree, &blocks)?;
+        is_so &= go_on(heap, &mut tree, &mut blocks, seed)?;
     }
-    Ok(())
+    Ok(is_so)
 }
 
 fn walks(rt: &impl Abort, heap: Global) -> Result<(), NoMemory> {
     for seed in 0..WALKS {
-        walk(rt, heap, next(seed + 1))?;
+        assert!(rt; is_walk(heap, next(seed + 1))?, "walk {seed}");
     }
     Ok(())
 }

@@ -1,18 +1,10 @@
 // Roles and counted roles of small ontologies.
 
+use crate::small_tables::{Says, add, add_all, made_box};
 use role_box::{RoleBox, class_is_simple, first_not_simple, query_is_simple};
-use shq_terms::{AddFault, Axiom, Concept, NoMemory, Node, NumberList, On, Ontology, Query};
+use shq_terms::{AddFault, Concept, NoMemory, Node, On, Ontology, Query};
 use std::alloc::Global;
 use std::test::Fail;
-
-/// What an axiom says of roles.
-#[derive(Clone, Copy)]
-enum Says {
-    Below(u32, u32),
-    Same(u32, u32),
-    Transitive(u32),
-    Functional(u32),
-}
 
 /// Axioms with their lines. The axioms 1 and 2 lead from role 0 by 1 to 2, 4 and 5 are a cycle, 5 makes 2 and 3
 /// equivalent, and 6 and 7 make 1 and 3 transitive.
@@ -58,68 +50,12 @@ const KINDS: &[(u32, bool, bool)] = &[
     (9, true, false),
 ];
 
-fn add_roles(ontology: &mut Ontology, iris: &[&str]) -> Result<(), AddFault> {
-    for iri in iris {
-        ontology.add_role(iri)?;
-    }
-    Ok(())
-}
-
-fn add_same(
-    alloc: Global,
-    ontology: &mut Ontology,
-    one: u32,
-    other: u32,
-    line: u32,
-) -> Result<u32, AddFault> {
-    let mut roles = NumberList::new(alloc);
-    roles.push(one)?;
-    roles.push(other)?;
-    if one < ontology.role_count() && other < ontology.role_count() {
-        return ontology.add_axiom(Axiom::EquivalentRoles(roles), line);
-    }
-    Err(AddFault::Full)
-}
-
-// Adds an axiom whose roles are listed.
-fn add(alloc: Global, ontology: &mut Ontology, says: Says, line: u32) -> Result<u32, AddFault> {
-    let count = ontology.role_count();
-    match says {
-        Says::Below(lower, upper) if lower < count && upper < count => {
-            ontology.add_axiom(Axiom::SubRole(lower, upper), line)
-        }
-        Says::Same(one, other) => add_same(alloc, ontology, one, other, line),
-        Says::Transitive(role) if role < count => {
-            ontology.add_axiom(Axiom::Transitive(role), line)
-        }
-        Says::Functional(role) if role < count => {
-            ontology.add_axiom(Axiom::Functional(role), line)
-        }
-        _ => Err(AddFault::Full),
-    }
-}
-
-fn add_all(alloc: Global, ontology: &mut Ontology, all: &[(Says, u32)]) -> Result<(), AddFault> {
-    for (says, line) in all {
-        add(alloc, ontology, *says, *line)?;
-    }
-    Ok(())
-}
-
-fn made_box(alloc: Global, ontology: &Ontology, only: &[u32]) -> Result<RoleBox, NoMemory> {
-    let count = ontology.axiom_count();
-    if only.iter().all(|number| 1 <= *number && *number <= count) {
-        RoleBox::build(alloc, ontology, only)
-    } else {
-        Err(NoMemory)
-    }
-}
-
-fn are_chains(all: &RoleBox, some: &RoleBox) -> bool {
+// Whether these are the chains, by all axioms or by some.
+fn are_chains(roles: &RoleBox, by_all_axioms: bool) -> bool {
     let mut are_so = true;
     for (lower, upper, by_all, by_some) in CHAINS {
-        are_so &= all.below(*lower, *upper) == *by_all;
-        are_so &= some.below(*lower, *upper) == *by_some;
+        let wanted = if by_all_axioms { *by_all } else { *by_some };
+        are_so &= roles.below(*lower, *upper) == wanted;
     }
     are_so
 }
@@ -137,16 +73,26 @@ fn are_kinds(all: &RoleBox) -> bool {
     are_so
 }
 
-fn are_boxes(alloc: Global, ontology: &Ontology) -> Result<bool, NoMemory> {
+fn is_box_of_all(alloc: Global, ontology: &Ontology) -> Result<bool, NoMemory> {
     let all = made_box(alloc, ontology, &[1, 2, 3, 4, 5, 6, 7])?;
+    let are_chains = are_chains(&all, true);
+    let are_kinds = are_kinds(&all);
+    Ok(are_chains && are_kinds)
+}
+
+fn is_box_of_some(alloc: Global, ontology: &Ontology) -> Result<bool, NoMemory> {
     let some = made_box(alloc, ontology, &[1, 3, 5])?;
-    Ok(are_chains(&all, &some) && are_kinds(&all))
+    Ok(are_chains(&some, false))
 }
 
 fn answers_of_boxes(alloc: Global, ontology: &mut Ontology) -> Result<bool, AddFault> {
-    add_roles(ontology, &["a", "b", "c", "d", "e", "f", "g", "h"])?;
-    add_all(alloc, ontology, EIGHT)?;
-    Ok(are_boxes(alloc, ontology)?)
+    add_all(
+        alloc,
+        ontology,
+        &["a", "b", "c", "d", "e", "f", "g", "h"],
+        EIGHT,
+    )?;
+    Ok(is_box_of_all(alloc, ontology)? && is_box_of_some(alloc, ontology)?)
 }
 
 fn boxed(alloc: Global, node: Node) -> Result<Box<Concept>, NoMemory> {
@@ -207,8 +153,7 @@ fn are_simple(
 }
 
 fn counted_roles(alloc: Global, ontology: &mut Ontology) -> Result<bool, AddFault> {
-    add_roles(ontology, &["a", "b", "c"])?;
-    add_all(alloc, ontology, THREE)?;
+    add_all(alloc, ontology, &["a", "b", "c"], THREE)?;
     let before = are_simple(alloc, ontology, &[(2, true)], None)?;
     add(alloc, ontology, Says::Transitive(1), 2)?;
     let roles = &[(0, true), (1, false), (2, false)];

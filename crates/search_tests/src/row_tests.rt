@@ -1,60 +1,53 @@
-// Rows that were worked out by hand.
+// Rows that were worked out by hand: where they stand in a table and for what they wait, and those that a cache makes.
 ghost use Rattle.std.specs.Prelude.{◌≡◌, ◌≤◌, IfOk, OnOk, IsTrue, length};
 ghost use Rattle.shq_terms.specs.Uses.{axiom_uses_listed};
 ghost use Rattle.shq_nnf.specs.Parts.{axiom_parts, axiom_has_counts_within};
 ghost use Rattle.axiom_sets.specs.Sets.{IsWithin};
 ghost use Rattle.row_cache.specs.Rows.{AreInLimit};
 
-use crate::small_axioms::{add_classes, class};
+use crate::small_axioms::{add, add_names, class, successor_in, three_classes, two_classes};
+use crate::small_tables::table;
+use absorption::{Row, RowTable, Trigger};
 use axiom_sets::AxiomSet;
 use row_cache::{CachedRange, CachedRow, NoMemory, RowCache};
 use shq_nnf::{Concepts, Shape};
-use shq_terms::{AddFault, Axiom, Concept, ConceptList, Node, Ontology};
+use shq_terms::{AddFault, Axiom, Concept, Node, Ontology};
 use std::alloc::Global;
 use std::process::Abort;
 use std::test::Fail;
+
+// ---- the axioms
 
 // The axioms of the tests, over classes 0 to 2 and role 0.
 #[derive(Clone, Copy)]
 enum Kind {
     // What is in 0 and in 1 and has a successor in 0 is in 2.
-    Inclusion,
+    TwoNames,
+    // What is in 0 is in 2.
+    OneName,
+    // What has a successor in 0 is in 2.
+    Edge,
     // No two of the classes have a common element.
     Disjoint,
     // What has a successor is in 2.
     Domain,
     // What is a successor is in 2.
     Range,
+    // Nothing has two successors.
+    Functional,
 }
 
-fn inclusion(alloc: Global) -> Result<Axiom, NoMemory>
+fn two_names(alloc: Global) -> Result<Axiom, NoMemory>
     ensures uses { IfOk result (λ a. IsTrue (axiom_uses_listed 3 1 0 a)) }
     ensures counts { IfOk result (λ a. IsTrue (axiom_has_counts_within 100 a)) }
     ensures parts { IfOk result (λ a. length (axiom_parts a) ≡ 1) }
 {
-    let mut parts = Vec::new(alloc);
-    parts.push(class(0))?;
-    parts.push(class(1))?;
-    let filler = Box::new(alloc, class(0))?;
-    parts.push(Concept {
-        node: Node::SomeOf(0, filler),
-    })?;
+    let mut parts = two_classes(alloc)?;
+    parts.push(successor_in(alloc, 0, 0)?)?;
     let sub = Concept {
         node: Node::And(parts),
     };
     Ok(Axiom::SubClassOf(sub, class(2)))
-}
-
-fn disjoint(alloc: Global) -> Result<Axiom, NoMemory>
-    ensures uses { IfOk result (λ a. IsTrue (axiom_uses_listed 3 1 0 a)) }
-    ensures counts { IfOk result (λ a. IsTrue (axiom_has_counts_within 100 a)) }
-    ensures parts { IfOk result (λ a. length (axiom_parts a) ≡ 3) }
-{
-    let mut classes = ConceptList::new(alloc);
-    classes.push(class(0))?;
-    classes.push(class(1))?;
-    classes.push(class(2))?;
-    Ok(Axiom::DisjointClasses(classes))
 }
 
 fn axiom_of(alloc: Global, kind: Kind) -> Result<Axiom, NoMemory>
@@ -63,60 +56,38 @@ fn axiom_of(alloc: Global, kind: Kind) -> Result<Axiom, NoMemory>
     ensures parts { IfOk result (λ a. length (axiom_parts a) ≤ 500000) }
 {
     match kind {
-        Kind::Inclusion => inclusion(alloc),
-        Kind::Disjoint => disjoint(alloc),
+        Kind::TwoNames => two_names(alloc),
+        Kind::OneName => Ok(Axiom::SubClassOf(class(0), class(2))),
+        Kind::Edge => Ok(Axiom::SubClassOf(successor_in(alloc, 0, 0)?, class(2))),
+        Kind::Disjoint => Ok(Axiom::DisjointClasses(three_classes(alloc)?)),
         Kind::Domain => Ok(Axiom::Domain(0, class(2))),
         Kind::Range => Ok(Axiom::Range(0, class(2))),
+        Kind::Functional => Ok(Axiom::Functional(0)),
     }
 }
 
-fn add_first(ontology: &mut Ontology, axiom: Axiom) -> Result<(), AddFault>
-    requires classes { length ontology.old.classes ≡ 3 }
-    requires roles { length ontology.old.roles ≡ 1 }
-    requires individuals { length ontology.old.individuals ≡ 0 }
-    requires axioms { length ontology.old.axioms ≡ 0 }
-    requires uses { IsTrue (axiom_uses_listed 3 1 0 «axiom») }
-    requires counts { IsTrue (axiom_has_counts_within 100 «axiom») }
-    requires parts { length (axiom_parts «axiom») ≤ 500000 }
+// The names of the tests, and these axioms, in an ontology without any.
+fn fill(alloc: Global, ontology: &mut Ontology, kinds: &[Kind]) -> Result<(), AddFault>
     ensures { OnOk result (AreInLimit ontology.new.axioms) }
 {
-    ontology.add_axiom(axiom, 1)?;
-    Ok(())
-}
-
-// Whether three classes and a role are listed, no individual, and no axiom.
-fn has_names_alone(ontology: &Ontology) -> bool
-    ensures classes { IsTrue result → length ontology.now.classes ≡ 3 }
-    ensures roles { IsTrue result → length ontology.now.roles ≡ 1 }
-    ensures individuals { IsTrue result → length ontology.now.individuals ≡ 0 }
-    ensures axioms { IsTrue result → length ontology.now.axioms ≡ 0 }
-{
-    ontology.class_count() == 3
-        && ontology.role_count() == 1
-        && ontology.individual_count() == 0
-        && ontology.axiom_count() == 0
-}
-
-// The names of the tests, and the axiom.
-fn fill(alloc: Global, ontology: &mut Ontology, kind: Kind) -> Result<(), AddFault>
-    ensures { OnOk result (AreInLimit ontology.new.axioms) }
-{
-    add_classes(ontology, &["A", "B", "C"])?;
-    ontology.add_role("r")?;
-    if !has_names_alone(ontology) {
+    add_names(ontology, &["A", "B", "C"], &["r"], &[])?;
+    if ontology.axiom_count() != 0 {
         return Err(AddFault::Full);
     }
-    let axiom = axiom_of(alloc, kind)?;
-    add_first(ontology, axiom)
+    for kind in kinds {
+        let axiom = axiom_of(alloc, *kind)?;
+        add(ontology, 3, 1, 0, axiom)?;
+    }
+    Ok(())
 }
 
 // All axioms of the ontology, or none.
 #[tactic(auto, using(crate::proofs::Limits::within_count))]
-fn named_of(alloc: Global, ontology: &Ontology, named: bool) -> Result<AxiomSet, NoMemory>
+fn named_of(alloc: Global, ontology: &Ontology, are_named: bool) -> Result<AxiomSet, NoMemory>
     ensures { IfOk result (λ s. IsWithin (length ontology.now.axioms) s.members) }
 {
     let count = ontology.axiom_count();
-    let set = if named {
+    let set = if are_named {
         AxiomSet::full(alloc, count)?
     } else {
         AxiomSet::empty(alloc, count)?
@@ -125,217 +96,499 @@ fn named_of(alloc: Global, ontology: &Ontology, named: bool) -> Result<AxiomSet,
     Ok(set)
 }
 
-// Puts a shape of the kinds that these tests use. One that may not be put counts as out of memory.
-fn put(concepts: &mut Concepts, shape: Shape<'_>) -> Result<u32, NoMemory> {
-    match shape {
-        Shape::Name(_) | Shape::NotName(_) => concepts.put(shape),
-        Shape::SomeOf(_, filler) | Shape::AllOf(_, filler) if filler < concepts.len() => {
-            concepts.put(shape)
+/// The shapes that the rows of the tests are made of, with the numbers from 1 on.
+const SHAPES: &[Shape<'static>] = &[
+    Shape::Name(0),
+    Shape::Name(1),
+    Shape::SomeOf(0, 1),
+    Shape::Name(2),
+    Shape::NotName(0),
+    Shape::NotName(1),
+    Shape::AllOf(0, 5),
+    Shape::NotName(2),
+];
+
+/// The same, and two more for rows of edges.
+const SHAPES_OF_EDGES: &[Shape<'static>] = &[
+    Shape::Name(0),
+    Shape::Name(1),
+    Shape::SomeOf(0, 1),
+    Shape::Name(2),
+    Shape::NotName(0),
+    Shape::NotName(1),
+    Shape::AllOf(0, 5),
+    Shape::NotName(2),
+    Shape::Bottom,
+    Shape::AllOf(0, 9),
+];
+
+// ---- rows that stand in a table
+
+// A place of a table.
+#[derive(Clone, Copy)]
+enum Place {
+    Class(u32),
+    Role(u32),
+    Neither,
+}
+
+// What a row is to wait for, with the numbers of the names.
+#[derive(Clone, Copy)]
+enum Waits<'a> {
+    Nothing,
+    Names(&'a [u32], &'a [u32]),
+    Edge(u32),
+    End(u32),
+}
+
+fn rows_at(table: &RowTable, place: Place) -> &[Row] {
+    match place {
+        Place::Class(class) => table.by_name(class),
+        Place::Role(role) => table.by_role(role),
+        Place::Neither => table.general(),
+    }
+}
+
+fn waits_for(row: &Row, wanted: Waits<'_>) -> bool {
+    match (&row.trigger, wanted) {
+        (Trigger::Always, Waits::Nothing) => row.premises.items().is_empty(),
+        (Trigger::Names(positions), Waits::Names(places, numbers)) => {
+            positions.items() == places && row.premises.items() == numbers
         }
-        _ => Err(NoMemory),
+        (Trigger::Edge(role), Waits::Edge(wanted)) => *role == wanted,
+        (Trigger::End(role), Waits::End(wanted)) => *role == wanted,
+        _ => false,
     }
 }
 
-fn put_each(concepts: &mut Concepts, shapes: &[Shape<'_>]) -> Result<(), NoMemory> {
-    for shape in shapes {
-        put(concepts, *shape)?;
+fn has_shape(concepts: &Concepts, row: &Row, shape: Shape<'_>) -> bool {
+    row.concept < concepts.len() && concepts.shape(row.concept) == shape
+}
+
+// Whether these are the numbers of the rows' axioms and parts.
+fn are_rows(rows: &[Row], wanted: &[(u32, u32)]) -> bool {
+    let mut right = rows.len() == wanted.len();
+    for (row, numbers) in rows.iter().zip(wanted) {
+        right = right && row.axiom == numbers.0 && row.part == numbers.1;
     }
-    Ok(())
+    right
 }
 
-// The shapes that the rows of the tests are made of, with the numbers 1 to 8.
-fn put_shapes(concepts: &mut Concepts) -> Result<(), NoMemory> {
-    put_each(
-        concepts,
-        &[
-            Shape::Name(0),
-            Shape::Name(1),
-            Shape::SomeOf(0, 1),
-            Shape::Name(2),
-            Shape::NotName(0),
-            Shape::NotName(1),
-            Shape::AllOf(0, 5),
-            Shape::NotName(2),
-        ],
-    )
+fn last_is(concepts: &Concepts, rows: &[Row], wanted: Option<(Waits<'_>, Shape<'_>)>) -> bool {
+    match (rows.last(), wanted) {
+        (Some(row), Some((waits, shape))) => {
+            waits_for(row, waits) && has_shape(concepts, row, shape)
+        }
+        (None, None) => true,
+        _ => false,
+    }
 }
 
-fn table(alloc: Global) -> Result<Concepts, NoMemory> {
-    let mut concepts = Concepts::new(alloc)?;
-    put_shapes(&mut concepts)?;
-    Ok(concepts)
+// A place, the numbers of the axioms and parts of its rows, and for what the last of them waits and its concept.
+type Standing = (
+    Place,
+    &'static [(u32, u32)],
+    Option<(Waits<'static>, Shape<'static>)>,
+);
+
+// Whether the rows at the place are these, and the last waits as wanted and has this concept.
+fn has_rows(table: &RowTable, concepts: &Concepts, standing: &Standing) -> bool {
+    let (place, numbers, wanted) = standing;
+    let rows = rows_at(table, *place);
+    are_rows(rows, numbers) && last_is(concepts, rows, *wanted)
 }
 
-// The row as text: its premises and its concept's shape.
-fn told_row(
+fn has_rows_in(
     alloc: Global,
-    concepts: &Concepts,
-    row: &Option<CachedRow>,
-) -> Result<String, NoMemory> {
-    match row {
-        Some(row) if row.concept < concepts.len() => {
-            let premises = row.premises.items();
-            let shape = concepts.shape(row.concept);
-            Ok(format!(in alloc; "{premises:?} {shape:?}")?)
+    ontology: &Ontology,
+    set: &AxiomSet,
+    concepts: &mut Concepts,
+    standing: &Standing,
+) -> Result<bool, NoMemory>
+    requires within { AreInLimit ontology.now.axioms }
+    requires numbers { IsWithin (length ontology.now.axioms) set.now.members }
+{
+    let table = RowTable::build(alloc, ontology, set, concepts)?;
+    Ok(has_rows(&table, concepts, standing))
+}
+
+fn stand_so(
+    alloc: Global,
+    ontology: &Ontology,
+    set: &AxiomSet,
+    standing: &Standing,
+) -> Result<bool, NoMemory>
+    requires within { AreInLimit ontology.now.axioms }
+    requires numbers { IsWithin (length ontology.now.axioms) set.now.members }
+{
+    let mut concepts = table(alloc, SHAPES_OF_EDGES)?;
+    has_rows_in(alloc, ontology, set, &mut concepts, standing)
+}
+
+// ---- rows that a cache makes
+
+/// What a cache tells.
+#[derive(Clone, Copy)]
+enum Told {
+    Nothing,
+    /// The premises by number, and the shape of the concept.
+    Row(&'static [u32], Shape<'static>),
+    /// The role, and the concept by number.
+    Range(u32, u32),
+}
+
+fn is_row(concepts: &Concepts, row: &Option<CachedRow>, told: Told) -> bool {
+    match (row, told) {
+        (Some(row), Told::Row(premises, shape)) => {
+            row.premises.items() == premises
+                && row.concept < concepts.len()
+                && concepts.shape(row.concept) == shape
         }
-        Some(_) => Ok(String::from_str(alloc, "a concept of no table")?),
-        None => Ok(String::new(alloc)),
+        (None, Told::Nothing) => true,
+        _ => false,
     }
 }
 
-// The row of a range as text: its role and its concept's number.
-fn told_range(alloc: Global, row: Option<CachedRange>) -> Result<String, NoMemory> {
-    match row {
-        Some(CachedRange { role, concept }) => Ok(format!(in alloc; "{role} {concept}")?),
-        None => Ok(String::new(alloc)),
+fn is_range(row: Option<CachedRange>, told: Told) -> bool {
+    match (row, told) {
+        (Some(CachedRange { role, concept }), Told::Range(wanted, number)) => {
+            role == wanted && concept == number
+        }
+        (None, Told::Nothing) => true,
+        _ => false,
     }
 }
 
 // The number of an axiom and that of a part, or none for the row of a range; the positions of the premises; and what
-// is told, which is nothing where there is no row.
-type Case = (u32, Option<u32>, &'static [u32], &'static str);
+// is told.
+type Case = (u32, Option<u32>, &'static [u32], Told);
 
-fn told(alloc: Global, rows: &mut RowCache<'_>, case: &Case) -> Result<String, NoMemory> {
-    let (number, part, positions, _) = case;
+fn is_told(rows: &mut RowCache<'_>, case: &Case) -> Result<bool, NoMemory> {
+    let (number, part, positions, told) = case;
     match part {
         Some(part) => {
             let row = rows.inclusion_row(*number, *part, positions)?;
-            told_row(alloc, rows.concepts(), &row)
+            Ok(is_row(rows.concepts(), &row, *told))
         }
-        None => told_range(alloc, rows.range_row(*number)?),
+        None => Ok(is_range(rows.range_row(*number)?, *told)),
     }
 }
 
-fn is_told(alloc: Global, rows: &mut RowCache<'_>, case: &Case) -> Result<bool, NoMemory> {
-    let told = told(alloc, rows, case)?;
-    Ok(told.as_str() == case.3)
-}
-
-fn check_rows(
-    rt: &impl Abort,
-    alloc: Global,
-    rows: &mut RowCache<'_>,
-    cases: &[Case],
-) -> Result<(), NoMemory> {
+fn are_told(rows: &mut RowCache<'_>, cases: &[Case]) -> Result<bool, NoMemory> {
+    let mut are_so = true;
     for case in cases {
-        assert!(rt; is_told(alloc, rows, case)?, "{case:?}");
+        are_so &= is_told(rows, case)?;
     }
-    Ok(())
+    Ok(are_so)
 }
 
-// Asks one table for rows in turn.
-fn check_table(
-    rt: &impl Abort,
+// Asks one cache for rows in turn.
+fn tells_so(
     alloc: Global,
     ontology: &Ontology,
     named: &AxiomSet,
     cases: &[Case],
-) -> Result<(), NoMemory>
+) -> Result<bool, NoMemory>
     requires within { AreInLimit ontology.now.axioms }
     requires numbers { IsWithin (length ontology.now.axioms) named.now.members }
 {
-    let mut rows = RowCache::new(alloc, ontology, named, table(alloc)?);
-    check_rows(rt, alloc, &mut rows, cases)
+    let mut rows = RowCache::new(alloc, ontology, named, table(alloc, SHAPES)?);
+    are_told(&mut rows, cases)
 }
 
-// The same of an ontology, which gets one axiom that the set of the rows names or does not.
-fn check_filled(
-    rt: &impl Abort,
-    alloc: Global,
-    ontology: &mut Ontology,
-    kind: Kind,
-    is_named: bool,
-    cases: &[Case],
-) -> Result<(), AddFault> {
-    fill(alloc, ontology, kind)?;
-    let named = named_of(alloc, ontology, is_named)?;
-    check_table(rt, alloc, ontology, &named, cases)?;
-    Ok(())
+// ---- ontologies
+
+/// What is wanted of the axioms of an ontology: rows that stand in a table, or what one cache tells in turn.
+#[derive(Clone, Copy)]
+enum Wanted {
+    Stands(Standing),
+    Told(&'static [Case]),
 }
 
-fn check(
-    rt: &impl Abort,
-    alloc: Global,
-    kind: Kind,
-    is_named: bool,
-    cases: &[Case],
-) -> Result<(), AddFault> {
-    let mut ontology = Ontology::new(alloc);
-    check_filled(rt, alloc, &mut ontology, kind, is_named, cases)
-}
+/// Axioms, whether the set of the rows names them, and what is wanted.
+type Trial = (&'static [Kind], bool, Wanted);
 
-/// An axiom, whether the set of the rows names it, and what one table is asked in turn.
-type Table = (Kind, bool, &'static [Case]);
-
-const TABLES: &[Table] = &[
+const TRIALS: &[Trial] = &[
+    (
+        &[Kind::TwoNames],
+        true,
+        Wanted::Stands((
+            Place::Class(0),
+            &[(1, 1)],
+            Some((Waits::Names(&[1, 2], &[1, 2]), Shape::Or(&[7, 4]))),
+        )),
+    ),
+    (
+        &[Kind::TwoNames],
+        true,
+        Wanted::Stands((Place::Class(1), &[], None)),
+    ),
+    (
+        &[Kind::TwoNames],
+        true,
+        Wanted::Stands((Place::Role(0), &[], None)),
+    ),
+    (
+        &[Kind::TwoNames],
+        true,
+        Wanted::Stands((Place::Neither, &[], None)),
+    ),
+    (
+        &[Kind::OneName, Kind::TwoNames],
+        true,
+        Wanted::Stands((
+            Place::Class(1),
+            &[(2, 1)],
+            Some((Waits::Names(&[1, 2], &[1, 2]), Shape::Or(&[7, 4]))),
+        )),
+    ),
+    (
+        &[Kind::OneName, Kind::TwoNames],
+        true,
+        Wanted::Stands((
+            Place::Class(0),
+            &[(1, 1)],
+            Some((Waits::Names(&[1], &[1]), Shape::Name(2))),
+        )),
+    ),
+    (
+        &[Kind::Edge],
+        true,
+        Wanted::Stands((
+            Place::Role(0),
+            &[(1, 1)],
+            Some((Waits::Edge(0), Shape::Or(&[7, 4]))),
+        )),
+    ),
+    (
+        &[Kind::Edge, Kind::Domain],
+        true,
+        Wanted::Stands((
+            Place::Role(0),
+            &[(1, 1), (2, 1)],
+            Some((Waits::Edge(0), Shape::Or(&[10, 4]))),
+        )),
+    ),
+    (
+        &[Kind::Domain, Kind::Range],
+        true,
+        Wanted::Stands((
+            Place::Role(0),
+            &[(1, 1), (2, 1)],
+            Some((Waits::End(0), Shape::Name(2))),
+        )),
+    ),
+    (
+        &[Kind::Range],
+        true,
+        Wanted::Stands((Place::Role(1), &[], None)),
+    ),
+    (
+        &[Kind::Disjoint],
+        true,
+        Wanted::Stands((
+            Place::Class(0),
+            &[(1, 1), (1, 2)],
+            Some((Waits::Names(&[1], &[1]), Shape::NotName(2))),
+        )),
+    ),
+    (
+        &[Kind::Disjoint],
+        true,
+        Wanted::Stands((
+            Place::Class(1),
+            &[(1, 3)],
+            Some((Waits::Names(&[1], &[2]), Shape::NotName(2))),
+        )),
+    ),
+    (
+        &[Kind::Disjoint],
+        true,
+        Wanted::Stands((Place::Class(2), &[], None)),
+    ),
+    (
+        &[Kind::Range, Kind::Functional],
+        true,
+        Wanted::Stands((
+            Place::Neither,
+            &[(2, 1)],
+            Some((Waits::Nothing, Shape::Max(1, 0, 0))),
+        )),
+    ),
+    (&[], true, Wanted::Stands((Place::Neither, &[], None))),
     // Axioms without rows.
-    (Kind::Inclusion, false, &[(1, Some(1), &[], "")]),
-    (Kind::Range, true, &[(1, Some(1), &[], "")]),
+    (
+        &[Kind::TwoNames],
+        false,
+        Wanted::Told(&[(1, Some(1), &[], Told::Nothing)]),
+    ),
+    (
+        &[Kind::Range],
+        true,
+        Wanted::Told(&[(1, Some(1), &[], Told::Nothing)]),
+    ),
     // The rows of two parts in turn, for the same positions and for others.
     (
-        Kind::Disjoint,
+        &[Kind::Disjoint],
         true,
-        &[
-            (1, Some(3), &[1], "[2] NotName(2)"),
-            (1, Some(3), &[], "[] Or([6, 8])"),
-            (1, Some(2), &[], "[] Or([5, 8])"),
-            (1, Some(3), &[], "[] Or([6, 8])"),
-            (1, Some(3), &[2], ""),
-            (1, Some(3), &[1], "[2] NotName(2)"),
-            (1, Some(2), &[1], "[1] NotName(2)"),
-        ],
+        Wanted::Told(&[
+            (1, Some(3), &[1], Told::Row(&[2], Shape::NotName(2))),
+            (1, Some(3), &[], Told::Row(&[], Shape::Or(&[6, 8]))),
+            (1, Some(2), &[], Told::Row(&[], Shape::Or(&[5, 8]))),
+            (1, Some(3), &[], Told::Row(&[], Shape::Or(&[6, 8]))),
+            (1, Some(3), &[2], Told::Nothing),
+            (1, Some(3), &[1], Told::Row(&[2], Shape::NotName(2))),
+            (1, Some(2), &[1], Told::Row(&[1], Shape::NotName(2))),
+        ]),
     ),
     // Rows of ranges, the first time and the second time.
     (
-        Kind::Range,
+        &[Kind::Range],
         true,
-        &[(1, None, &[], "0 4"), (1, None, &[], "0 4")],
+        Wanted::Told(&[
+            (1, None, &[], Told::Range(0, 4)),
+            (1, None, &[], Told::Range(0, 4)),
+        ]),
     ),
     (
-        Kind::Range,
+        &[Kind::Range],
         false,
-        &[(1, None, &[], ""), (1, None, &[], "")],
+        Wanted::Told(&[(1, None, &[], Told::Nothing), (1, None, &[], Told::Nothing)]),
     ),
-    (Kind::Range, true, &[(0, None, &[], ""), (0, None, &[], "")]),
-    (Kind::Range, true, &[(2, None, &[], ""), (2, None, &[], "")]),
     (
-        Kind::Domain,
+        &[Kind::Range],
         true,
-        &[(1, None, &[], ""), (1, None, &[], "")],
+        Wanted::Told(&[(0, None, &[], Told::Nothing), (0, None, &[], Told::Nothing)]),
+    ),
+    (
+        &[Kind::Range],
+        true,
+        Wanted::Told(&[(2, None, &[], Told::Nothing), (2, None, &[], Told::Nothing)]),
+    ),
+    (
+        &[Kind::Domain],
+        true,
+        Wanted::Told(&[(1, None, &[], Told::Nothing), (1, None, &[], Told::Nothing)]),
+    ),
+    // Rows of which each is the first that a cache is asked for.
+    (
+        &[Kind::TwoNames],
+        true,
+        Wanted::Told(&[(1, Some(1), &[], Told::Row(&[], Shape::Or(&[5, 6, 7, 4])))]),
+    ),
+    (
+        &[Kind::TwoNames],
+        true,
+        Wanted::Told(&[(1, Some(1), &[1], Told::Row(&[1], Shape::Or(&[6, 7, 4])))]),
+    ),
+    (
+        &[Kind::TwoNames],
+        true,
+        Wanted::Told(&[(1, Some(1), &[2], Told::Row(&[2], Shape::Or(&[5, 7, 4])))]),
+    ),
+    (
+        &[Kind::TwoNames],
+        true,
+        Wanted::Told(&[(1, Some(1), &[1, 2], Told::Row(&[1, 2], Shape::Or(&[7, 4])))]),
+    ),
+    (
+        &[Kind::TwoNames],
+        true,
+        Wanted::Told(&[(1, Some(1), &[2, 1], Told::Nothing)]),
+    ),
+    (
+        &[Kind::TwoNames],
+        true,
+        Wanted::Told(&[(1, Some(1), &[1, 1], Told::Nothing)]),
+    ),
+    (
+        &[Kind::TwoNames],
+        true,
+        Wanted::Told(&[(1, Some(1), &[0], Told::Nothing)]),
+    ),
+    (
+        &[Kind::TwoNames],
+        true,
+        Wanted::Told(&[(1, Some(1), &[3], Told::Nothing)]),
+    ),
+    (
+        &[Kind::TwoNames],
+        true,
+        Wanted::Told(&[(1, Some(1), &[4], Told::Nothing)]),
+    ),
+    (
+        &[Kind::TwoNames],
+        true,
+        Wanted::Told(&[(1, Some(0), &[], Told::Nothing)]),
+    ),
+    (
+        &[Kind::TwoNames],
+        true,
+        Wanted::Told(&[(1, Some(2), &[], Told::Nothing)]),
+    ),
+    (
+        &[Kind::TwoNames],
+        true,
+        Wanted::Told(&[(0, Some(1), &[], Told::Nothing)]),
+    ),
+    (
+        &[Kind::TwoNames],
+        true,
+        Wanted::Told(&[(2, Some(1), &[], Told::Nothing)]),
+    ),
+    (
+        &[Kind::Disjoint],
+        true,
+        Wanted::Told(&[(1, Some(2), &[], Told::Row(&[], Shape::Or(&[5, 8])))]),
+    ),
+    (
+        &[Kind::Disjoint],
+        true,
+        Wanted::Told(&[(1, Some(3), &[1], Told::Row(&[2], Shape::NotName(2)))]),
     ),
 ];
 
-/// Rows of which each is asked of a table of its own.
-const FIRST: &[(Kind, Case)] = &[
-    (Kind::Inclusion, (1, Some(1), &[], "[] Or([5, 6, 7, 4])")),
-    (Kind::Inclusion, (1, Some(1), &[1], "[1] Or([6, 7, 4])")),
-    (Kind::Inclusion, (1, Some(1), &[2], "[2] Or([5, 7, 4])")),
-    (Kind::Inclusion, (1, Some(1), &[1, 2], "[1, 2] Or([7, 4])")),
-    (Kind::Inclusion, (1, Some(1), &[2, 1], "")),
-    (Kind::Inclusion, (1, Some(1), &[1, 1], "")),
-    (Kind::Inclusion, (1, Some(1), &[0], "")),
-    (Kind::Inclusion, (1, Some(1), &[3], "")),
-    (Kind::Inclusion, (1, Some(1), &[4], "")),
-    (Kind::Inclusion, (1, Some(0), &[], "")),
-    (Kind::Inclusion, (1, Some(2), &[], "")),
-    (Kind::Inclusion, (0, Some(1), &[], "")),
-    (Kind::Inclusion, (2, Some(1), &[], "")),
-    (Kind::Disjoint, (1, Some(2), &[], "[] Or([5, 8])")),
-    (Kind::Disjoint, (1, Some(3), &[1], "[2] NotName(2)")),
-];
-
-fn check_all(rt: &impl Abort, alloc: Global) -> Result<(), AddFault> {
-    for (kind, is_named, cases) in TABLES {
-        check(rt, alloc, *kind, *is_named, cases)?;
+fn is_so_by(
+    alloc: Global,
+    ontology: &Ontology,
+    named: &AxiomSet,
+    wanted: Wanted,
+) -> Result<bool, NoMemory>
+    requires within { AreInLimit ontology.now.axioms }
+    requires numbers { IsWithin (length ontology.now.axioms) named.now.members }
+{
+    match wanted {
+        Wanted::Stands(standing) => stand_so(alloc, ontology, named, &standing),
+        Wanted::Told(cases) => tells_so(alloc, ontology, named, cases),
     }
-    for (kind, case) in FIRST {
-        check(rt, alloc, *kind, true, &[*case])?;
+}
+
+fn is_so_of(alloc: Global, ontology: &Ontology, trial: &Trial) -> Result<bool, NoMemory>
+    requires { AreInLimit ontology.now.axioms }
+{
+    let named = named_of(alloc, ontology, trial.1)?;
+    is_so_by(alloc, ontology, &named, trial.2)
+}
+
+fn is_so_in(alloc: Global, ontology: &mut Ontology, trial: &Trial) -> Result<bool, AddFault> {
+    fill(alloc, ontology, trial.0)?;
+    Ok(is_so_of(alloc, ontology, trial)?)
+}
+
+fn is_so(alloc: Global, trial: &Trial) -> Result<bool, AddFault> {
+    let mut ontology = Ontology::new(alloc);
+    is_so_in(alloc, &mut ontology, trial)
+}
+
+fn try_each(rt: &impl Abort, alloc: Global) -> Result<(), AddFault> {
+    for (place, trial) in TRIALS.iter().enumerate() {
+        assert!(rt; is_so(alloc, trial)?, "trial {place}");
     }
     Ok(())
 }
 
 #[test]
 fn rows_of_axioms(rt: HostRuntime) -> Result<(), Fail> {
-    check_all(&rt, rt.alloc())?;
+    try_each(&rt, rt.alloc())?;
     Ok(())
 }

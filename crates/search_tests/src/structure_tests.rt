@@ -1,10 +1,11 @@
 // A structure of four elements, worked out by hand.
 
+use crate::small_axioms::successor_in;
 use crate::small_tables::{CHAIN, role_box};
 use finite_model::Interp;
 use model_builder::{Edge, Member, interpretation};
 use role_box::RoleBox;
-use shq_terms::{AddFault, Concept, NoMemory, Node};
+use shq_terms::{AddFault, NoMemory};
 use std::alloc::Global;
 use std::process::Abort;
 use std::test::Fail;
@@ -100,52 +101,40 @@ fn whole_model(alloc: Global) -> Result<Interp, AddFault> {
     Ok(made_model(alloc, MEMBERS, EDGES, &roles, PLACES)?)
 }
 
-fn some(alloc: Global, role: u32, class: u32) -> Result<Concept, NoMemory> {
-    let node = Node::Name(class);
-    let end = Box::new(alloc, Concept { node })?;
-    let node = Node::SomeOf(role, end);
-    Ok(Concept { node })
-}
-
 fn leads(alloc: Global, model: &Interp, role: u32, x: u32, y: u32) -> Result<bool, NoMemory> {
-    let some = some(alloc, role, y)?;
+    let some = successor_in(alloc, role, y)?;
     Ok(x < model.size() && model.holds(&some, x))
 }
 
-fn test_leads(rt: &impl Abort, alloc: Global, model: &Interp) -> Result<(), NoMemory> {
+fn has_edges(alloc: Global, model: &Interp) -> Result<bool, NoMemory> {
+    let mut are_so = true;
     for (role, x, y, wanted) in LEADS {
-        assert!(rt;
-            leads(alloc, model, *role, *x, *y)? == *wanted,
-            "{role} from {x} to {y}"
-        );
+        are_so &= leads(alloc, model, *role, *x, *y)? == *wanted;
     }
+    Ok(are_so)
+}
+
+fn has_places(model: &Interp) -> bool {
+    let mut are_so = true;
+    for (individual, wanted) in INDIVIDUALS {
+        are_so &= model.individual(*individual) == *wanted;
+    }
+    are_so
+}
+
+fn check_structure(rt: &impl Abort, alloc: Global, model: &Interp) -> Result<(), NoMemory> {
+    assert!(rt; has_edges(alloc, model)?, "edges and chains");
+    assert!(rt; has_places(model), "individuals");
     Ok(())
 }
 
 fn test_model(rt: &impl Abort, alloc: Global) -> Result<(), AddFault> {
     let model = whole_model(alloc)?;
-    Ok(test_leads(rt, alloc, &model)?)
-}
-
-fn test_places(rt: &impl Abort, alloc: Global) -> Result<(), AddFault> {
-    let model = whole_model(alloc)?;
-    for (individual, wanted) in INDIVIDUALS {
-        assert!(rt;
-            model.individual(*individual) == *wanted,
-            "individual {individual}"
-        );
-    }
-    Ok(())
+    Ok(check_structure(rt, alloc, &model)?)
 }
 
 #[test]
-fn roles_have_edges_and_chains(rt: HostRuntime) -> Result<(), Fail> {
+fn roles_have_edges_and_chains_and_individuals_places(rt: HostRuntime) -> Result<(), Fail> {
     test_model(&rt, rt.alloc())?;
-    Ok(())
-}
-
-#[test]
-fn individuals_are_at_their_places(rt: HostRuntime) -> Result<(), Fail> {
-    test_places(&rt, rt.alloc())?;
     Ok(())
 }

@@ -47,29 +47,14 @@ fn clash_by_inner(trace: &mut Trace, alloc: Global) -> Result<Option<u32>, NoMem
     clash(trace, alloc, Line::Clash(2, 1), &inner)
 }
 
-fn clash_by_nothing(trace: &mut Trace, alloc: Global) -> Result<Option<u32>, NoMemory> {
-    let none = Deps::none();
-    clash(trace, alloc, Line::Bottom(0), &none)
-}
-
 // The inner branching turns, and is closed as a whole, which rests on the outer one. That turns, and its second
 // alternative is closed without it: so it is taken out, with all that its first one said.
 fn goes_back(trace: &mut Trace, alloc: Global) -> Result<bool, NoMemory> {
     let is_inner = clash_in_both(trace, alloc)? == Some(1);
     let is_outer = clash_by_inner(trace, alloc)? == Some(0) && trace.next_number() == 4;
-    let is_closed = clash_by_nothing(trace, alloc)? == None && trace.open_count() == 0;
+    let last = clash(trace, alloc, Line::Bottom(0), &Deps::none())?;
+    let is_closed = last == None && trace.open_count() == 0;
     Ok(is_inner && is_outer && is_closed)
-}
-
-fn is_bottom(lines: &[Line]) -> bool {
-    matches!(lines, [Line::Start, Line::Bottom(0)])
-}
-
-fn is_turned_back(alloc: Global) -> Result<bool, NoMemory> {
-    let mut trace = Trace::new(alloc);
-    let is_so = goes_back(&mut trace, alloc)?;
-    let lines = trace.into_lines(alloc)?;
-    Ok(is_so && is_bottom(&lines))
 }
 
 // A branching that is taken out, with the one of the lines behind it that rests on it.
@@ -80,23 +65,51 @@ fn put_stripped(trace: &mut Trace, alloc: Global) -> Result<bool, NoMemory> {
     Ok(clash(trace, alloc, Line::Clash(1, 2), &Deps::none())? == None)
 }
 
-fn is_stripped(alloc: Global) -> Result<bool, NoMemory> {
-    let mut trace = Trace::new(alloc);
-    let is_closed = put_stripped(&mut trace, alloc)?;
-    let lines = trace.into_lines(alloc)?;
-    Ok(is_closed && are_left(&lines))
+/// A walk of the tests.
+#[derive(Clone, Copy)]
+enum Walk {
+    /// Two branchings.
+    Back,
+    /// One that is taken out.
+    Stripped,
 }
 
-fn are_left(lines: &[Line]) -> bool {
-    matches!(
-        lines,
-        [Line::Start, Line::SomeOf(0, 1, 4), Line::Clash(1, 2)]
-    )
+fn are_left(lines: &[Line], walk: Walk) -> bool {
+    match walk {
+        Walk::Back => matches!(lines, [Line::Start, Line::Bottom(0)]),
+        Walk::Stripped => matches!(
+            lines,
+            [Line::Start, Line::SomeOf(0, 1, 4), Line::Clash(1, 2)]
+        ),
+    }
+}
+
+fn go(trace: &mut Trace, alloc: Global, walk: Walk) -> Result<bool, NoMemory> {
+    match walk {
+        Walk::Back => goes_back(trace, alloc),
+        Walk::Stripped => put_stripped(trace, alloc),
+    }
+}
+
+// Whether the walk goes as it should, and the lines that it leaves.
+fn gone(alloc: Global, walk: Walk) -> Result<(bool, Vec<Line>), NoMemory> {
+    let mut trace = Trace::new(alloc);
+    let is_so = go(&mut trace, alloc, walk)?;
+    Ok((is_so, trace.into_lines(alloc)?))
+}
+
+fn is_walk(alloc: Global, walk: Walk) -> Result<bool, NoMemory> {
+    let (is_so, lines) = gone(alloc, walk)?;
+    let are_left = are_left(&lines, walk);
+    Ok(is_so && are_left)
 }
 
 #[test]
 fn branchings_turn_close_and_are_taken_out(rt: HostRuntime) -> Result<(), Fail> {
-    assert!(rt; is_turned_back(rt.alloc())?, "two branchings");
-    assert!(rt; is_stripped(rt.alloc())?, "one that is taken out");
+    assert!(rt; is_walk(rt.alloc(), Walk::Back)?, "two branchings");
+    assert!(rt;
+        is_walk(rt.alloc(), Walk::Stripped)?,
+        "one that is taken out"
+    );
     Ok(())
 }

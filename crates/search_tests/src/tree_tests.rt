@@ -11,7 +11,6 @@ use calculus_specs::{Fact, NoMemory};
 use completion_tree::{By, Choice, Deps, Item, Mark, Tree};
 use fact_tree::FactTree;
 use std::alloc::{Allocator, Global};
-use std::process::Abort;
 use std::test::Fail;
 use step_agenda::TreeState;
 use step_finders::is_so;
@@ -32,12 +31,6 @@ fn join_each(tree: &mut FactTree<Global>, pairs: &[(u32, u32)]) -> Result<(), No
         }
     }
     Ok(())
-}
-
-fn undo(tree: &mut FactTree<Global>, len: usize) {
-    if len <= tree.len() {
-        tree.undo_to(len);
-    }
 }
 
 fn are_representatives(tree: &FactTree<Global>, representatives: &[u32]) -> bool {
@@ -72,7 +65,9 @@ fn is_order(
     let len = tree.len();
     join_each(tree, pairs)?;
     let are_joined = are_representatives(tree, representatives) && are_members(tree);
-    undo(tree, len);
+    if len <= tree.len() {
+        tree.undo_to(len);
+    }
     Ok(are_joined && are_representatives(tree, &[0, 1, 2, 3, 4]) && are_members(tree))
 }
 
@@ -137,20 +132,22 @@ fn is_begun(tree: &mut FactTree<Global>) -> Result<bool, NoMemory> {
     Ok(are_nodes && are_edges && are_given_grounds(tree))
 }
 
-fn test_orders(rt: &impl Abort, tree: &mut FactTree<Global>) -> Result<(), NoMemory> {
+// Whether five nodes are joined in each order: new ones, or first ones.
+fn are_orders(tree: &mut FactTree<Global>, are_new: bool) -> Result<bool, NoMemory> {
+    let mut are_so = if are_new {
+        is_grown(tree)?
+    } else {
+        is_begun(tree)?
+    };
     for (pairs, representatives) in ORDERS {
-        assert!(rt; is_order(tree, pairs, representatives)?, "{pairs:?}");
+        are_so &= is_order(tree, pairs, representatives)?;
     }
-    Ok(())
+    Ok(are_so)
 }
 
-fn test_joins(rt: &impl Abort, heap: Global) -> Result<(), NoMemory> {
-    let mut tree = FactTree::new_in(heap, 1)?;
-    assert!(rt; is_grown(&mut tree)?, "new nodes");
-    test_orders(rt, &mut tree)?;
-    let mut tree = FactTree::new_in(heap, 5)?;
-    assert!(rt; is_begun(&mut tree)?, "first nodes");
-    test_orders(rt, &mut tree)
+fn are_joined_in_orders(heap: Global, are_new: bool) -> Result<bool, NoMemory> {
+    let mut tree = FactTree::new_in(heap, if are_new { 1 } else { 5 })?;
+    are_orders(&mut tree, are_new)
 }
 
 fn by(heap: Global, line: u32, mark: u32) -> Result<By, NoMemory> {
@@ -368,7 +365,8 @@ fn is_tree_in_arena(heap: Global) -> Result<bool, NoMemory> {
 
 #[test]
 fn trees_over_the_heap_and_in_an_arena(rt: HostRuntime) -> Result<(), Fail> {
-    test_joins(&rt, rt.alloc())?;
+    assert!(rt; are_joined_in_orders(rt.alloc(), true)?, "new nodes");
+    assert!(rt; are_joined_in_orders(rt.alloc(), false)?, "first nodes");
     assert!(rt; is_tree_in(rt.alloc(), rt.alloc())?, "over the heap");
     assert!(rt; is_tree_in_arena(rt.alloc())?, "in an arena");
     assert!(rt; is_given_in(rt.alloc(), rt.alloc())?, "of first nodes");
