@@ -182,21 +182,6 @@ const ARE_CLEAR: &[(u32, bool)] = &[
     (u32::MAX, false),
 ];
 
-fn are_clear<S: StateWithBlocks>(state: &S) -> bool {
-    let mut are_so = true;
-    for (node, wanted) in ARE_CLEAR {
-        are_so &= state.is_clear(*node) == *wanted;
-    }
-    are_so
-}
-
-fn are_labels<S: State>(state: &S) -> bool {
-    state.has(1, 5)
-        && !state.has(2, 5)
-        && state.label(1) == [0, 5].as_slice()
-        && state.edges(1) == [(7, 2)].as_slice()
-}
-
 fn are_nodes<S: State>(state: &S) -> bool {
     state.nodes() == 3
         && state.parent(2) == Some(1)
@@ -208,11 +193,19 @@ fn are_nodes<S: State>(state: &S) -> bool {
 }
 
 fn is_state<S: State>(state: &S) -> bool {
-    are_nodes(state) && are_labels(state)
+    are_nodes(state)
+        && state.has(1, 5)
+        && !state.has(2, 5)
+        && state.label(1) == [0, 5].as_slice()
+        && state.edges(1) == [(7, 2)].as_slice()
 }
 
 fn is_state_with_blocks<S: StateWithBlocks>(state: &S) -> bool {
-    is_state(state) && are_clear(state)
+    let mut is_so = is_state(state);
+    for (node, wanted) in ARE_CLEAR {
+        is_so &= state.is_clear(*node) == *wanted;
+    }
+    is_so
 }
 
 fn is_state_of(tree: &mut Tree<Global>, blocks: &mut Blocks) -> Result<bool, NoMemory>

@@ -42,23 +42,19 @@ fn numbered(alloc: Global, concepts: &Concepts) -> Result<Refutation, NoMemory>
     numbered_refutation(alloc, AxiomSet::full(alloc, 2)?, concepts, lines)
 }
 
-fn is_branching(lines: &[Line]) -> bool {
-    matches!(
-        lines,
-        [
-            Line::Start,
-            Line::Or(0, 3),
-            Line::Clash(0, 4),
-            Line::Clash(0, 1)
-        ]
-    )
-}
-
 fn is_numbered_anew(refutation: &Refutation) -> bool {
     refutation.axioms_used().len() == 2
         && refutation.shape_count() == 4
         && refutation.shape(3) == Shape::AllOf(0, 2)
-        && is_branching(refutation.lines())
+        && matches!(
+            refutation.lines(),
+            [
+                Line::Start,
+                Line::Or(0, 3),
+                Line::Clash(0, 4),
+                Line::Clash(0, 1)
+            ]
+        )
 }
 
 fn is_numbered(alloc: Global, concepts: &Concepts) -> Result<bool, NoMemory> {

@@ -5,7 +5,7 @@ ghost use Rattle.shq_terms.specs.Listed.{with_axiom};
 ghost use Rattle.shq_terms.specs.Uses.{axiom_uses_listed};
 
 use crate::following::is_fit;
-use crate::small_axioms::{add_names, list_of};
+use crate::small_axioms::{add_names, has_names, list_of};
 use axiom_sets::AxiomSet;
 use calculus_specs::{Fact, NoMemory};
 use completion_tree::{By, Deps, Tree};
@@ -40,26 +40,13 @@ fn push(ontology: &mut Ontology, axiom: Axiom) -> Result<(), AddFault>
     Ok(())
 }
 
-// Whether a role and four individuals are listed, and nothing else.
-fn has_names_alone(ontology: &Ontology) -> bool
-    ensures classes { IsTrue result → length ontology.now.classes ≡ 0 }
-    ensures roles { IsTrue result → length ontology.now.roles ≡ 1 }
-    ensures individuals { IsTrue result → length ontology.now.individuals ≡ 4 }
-    ensures axioms { IsTrue result → length ontology.now.axioms ≡ 0 }
-{
-    ontology.class_count() == 0
-        && ontology.role_count() == 1
-        && ontology.individual_count() == 4
-        && ontology.axiom_count() == 0
-}
-
 // The ontology of a walk, where none is there yet. An edge leads from individual 0 to 1 and one to 3, which are
 // different; or individuals 0 and 2 are one, and different.
 fn fill(alloc: Global, ontology: &mut Ontology, walk: Walk) -> Result<(), AddFault>
     ensures { OnOk result (IsOntologyInLimit ontology.new) }
 {
     add_names(ontology, &[], &["R"], &["a", "b", "c", "d"])?;
-    if !has_names_alone(ontology) {
+    if !has_names(ontology, 0, 1, 4) || ontology.axiom_count() != 0 {
         return Err(AddFault::Full);
     }
     match walk {
@@ -123,20 +110,16 @@ fn is_first(tree: &Tree<Global>, rules: &SearchRules<'_>, given: Given) -> bool 
     tree.first() == rules.first() && find_giving(&TreeState::new(tree), rules) == Some(given)
 }
 
-// The clash that a full look finds.
-fn clash(tree: &Tree<Global>, rules: &SearchRules<'_>) -> Option<Clash> {
-    if tree.first() != rules.first() {
-        return None;
-    }
-    find_plain_clash(&TreeState::new(tree), rules)
-}
-
-// The clash by an edge from node 0 to node 3.
-fn clash_of_edge(tree: &Tree<Global>, rules: &SearchRules<'_>) -> Option<Clash> {
+// The clash that a full look finds, and that by an edge from node 0 to node 3.
+fn clashes(tree: &Tree<Global>, rules: &SearchRules<'_>) -> (Option<Clash>, Option<Clash>) {
     if tree.first() != rules.first() || tree.nodes() == 0 {
-        return None;
+        return (None, None);
     }
-    find_clash_of_edge(&TreeState::new(tree), rules, 0, 0, 3)
+    let state = TreeState::new(tree);
+    (
+        find_plain_clash(&state, rules),
+        find_clash_of_edge(&state, rules, 0, 0, 3),
+    )
 }
 
 // Puts the next given fact, where it is this one, the first of this axiom.
@@ -168,7 +151,8 @@ fn give_each(
 ) -> Result<bool, NoMemory> {
     let mut are_right = true;
     for (axiom, fact) in facts {
-        are_right &= clash(tree, rules) == None && clash_of_edge(tree, rules) == None;
+        let (plain, of_edge) = clashes(tree, rules);
+        are_right &= plain == None && of_edge == None;
         are_right &= give(heap, agenda, tree, rules, *axiom, *fact)?;
     }
     Ok(are_right)
@@ -206,10 +190,10 @@ fn goes_as_it_should(
         Walk::One => ONE,
     };
     let are_given = give_each(heap, agenda, tree, rules, facts)?;
-    let last = clash(tree, rules);
+    let (plain, of_edge) = clashes(tree, rules);
     let is_last = match walk {
-        Walk::Edges => last == None && clash_of_edge(tree, rules) == None,
-        Walk::One => last == Some(Clash::Differ(0, 0)),
+        Walk::Edges => plain == None && of_edge == None,
+        Walk::One => plain == Some(Clash::Differ(0, 0)),
     };
     Ok(are_given && is_last)
 }

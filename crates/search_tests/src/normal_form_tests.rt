@@ -4,7 +4,7 @@ ghost use Rattle.shq_nnf.specs.Counts.{has_counts_within};
 ghost use Rattle.shq_nnf.specs.Parts.{axiom_parts, axiom_has_counts_within};
 
 use crate::small_axioms::{class, three_classes};
-use crate::small_tables::put;
+use crate::small_tables::{is_shape, put};
 use shq_nnf::{Concepts, NoMemory, Part, Shape, part_count};
 use shq_terms::{Axiom, Concept, Node};
 use std::alloc::Global;
@@ -86,15 +86,6 @@ fn union(concepts: &mut Concepts, first: u32, second: u32) -> Result<u32, NoMemo
     }
 }
 
-// Whether the concept is the union of these.
-fn is_union(concepts: &Concepts, concept: u32, members: &[u32]) -> bool {
-    concept < concepts.len() && concepts.shape(concept) == Shape::Or(members)
-}
-
-fn is_bottom(concepts: &Concepts, concept: u32) -> bool {
-    concept < concepts.len() && concepts.shape(concept) == Shape::Bottom
-}
-
 // At least so many successors in role 0 are in class 5, or exactly so many.
 fn successors(alloc: Global, exactly: bool, count: u32) -> Result<Concept, NoMemory>
     requires { count ≤ 100 }
@@ -145,13 +136,13 @@ fn is_exactly_one(alloc: Global, concepts: &mut Concepts) -> Result<bool, NoMemo
     let two = put(concepts, Shape::Min(2, 0, class))?;
     let one = interned(alloc, concepts, true, 1)?;
     let other = complement(concepts, one)?;
-    Ok(is_union(concepts, other, &[none, two]))
+    Ok(is_shape(concepts, other, Shape::Or(&[none, two])))
 }
 
 fn is_at_least_none(alloc: Global, concepts: &mut Concepts) -> Result<bool, NoMemory> {
     let any = interned(alloc, concepts, false, 0)?;
     let none = complement(concepts, any)?;
-    Ok(any == 0 && is_bottom(concepts, none))
+    Ok(any == 0 && is_shape(concepts, none, Shape::Bottom))
 }
 
 fn are_unions(concepts: &mut Concepts) -> Result<bool, NoMemory> {
@@ -160,7 +151,7 @@ fn are_unions(concepts: &mut Concepts) -> Result<bool, NoMemory> {
         are_so &= union(concepts, *first, *second)? == *number;
     }
     let whole = union(concepts, 5, 3)?;
-    Ok(are_so && is_union(concepts, whole, &[1, 2, 3]))
+    Ok(are_so && is_shape(concepts, whole, Shape::Or(&[1, 2, 3])))
 }
 
 // The class 9 is the disjoint union of the classes 0, 1 and 2.

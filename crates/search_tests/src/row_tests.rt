@@ -6,7 +6,7 @@ ghost use Rattle.axiom_sets.specs.Sets.{IsWithin};
 ghost use Rattle.row_cache.specs.Rows.{AreInLimit};
 
 use crate::small_axioms::{add, add_names, class, successor_in, three_classes, two_classes};
-use crate::small_tables::table;
+use crate::small_tables::{is_shape, table};
 use absorption::{Row, RowTable, Trigger};
 use axiom_sets::AxiomSet;
 use row_cache::{CachedRange, CachedRow, NoMemory, RowCache};
@@ -161,10 +161,6 @@ fn waits_for(row: &Row, wanted: Waits<'_>) -> bool {
     }
 }
 
-fn has_shape(concepts: &Concepts, row: &Row, shape: Shape<'_>) -> bool {
-    row.concept < concepts.len() && concepts.shape(row.concept) == shape
-}
-
 // Whether these are the numbers of the rows' axioms and parts.
 fn are_rows(rows: &[Row], wanted: &[(u32, u32)]) -> bool {
     let mut right = rows.len() == wanted.len();
@@ -177,7 +173,7 @@ fn are_rows(rows: &[Row], wanted: &[(u32, u32)]) -> bool {
 fn last_is(concepts: &Concepts, rows: &[Row], wanted: Option<(Waits<'_>, Shape<'_>)>) -> bool {
     match (rows.last(), wanted) {
         (Some(row), Some((waits, shape))) => {
-            waits_for(row, waits) && has_shape(concepts, row, shape)
+            waits_for(row, waits) && is_shape(concepts, row.concept, shape)
         }
         (None, None) => true,
         _ => false,
@@ -240,9 +236,7 @@ enum Told {
 fn is_row(concepts: &Concepts, row: &Option<CachedRow>, told: Told) -> bool {
     match (row, told) {
         (Some(row), Told::Row(premises, shape)) => {
-            row.premises.items() == premises
-                && row.concept < concepts.len()
-                && concepts.shape(row.concept) == shape
+            row.premises.items() == premises && is_shape(concepts, row.concept, shape)
         }
         (None, Told::Nothing) => true,
         _ => false,

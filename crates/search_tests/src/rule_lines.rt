@@ -136,18 +136,13 @@ impl Seen {
         Ok(())
     }
 
-    fn start(&mut self, nodes: &FirstNodes) -> Result<(), NoMemory> {
-        self.nodes = nodes.count;
-        self.facts.push(Fact::Has(nodes.asked, nodes.sub))?;
-        self.facts.push(Fact::Has(nodes.asked, nodes.not_sup))?;
-        Ok(())
-    }
-
     /// Goes on with what a line leaves. `false` where that is no one branch.
     fn goes_on(&mut self, outcome: &Option<Outcome>) -> Result<bool, NoMemory> {
         match outcome {
             Some(Outcome::Started(nodes)) => {
-                self.start(nodes)?;
+                self.nodes = nodes.count;
+                self.facts.push(Fact::Has(nodes.asked, nodes.sub))?;
+                self.facts.push(Fact::Has(nodes.asked, nodes.not_sup))?;
                 Ok(true)
             }
             Some(Outcome::More(facts)) => {

@@ -75,8 +75,8 @@ pub(crate) fn add_names(
     Ok(())
 }
 
-// Whether so many classes, roles and individuals are listed.
-fn has_names(ontology: &Ontology, classes: u32, roles: u32, individuals: u32) -> bool
+/// Whether so many classes, roles and individuals are listed.
+pub(crate) fn has_names(ontology: &Ontology, classes: u32, roles: u32, individuals: u32) -> bool
     ensures classes { IsTrue result → length ontology.now.classes ≡ classes }
     ensures roles { IsTrue result → length ontology.now.roles ≡ roles }
     ensures individuals { IsTrue result → length ontology.now.individuals ≡ individuals }

@@ -35,6 +35,11 @@ pub(crate) fn table(alloc: Global, shapes: &[Shape<'_>]) -> Result<Concepts, NoM
     Ok(concepts)
 }
 
+/// Whether the number is one of the table, and that of this shape.
+pub(crate) fn is_shape(concepts: &Concepts, number: u32, shape: Shape<'_>) -> bool {
+    number < concepts.len() && concepts.shape(number) == shape
+}
+
 /// What an axiom says of roles.
 #[derive(Clone, Copy)]
 pub(crate) enum Says {

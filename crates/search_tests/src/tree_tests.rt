@@ -16,18 +16,30 @@ use step_agenda::TreeState;
 use step_finders::is_so;
 use tableau_specs::Branch;
 
-/// Three pairs of nodes that are joined one after the other, and then the representatives of nodes 0 to 4.
-const ORDERS: &[(&[(u32, u32)], &[u32])] = &[
-    (&[(1, 2), (3, 4), (2, 4)], &[0, 1, 1, 1, 1]),
-    (&[(4, 3), (3, 2), (2, 1)], &[0, 1, 1, 1, 1]),
-    (&[(2, 3), (0, 3), (1, 1)], &[0, 1, 0, 0, 4]),
-    (&[(4, 0), (2, 4), (4, 2)], &[0, 1, 0, 3, 0]),
+/// Three joins one after the other, and then the representatives of nodes 0 to 4.
+const ORDERS: &[(&[Fact<u32>], &[u32])] = &[
+    (
+        &[Fact::Same(1, 2), Fact::Same(3, 4), Fact::Same(2, 4)],
+        &[0, 1, 1, 1, 1],
+    ),
+    (
+        &[Fact::Same(4, 3), Fact::Same(3, 2), Fact::Same(2, 1)],
+        &[0, 1, 1, 1, 1],
+    ),
+    (
+        &[Fact::Same(2, 3), Fact::Same(0, 3), Fact::Same(1, 1)],
+        &[0, 1, 0, 0, 4],
+    ),
+    (
+        &[Fact::Same(4, 0), Fact::Same(2, 4), Fact::Same(4, 2)],
+        &[0, 1, 0, 3, 0],
+    ),
 ];
 
-fn join_each(tree: &mut FactTree<Global>, pairs: &[(u32, u32)]) -> Result<(), NoMemory> {
-    for (first, second) in pairs {
-        if *first < tree.nodes() && *second < tree.nodes() {
-            tree.add(Fact::Same(*first, *second))?;
+fn put_each(tree: &mut FactTree<Global>, facts: &[Fact<u32>]) -> Result<(), NoMemory> {
+    for fact in facts {
+        if is_fit(tree.nodes(), *fact) {
+            tree.add(*fact)?;
         }
     }
     Ok(())
@@ -59,11 +71,11 @@ fn are_members(tree: &FactTree<Global>) -> bool {
 // Joins in an order, and takes the nodes apart again.
 fn is_order(
     tree: &mut FactTree<Global>,
-    pairs: &[(u32, u32)],
+    joins: &[Fact<u32>],
     representatives: &[u32],
 ) -> Result<bool, NoMemory> {
     let len = tree.len();
-    join_each(tree, pairs)?;
+    put_each(tree, joins)?;
     let are_joined = are_representatives(tree, representatives) && are_members(tree);
     if len <= tree.len() {
         tree.undo_to(len);
@@ -99,15 +111,6 @@ const GIVEN: &[Fact<u32>] = &[
     Fact::Edge(7, 1, 1),
 ];
 
-fn put_each(tree: &mut FactTree<Global>, facts: &[Fact<u32>]) -> Result<(), NoMemory> {
-    for fact in facts {
-        if is_fit(tree.nodes(), *fact) {
-            tree.add(*fact)?;
-        }
-    }
-    Ok(())
-}
-
 fn are_given_grounds(tree: &FactTree<Global>) -> bool {
     let mut are_so = tree.ground(Fact::Edge(7, 1, 0)) == None;
     for (place, fact) in GIVEN.iter().enumerate() {
@@ -139,8 +142,8 @@ fn are_orders(tree: &mut FactTree<Global>, are_new: bool) -> Result<bool, NoMemo
     } else {
         is_begun(tree)?
     };
-    for (pairs, representatives) in ORDERS {
-        are_so &= is_order(tree, pairs, representatives)?;
+    for (joins, representatives) in ORDERS {
+        are_so &= is_order(tree, joins, representatives)?;
     }
     Ok(are_so)
 }
@@ -223,16 +226,13 @@ fn are_nodes<A: Allocator + Copy>(tree: &Tree<A>) -> bool {
         && !tree.are_apart(4, 1)
 }
 
-fn are_labels<A: Allocator + Copy>(tree: &Tree<A>) -> bool {
-    tree.label(1) == [0, 5, 6].as_slice()
-        && tree.edges(0) == [(7, 1), (7, 2), (7, 3), (7, 4)].as_slice()
-}
-
-fn are_entries<A: Allocator + Copy>(tree: &Tree<A>) -> bool {
+fn are_labels_and_entries<A: Allocator + Copy>(tree: &Tree<A>) -> bool {
     tree.len() == 14
         && tree.item(12) == Item::Fact(Fact::Has(4, 6))
         && matches!(tree.by(12), Some(by) if by.line == 5)
         && tree.by(9).is_none()
+        && tree.label(1) == [0, 5, 6].as_slice()
+        && tree.edges(0) == [(7, 1), (7, 2), (7, 3), (7, 4)].as_slice()
 }
 
 /// Facts, and whether their marks have choice 3, by which nodes 4 and 1 are one, and choice 20, on which the rest is
@@ -291,7 +291,7 @@ fn is_back<A: Allocator + Copy>(tree: &mut Tree<A>) -> bool {
 
 fn is_tree<A: Allocator + Copy>(heap: Global, tree: &mut Tree<A>) -> Result<bool, NoMemory> {
     let is_made = is_made(heap, tree)?;
-    let are_read = are_joined(tree) && are_nodes(tree) && are_labels(tree) && are_entries(tree);
+    let are_read = are_joined(tree) && are_nodes(tree) && are_labels_and_entries(tree);
     Ok(is_made && are_read && are_marked(heap, tree)? && is_back(tree))
 }
 
