@@ -128,23 +128,16 @@ const EXAMPLES: &[Example] = &[
     ),
 ];
 
-// Whether a node is there and has this block, and is clear if that says so.
-fn is_block(tree: &Tree<Global>, blocks: &Blocks, node: u32, wanted: Block) -> bool
-    requires { IsCurrent tree.now.first (facts_in tree.now.entries) blocks.now }
-{
-    node < tree.nodes()
-        && state(tree, blocks, node) == wanted
-        && is_clear(tree, blocks, node) == (wanted == CLEAR)
-}
-
-// Whether these are the blocks of the nodes from 0 on.
+// Whether these are the blocks of the nodes from 0 on, and those are clear of which that says so.
 fn are_blocks(tree: &Tree<Global>, blocks: &Blocks, wanted: &[Block]) -> bool
     requires { IsCurrent tree.now.first (facts_in tree.now.entries) blocks.now }
 {
     let mut are_so = !is_clear(tree, blocks, 1000);
     let mut node = 0u32;
     for block in wanted {
-        are_so &= is_block(tree, blocks, node, *block);
+        are_so &= node < tree.nodes()
+            && state(tree, blocks, node) == *block
+            && is_clear(tree, blocks, node) == (*block == CLEAR);
         node = node.wrapping_add(1);
     }
     are_so

@@ -269,12 +269,10 @@ const PLACES: &[(u32, &[u32])] = &[
 ];
 
 fn made_facts(alloc: Global, ontology: &Ontology) -> Result<Facts, NoMemory> {
-    let count = ontology.axiom_count();
-    if ONLY.iter().all(|number| 1 <= *number && *number <= count) {
-        Facts::build(alloc, ontology, ONLY)
-    } else {
-        Err(NoMemory)
+    if ontology.axiom_count() != 6 {
+        return Err(NoMemory);
     }
+    Facts::build(alloc, ontology, ONLY)
 }
 
 fn told_of(given: &Given<'_>) -> (u32, Fact<u32>) {
@@ -304,19 +302,14 @@ fn are_facts(facts: &Facts) -> bool {
     are_so
 }
 
-fn are_places(facts: &Facts, individual: u32, wanted: &[u32]) -> bool {
-    let mut are_so = true;
-    let mut places = facts.of(individual);
-    for place in wanted {
-        are_so &= places.next() == Some(*place);
-    }
-    are_so && places.next() == None
-}
-
 fn have_places(facts: &Facts) -> bool {
     let mut are_so = true;
-    for (individual, places) in PLACES {
-        are_so &= are_places(facts, *individual, places);
+    for (individual, wanted) in PLACES {
+        let mut places = facts.of(*individual);
+        for place in *wanted {
+            are_so &= places.next() == Some(*place);
+        }
+        are_so &= places.next() == None;
     }
     are_so
 }

@@ -5,6 +5,7 @@ ghost use Rattle.blocking.specs.Followed.{IsCurrent};
 use crate::following::{fill, start};
 use crate::small_axioms::class;
 use crate::small_tables::{CHAIN, role_box, table};
+use crate::structure_tests::test_structure;
 use blocking::Blocks;
 use calculus_specs::Fact;
 use completion_tree::Tree;
@@ -197,9 +198,14 @@ fn test_cases(
     Ok(())
 }
 
-fn test_by_roles(rt: &impl Abort, alloc: Global, roles: &RoleBox) -> Result<(), NoMemory> {
+fn test_trees(rt: &impl Abort, alloc: Global, roles: &RoleBox) -> Result<(), NoMemory> {
     let concepts = table(alloc, CLASSES)?;
     test_cases(rt, alloc, &concepts, roles)
+}
+
+fn test_by_roles(rt: &impl Abort, alloc: Global, roles: &RoleBox) -> Result<(), NoMemory> {
+    test_structure(rt, alloc, roles)?;
+    test_trees(rt, alloc, roles)
 }
 
 fn test_models(rt: &impl Abort, alloc: Global) -> Result<(), AddFault> {
@@ -208,7 +214,7 @@ fn test_models(rt: &impl Abort, alloc: Global) -> Result<(), AddFault> {
 }
 
 #[test]
-fn models_of_trees(rt: HostRuntime) -> Result<(), Fail> {
+fn models_of_a_structure_and_of_trees(rt: HostRuntime) -> Result<(), Fail> {
     test_models(&rt, rt.alloc())?;
     Ok(())
 }

@@ -1,14 +1,12 @@
 // A structure of four elements, worked out by hand.
 
 use crate::small_axioms::successor_in;
-use crate::small_tables::{CHAIN, role_box};
 use finite_model::Interp;
 use model_builder::{Edge, Member, interpretation};
 use role_box::RoleBox;
-use shq_terms::{AddFault, NoMemory};
+use shq_terms::NoMemory;
 use std::alloc::Global;
 use std::process::Abort;
-use std::test::Fail;
 
 /// Each element is in the class of its number.
 const MEMBERS: &[Member] = &[
@@ -77,30 +75,6 @@ const LEADS: &[(u32, u32, u32, bool)] = &[
     (3, 1, 3, false),
 ];
 
-// The interpretation of four elements and four roles, where these are inside.
-fn made_model(
-    alloc: Global,
-    members: &[Member],
-    edges: &[Edge],
-    roles: &RoleBox,
-    places: &[u32],
-) -> Result<Interp, NoMemory> {
-    let inside = members.iter().all(|member| member.element < 4)
-        && edges.iter().all(|edge| edge.from < 4)
-        && edges.iter().all(|edge| edge.to < 4)
-        && places.iter().all(|place| *place < 4);
-    if inside && places.len() <= 4 {
-        interpretation(alloc, 4, members, edges, roles, 4, places)
-    } else {
-        Err(NoMemory)
-    }
-}
-
-fn whole_model(alloc: Global) -> Result<Interp, AddFault> {
-    let roles = role_box(alloc, CHAIN, &[1, 2, 3])?;
-    Ok(made_model(alloc, MEMBERS, EDGES, &roles, PLACES)?)
-}
-
 fn leads(alloc: Global, model: &Interp, role: u32, x: u32, y: u32) -> Result<bool, NoMemory> {
     let some = successor_in(alloc, role, y)?;
     Ok(x < model.size() && model.holds(&some, x))
@@ -128,13 +102,12 @@ fn check_structure(rt: &impl Abort, alloc: Global, model: &Interp) -> Result<(),
     Ok(())
 }
 
-fn test_model(rt: &impl Abort, alloc: Global) -> Result<(), AddFault> {
-    let model = whole_model(alloc)?;
-    Ok(check_structure(rt, alloc, &model)?)
-}
-
-#[test]
-fn roles_have_edges_and_chains_and_individuals_places(rt: HostRuntime) -> Result<(), Fail> {
-    test_model(&rt, rt.alloc())?;
-    Ok(())
+/// Of four elements, by the box of four roles, of which 0 is below 1, which is transitive, and that below 2.
+pub(crate) fn test_structure(
+    rt: &impl Abort,
+    alloc: Global,
+    roles: &RoleBox,
+) -> Result<(), NoMemory> {
+    let model = interpretation(alloc, 4, MEMBERS, EDGES, roles, 4, PLACES)?;
+    check_structure(rt, alloc, &model)
 }
