@@ -1,6 +1,7 @@
 // What an answer costs, in counts.
 
 use crate::out_of_memory;
+use crate::printing::print_number;
 use ontology_jobs::{RunLog, run};
 use shq_io::{MemSink, Source};
 use std::alloc::Global;
@@ -22,9 +23,10 @@ pub(crate) fn count_job<S: Source>(
     let mut sink = MemSink::new(alloc, MOST, AT_ONCE, &[]).map_err(|_| out_of_memory())?;
     let mut log = RunLog::new(alloc);
     run(alloc, words, source, &mut sink, &mut log);
-    println!(rt;
-        "{} entries, {} of the budget",
-        log.entries().len(),
-        log.spent()
-    )
+    print_counts(rt, log.entries().len(), log.spent())
+}
+
+fn print_counts(rt: &impl Print, entries: usize, spent: u64) -> io::Result<()> {
+    print_number(rt, entries as u64, " entries, ")?;
+    print_number(rt, spent, " of the budget\n")
 }

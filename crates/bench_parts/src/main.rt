@@ -17,6 +17,7 @@ mod making;
 mod measuring;
 mod pinpointing;
 mod plain_loops;
+mod printing;
 mod sets;
 mod statement;
 mod tree;

@@ -7,6 +7,7 @@ ghost use Rattle.bench_parts.specs.Small.{asked};
 
 use crate::family::Family;
 use crate::making::ontology_of;
+use crate::printing::{print_number, print_text};
 use axiom_sets::AxiomSet;
 use bumpalo::Bump;
 use search_rules::SearchRules;
@@ -43,7 +44,9 @@ pub(crate) fn report(
     family: Family,
     size: u32,
 ) -> io::Result<()> {
-    print!(rt; "{name}, {size}: ")?;
+    print_text(rt, name)?;
+    print_text(rt, ", ")?;
+    print_number(rt, u64::from(size), ": ")?;
     match ontology_of(alloc, family, size) {
         Ok(ontology) => report_rules(rt, alloc, &ontology, family.fuel(size)),
         Err(fault) => println!(rt; "{fault}"),
@@ -73,7 +76,7 @@ fn report_query(
 {
     match ask(alloc, ontology, query) {
         Ok(asked) => report_search(rt, alloc, &asked, query, fuel),
-        Err(_) => println!(rt; "out of memory"),
+        Err(_) => print_text(rt, "out of memory\n"),
     }
 }
 
@@ -92,32 +95,29 @@ fn report_search(
     let found = search(alloc, asked, query, fuel);
     let seconds = start.elapsed(rt)?.as_secs_f64();
     match found {
-        Ok(outcome) => print(rt, &outcome, seconds),
-        Err(_) => println!(rt; "out of memory"),
+        Ok(outcome) => print(rt, outcome, seconds),
+        Err(_) => print_text(rt, "out of memory\n"),
     }
 }
 
-fn print(rt: &impl Print, outcome: &Outcome, seconds: f64) -> io::Result<()> {
-    let Outcome {
-        end,
-        lines,
-        steps,
-        effort,
-    } = *outcome;
-    let Effort {
-        looks,
-        scans,
-        backs,
-        lost,
-        stripped,
-        blocks,
-        sieves,
-    } = effort;
-    let pace = nearest_u64_to_f64(steps) / seconds;
-    println!(rt;
-        "{end}, {steps} steps, {looks} looks, {scans} scans, {blocks} blocks, {sieves} sieves, {backs} ways back, \
-            {lost} choices lost, {stripped} lines taken out, {lines} lines, {seconds:.6} s, {pace:.0} steps a second"
-    )
+fn print(rt: &impl Print, outcome: Outcome, seconds: f64) -> io::Result<()> {
+    print_text(rt, outcome.end)?;
+    print_text(rt, ", ")?;
+    print_number(rt, outcome.steps, " steps, ")?;
+    print_effort(rt, outcome.effort)?;
+    print_number(rt, outcome.lines as u64, " lines, ")?;
+    let pace = nearest_u64_to_f64(outcome.steps) / seconds;
+    println!(rt; "{seconds:.6} s, {pace:.0} steps a second")
+}
+
+fn print_effort(rt: &impl Print, effort: Effort) -> io::Result<()> {
+    print_number(rt, effort.looks, " looks, ")?;
+    print_number(rt, effort.scans, " scans, ")?;
+    print_number(rt, effort.blocks, " blocks, ")?;
+    print_number(rt, effort.sieves, " sieves, ")?;
+    print_number(rt, effort.backs, " ways back, ")?;
+    print_number(rt, effort.lost, " choices lost, ")?;
+    print_number(rt, effort.stripped, " lines taken out, ")
 }
 
 /// Whether the first class has a member.

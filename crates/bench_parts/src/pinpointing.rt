@@ -5,6 +5,7 @@ ghost use Rattle.std.specs.List.{All};
 ghost use Rattle.set_questions.specs.InOrder.{HaveOneLimit};
 
 use crate::families::{Family, diamonds, random_sets};
+use crate::printing::{print_number, print_text};
 use axiom_sets::AxiomSet;
 use hitting_set_tree::{Found, enumerate};
 use repair_list::repairs;
@@ -72,21 +73,34 @@ fn report_by(
     match counts_of(alloc, oracle) {
         Ok(counts) => {
             let micros = start.elapsed(rt)?.as_micros();
-            let Counts {
-                justifications,
-                repairs,
-                finished,
-            } = counts;
-            let end = if finished { "finished" } else { "spent" };
-            let nodes = oracle.nodes();
-            let asks = oracle.asks();
-            println!(rt;
-                "{name}: {justifications} justifications, {repairs} repairs, {nodes} nodes, {asks} asks, {micros} us, \
-                    {end}"
-            )
+            print_counts(rt, name, counts)?;
+            print_number(rt, oracle.nodes() as u64, " nodes, ")?;
+            print_number(rt, oracle.asks(), " asks, ")?;
+            print!(rt; "{micros}")?;
+            print_text(rt, end_of(counts))
         }
-        Err(_) => println!(rt; "{name}: no memory"),
+        Err(_) => tell_no_memory(rt, name),
     }
+}
+
+fn print_counts(rt: &impl Print, name: &str, counts: Counts) -> io::Result<()> {
+    print_text(rt, name)?;
+    print_text(rt, ": ")?;
+    print_number(rt, counts.justifications as u64, " justifications, ")?;
+    print_number(rt, counts.repairs as u64, " repairs, ")
+}
+
+fn end_of(counts: Counts) -> &'static str {
+    if counts.finished {
+        " us, finished\n"
+    } else {
+        " us, spent\n"
+    }
+}
+
+fn tell_no_memory(rt: &impl Print, name: &str) -> io::Result<()> {
+    print_text(rt, name)?;
+    print_text(rt, ": no memory\n")
 }
 
 /// Prints the line of a chain of diamonds.
@@ -99,7 +113,7 @@ fn report_diamonds(
 ) -> io::Result<()> {
     match diamonds(alloc, links, ways) {
         Ok(Family { count, sets }) => report(rt, alloc, name, count, sets, AMPLE),
-        Err(_) => println!(rt; "{name}: no memory"),
+        Err(_) => tell_no_memory(rt, name),
     }
 }
 
@@ -115,7 +129,7 @@ fn report_random(
 ) -> io::Result<()> {
     match random_sets(alloc, seed, sets, count) {
         Ok(Family { count, sets }) => report(rt, alloc, name, count, sets, budget),
-        Err(_) => println!(rt; "{name}: no memory"),
+        Err(_) => tell_no_memory(rt, name),
     }
 }
 

@@ -3,6 +3,7 @@
 
 use crate::out_of_memory;
 use crate::plain_loops::{plain_candidates, plain_meets, plain_subset, plain_union};
+use crate::printing::{print_number, print_text};
 use lane_sieve::{Lanes, candidates, meets_words, subset_words, union_words};
 use std::alloc::Global;
 use std::io;
@@ -102,7 +103,10 @@ fn compare<P: FnMut(usize) -> usize, K: FnMut(usize) -> usize>(
     let (plain_time, plain_sum) = timed(rt, rounds, plain)?;
     let (kernel_time, kernel_sum) = timed(rt, rounds, kernel)?;
     let ratio = plain_time.as_secs_f64() / kernel_time.as_secs_f64();
-    println!(rt; "{name}: {ratio:.2} times as fast, answers {plain_sum} and {kernel_sum}")
+    print_text(rt, name)?;
+    print!(rt; ": {ratio:.2} times as fast, answers ")?;
+    print_number(rt, plain_sum as u64, " and ")?;
+    print_number(rt, kernel_sum as u64, "\n")
 }
 
 fn compare_subsets(

@@ -1,6 +1,7 @@
 // How fast facts are put at nodes, asked for, joined and undone, and how fast what they rest on is found.
 
 use crate::out_of_memory;
+use crate::printing::{print_finely, print_number, print_seconds, print_text};
 use bumpalo::Bump;
 use calculus_specs::{Fact, NoMemory};
 use completion_tree::{By, Deps, Tree};
@@ -154,7 +155,9 @@ fn time_star<A: Allocator + Copy>(
     let start = Instant::now(rt)?;
     back(tree, 0);
     let undone = seconds(rt, start)?;
-    println!(rt; "10,000 children of one node {made:.4} s, undone {undone:.4} s")
+    print_finely(rt, "10,000 children of one node", made)?;
+    print_finely(rt, ", undone", undone)?;
+    print_text(rt, "\n")
 }
 
 /// Many nodes at once.
@@ -165,7 +168,8 @@ fn time_hundreds<A: Allocator + Copy>(
     let start = Instant::now(rt)?;
     hundreds(tree);
     let made = seconds(rt, start)?;
-    println!(rt; "99 times 101 new nodes, pairwise apart {made:.4} s")
+    print_finely(rt, "99 times 101 new nodes, pairwise apart", made)?;
+    print_text(rt, "\n")
 }
 
 fn time_new_nodes<A: Allocator + Copy>(
@@ -196,9 +200,11 @@ fn time_chain<A: Allocator + Copy>(
     let start = Instant::now(rt)?;
     back(tree, 0);
     let undone = seconds(rt, start)?;
-    println!(rt;
-        "20,000 joins of a chain {joined:.4} s, representatives {found:.5} s ({sum}), undone {undone:.4} s"
-    )
+    print_finely(rt, "20,000 joins of a chain", joined)?;
+    print!(rt; ", representatives {found:.5} s (")?;
+    print_number(rt, u64::from(sum), ")")?;
+    print_finely(rt, ", undone", undone)?;
+    print_text(rt, "\n")
 }
 
 /// A star whose children have one concept each, and a tree in which each node has EACH concepts: every fact rests on a
@@ -315,9 +321,10 @@ fn time_marks<A: Allocator + Copy>(
     let start = Instant::now(rt)?;
     let sum = all_marks(heap, tree).unwrap_or(0);
     let found = seconds(rt, start)?;
-    println!(rt;
-        "a star of 10,000 children with 100 concepts each {made:.3} s, marks of 2,000,000 facts {found:.3} s ({sum})"
-    )
+    print_seconds(rt, "a star of 10,000 children with 100 concepts each", made)?;
+    print_seconds(rt, ", marks of 2,000,000 facts", found)?;
+    print_text(rt, " (")?;
+    print_number(rt, u64::from(sum), ")\n")
 }
 
 /// Concepts at many nodes, and tests of them.
@@ -332,7 +339,10 @@ fn time_concepts<A: Allocator + Copy>(
     let start = Instant::now(rt)?;
     let hits = count(tree);
     let tested = seconds(rt, start)?;
-    println!(rt; "1,000,000 concepts put {added:.3} s, 2,000,000 tests {tested:.3} s ({hits} hits)")
+    print_seconds(rt, "1,000,000 concepts put", added)?;
+    print_seconds(rt, ", 2,000,000 tests", tested)?;
+    print_text(rt, " (")?;
+    print_number(rt, u64::from(hits), " hits)\n")
 }
 
 /// Joins of these nodes, and the way back over all of it.
@@ -347,9 +357,11 @@ fn time_joins<A: Allocator + Copy>(
     let start = Instant::now(rt)?;
     back(tree, 0);
     let undone = seconds(rt, start)?;
-    println!(rt;
-        "100,000 joins and going back over them {joined:.3} s, {len} facts undone {undone:.3} s"
-    )
+    print_seconds(rt, "100,000 joins and going back over them", joined)?;
+    print_text(rt, ", ")?;
+    print_number(rt, len as u64, " facts undone")?;
+    print_seconds(rt, "", undone)?;
+    print_text(rt, "\n")
 }
 
 /// What is timed on a tree of facts of its own.
