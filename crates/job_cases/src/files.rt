@@ -44,9 +44,19 @@ fn take_line<'a>(
     }
 }
 
+// The first block of this name.
+fn find<'b, 'a>(blocks: &'b [Block<'a>], name: &str) -> Option<&'b Block<'a>> {
+    for block in blocks {
+        if block.name == name {
+            return Some(block);
+        }
+    }
+    None
+}
+
 // Begins a block; `false` where its name is none, or stands before.
 fn begin<'a>(blocks: &mut Vec<Block<'a>>, block: Block<'a>) -> Result<bool, NoMemory> {
-    let is_new = !block.name.is_empty() && blocks.iter().all(|other| other.name != block.name);
+    let is_new = !block.name.is_empty() && find(blocks, block.name).is_none();
     blocks.push(block)?;
     Ok(is_new)
 }
@@ -56,7 +66,7 @@ fn take_over<'a>(blocks: &mut Vec<Block<'a>>, name: &str) -> Result<bool, NoMemo
     let Some((last, earlier)) = blocks.split_last_mut() else {
         return Ok(false);
     };
-    match earlier.iter().find(|block| block.name == name) {
+    match find(earlier, name) {
         Some(block) => last.take_over(block),
         None => Ok(false),
     }
@@ -75,14 +85,12 @@ fn take_in_last<'a>(
 
 // Each case asks something, and there is one.
 fn check_all_asked(blocks: &[Block<'_>]) -> Result<(), Fault> {
+    let mut has_case = false;
     for block in blocks {
         if block.is_case && !block.is_asked {
             return Err(Fault::Malformed { line: block.line });
         }
+        has_case |= block.is_case;
     }
-    if blocks.iter().any(|block| block.is_case) {
-        Ok(())
-    } else {
-        Err(Fault::NoCase)
-    }
+    if has_case { Ok(()) } else { Err(Fault::NoCase) }
 }

@@ -58,7 +58,10 @@ const KEYS: &[(&str, Key)] = &[
 
 /// The key that this word is; `None` where it is none.
 pub(crate) fn key_of(word: &str) -> Option<Key> {
-    KEYS.iter()
-        .find(|(name, _)| *name == word)
-        .map(|(_, key)| *key)
+    for (name, key) in KEYS {
+        if *name == word {
+            return Some(*key);
+        }
+    }
+    None
 }

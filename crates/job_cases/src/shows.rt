@@ -83,14 +83,27 @@ fn put_number(alloc: Global, line: &mut String, name: &str, number: u64) -> Resu
 }
 
 fn put_first(line: &mut String, text: &str, kind: &str) -> Result<(), NoMemory> {
-    let first = text.lines().find(|line| is_of_kind(line, kind));
-    line.push_str(first.unwrap_or("no such line"))?;
+    line.push_str(first_of(text, kind).unwrap_or("no such line"))?;
     Ok(())
+}
+
+// The first line of this kind.
+fn first_of<'a>(text: &'a str, kind: &str) -> Option<&'a str> {
+    for line in text.lines() {
+        if is_of_kind(line, kind) {
+            return Some(line);
+        }
+    }
+    None
 }
 
 // How many lines are of this kind.
 fn count_of(text: &str, kind: &str) -> usize {
-    text.lines().filter(|line| is_of_kind(line, kind)).count()
+    let mut count = 0usize;
+    for line in text.lines() {
+        count = count.wrapping_add(usize::from(is_of_kind(line, kind)));
+    }
+    count
 }
 
 // Whether this is the first word of the line.

@@ -119,8 +119,10 @@ impl Numbers {
 }
 
 fn kind_of(word: &str) -> Option<Kind> {
-    KINDS
-        .iter()
-        .find(|(name, _)| *name == word)
-        .map(|(_, kind)| *kind)
+    for (name, kind) in KINDS {
+        if *name == word {
+            return Some(*kind);
+        }
+    }
+    None
 }
