@@ -1,9 +1,8 @@
 // One search over objects of different kinds that answer about the same sets.
-ghost use Rattle.std.specs.Prelude.{◌≡◌, [], IfOk};
-ghost use Rattle.std.specs.List.{All};
+ghost use Rattle.std.specs.Prelude.{◌≡◌, []};
 ghost use Rattle.ontology_limits.specs.Limits.{IsInLimit};
 
-use crate::reading::{read, set_of};
+use crate::reading::{are_sets, read, sets_of};
 use axiom_sets::AxiomSet;
 use hitting_set_tree::{Found, enumerate};
 use module_extract::module;
@@ -15,135 +14,86 @@ use set_questions::{Entail, SetOracle};
 use shq_oracle::Oracle;
 use shq_terms::{NoMemory, Ontology, Query};
 use std::alloc::Global;
-use std::process::Abort;
 use std::test::Fail;
 
 const DOCUMENT: &[u8] = b"Prefix(:=<e:>)Ontology(
 SubClassOf(:A :B1)SubClassOf(:B1 :D)SubClassOf(:A :B2)SubClassOf(:B2 :D)
 SubClassOf(:A :B3)SubClassOf(:B3 :D)SubClassOf(:D :C))";
 
-// The smallest sets of its seven axioms from which the query follows.
-const SETS: [[u32; 3]; 3] = [[1, 2, 7], [3, 4, 7], [5, 6, 7]];
+// The smallest sets of its seven axioms from which the query follows, and those without which it does not.
+const SETS: &[&[u32]] = &[&[1, 2, 7], &[3, 4, 7], &[5, 6, 7]];
 
-/// What is found, with a bit for each member of a set.
-#[derive(Drop, Debug, PartialEq)]
-struct Lists {
-    finished: bool,
-    justifications: Vec<u64>,
-    repairs: Vec<u64>,
+const REPAIRS: &[&[u32]] = &[
+    &[1, 3, 5],
+    &[1, 3, 6],
+    &[1, 4, 5],
+    &[1, 4, 6],
+    &[2, 3, 5],
+    &[2, 3, 6],
+    &[2, 4, 5],
+    &[2, 4, 6],
+    &[7],
+];
+
+fn are_lists(found: &Found, cuts: &[AxiomSet]) -> bool {
+    found.finished && are_sets(&found.justifications, SETS) && are_sets(cuts, REPAIRS)
 }
 
-fn masks_of(alloc: Global, sets: &[AxiomSet]) -> Result<Vec<u64>, NoMemory> {
-    let mut masks = Vec::new(alloc);
-    for set in sets {
-        let mut mask = 0_u64;
-        for number in set.numbers() {
-            mask |= 1_u64.wrapping_shl(number);
-        }
-        masks.push(mask)?;
-    }
-    Ok(masks)
-}
-
-// What was found, and the repairs.
-fn lists_with(alloc: Global, found: &Found, cuts: &[AxiomSet]) -> Result<Lists, NoMemory> {
-    Ok(Lists {
-        finished: found.finished,
-        justifications: masks_of(alloc, &found.justifications)?,
-        repairs: masks_of(alloc, cuts)?,
-    })
-}
-
-// What is found over an object.
-fn lists_over<E: Entail>(alloc: Global, entail: &mut E) -> Result<Lists, NoMemory>
+// Whether these are found over an object.
+fn are_found<E: Entail>(alloc: Global, entail: &mut E) -> Result<bool, NoMemory>
     requires { (E.meaning entail.old).taken ≡ [] }
 {
     let found = enumerate(alloc, entail)?;
     let cuts = repairs(alloc, &found)?;
-    lists_with(alloc, &found, &cuts)
+    Ok(are_lists(&found, &cuts))
 }
 
 // The same, where the object is let go.
-fn lists_of<E: Entail + Drop>(alloc: Global, mut entail: E) -> Result<Lists, NoMemory>
+fn are_found_over<E: Entail + Drop>(alloc: Global, mut entail: E) -> Result<bool, NoMemory>
     requires { (E.meaning entail).taken ≡ [] }
 {
-    lists_over(alloc, &mut entail)
+    are_found(alloc, &mut entail)
 }
 
 // Over sets in memory.
-fn by_sets(alloc: Global) -> Result<Lists, NoMemory> {
-    let sets = sets_of(alloc, &SETS)?;
-    lists_of(alloc, SetOracle::new(alloc, 7, sets, 1000))
-}
-
-fn sets_of(alloc: Global, members: &[[u32; 3]]) -> Result<Vec<AxiomSet>, NoMemory>
-    ensures { IfOk result (λ v. All (λ s. s.limit ≡ 7) v.items) }
-{
-    let mut sets = Vec::new(alloc);
-    for numbers in members {
-        sets.push(set_of(alloc, 7, numbers)?)?;
-    }
-    Ok(sets)
+fn by_sets(alloc: Global) -> Result<bool, NoMemory> {
+    let sets = sets_of(alloc, 7, SETS)?;
+    are_found_over(alloc, SetOracle::new(alloc, 7, sets, 1000))
 }
 
 // Over an asker among all axioms.
-fn by_all(alloc: Global, ontology: &Ontology, query: &Query) -> Result<Lists, NoMemory>
+fn by_all(alloc: Global, ontology: &Ontology, query: &Query) -> Result<bool, NoMemory>
     requires in_limit { IsInLimit ontology.now query.now }
 {
     let oracle = Oracle::new(alloc, ontology, 1000, RunLog::new(alloc));
-    lists_of(alloc, Asker::new(alloc, oracle, query))
+    are_found_over(alloc, Asker::new(alloc, oracle, query))
 }
 
 // Over an asker among the axioms of the local module.
-fn by_module(alloc: Global, ontology: &Ontology, query: &Query) -> Result<Lists, NoMemory>
+fn by_module(alloc: Global, ontology: &Ontology, query: &Query) -> Result<bool, NoMemory>
     requires in_limit { IsInLimit ontology.now query.now }
 {
     let module = module(alloc, ontology, query)?;
     let oracle = Oracle::new(alloc, ontology, 1000, RunLog::new(alloc));
     let asker = Asker::within(alloc, oracle, query, module);
-    lists_of(alloc, asker)
+    are_found_over(alloc, asker)
 }
 
-fn assert_same(rt: &impl Abort, found: &Lists, wanted: &Lists) {
-    assert_eq!(rt; found, wanted);
-}
-
-fn check_lists(
-    rt: &impl Abort,
-    alloc: Global,
-    ontology: &Ontology,
-    query: &Query,
-    wanted: &Lists,
-) -> Result<(), NoMemory>
+fn by_askers(alloc: Global, ontology: &Ontology, query: &Query) -> Result<bool, Refusal>
     requires in_limit { IsInLimit ontology.now query.now }
 {
-    assert_same(rt, &by_all(alloc, ontology, query)?, wanted);
-    assert_same(rt, &by_module(alloc, ontology, query)?, wanted);
-    Ok(())
+    let are_all = by_all(alloc, ontology, query)?;
+    Ok(by_module(alloc, ontology, query)? && are_all)
 }
 
-fn check_objects(rt: &impl Abort, alloc: Global, wanted: &Lists) -> Result<(), Refusal> {
-    let (ontology, query) = read(alloc, DOCUMENT, "SubClassOf(:A :C)")?;
-    check_on(rt, alloc, &ontology, &query, wanted)
-}
-
-fn check_on(
-    rt: &impl Abort,
-    alloc: Global,
-    ontology: &Ontology,
-    query: &Query,
-    wanted: &Lists,
-) -> Result<(), Refusal>
-    requires in_limit { IsInLimit ontology.now query.now }
-{
-    check_lists(rt, alloc, ontology, query, wanted)?;
-    Ok(())
+fn by_askers_on(alloc: Global, document: &[u8]) -> Result<bool, Refusal> {
+    let (ontology, query) = read(alloc, document, "SubClassOf(:A :C)")?;
+    by_askers(alloc, &ontology, &query)
 }
 
 #[test]
 fn objects_of_one_meaning_have_equal_lists(rt: HostRuntime) -> Result<(), Fail> {
-    let wanted = by_sets(rt.alloc())?;
-    assert!(rt; wanted.finished);
-    check_objects(&rt, rt.alloc(), &wanted)?;
+    assert!(rt; by_sets(rt.alloc())?, "by sets in memory");
+    assert!(rt; by_askers_on(rt.alloc(), DOCUMENT)?, "by askers");
     Ok(())
 }

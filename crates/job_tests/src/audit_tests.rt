@@ -7,7 +7,6 @@ use audit_check::{AuditVerdict, NoMemory, verify};
 use audit_file::{AuditFault, read_text};
 use shq_terms::{Ontology, Query};
 use std::alloc::Global;
-use std::process::Abort;
 use std::test::Fail;
 
 const DOCUMENT: &[u8] = b"Prefix(:=<e:>)Ontology(SubClassOf(:A :B)SubClassOf(:B :C))";
@@ -95,18 +94,19 @@ fn verdict_with(
     verdict_on(alloc, ontology, query, &lines)
 }
 
-fn check_on(rt: &impl Abort, alloc: Global, ontology: &Ontology, query: &Query)
+fn are_judged(alloc: Global, ontology: &Ontology, query: &Query) -> bool
     requires { IsInLimit ontology.now query.now }
 {
+    let mut are_so = true;
     for (place, line, wanted) in CHANGES {
-        let said = verdict_with(alloc, ontology, query, *place, line);
-        assert_eq!(rt; said, *wanted, "{place}");
+        are_so &= verdict_with(alloc, ontology, query, *place, line) == *wanted;
     }
+    are_so
 }
 
 #[test]
 fn audits_are_judged(rt: HostRuntime) -> Result<(), Fail> {
     let (ontology, query) = read(rt.alloc(), DOCUMENT, "SubClassOf(:A :C)")?;
-    check_on(&rt, rt.alloc(), &ontology, &query);
+    assert!(rt; are_judged(rt.alloc(), &ontology, &query));
     Ok(())
 }

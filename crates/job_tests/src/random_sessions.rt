@@ -2,28 +2,23 @@
 // names.
 ghost use Rattle.std.specs.Prelude.{◌<◌, length};
 
-use crate::session_tests::told;
-use edit_session::Status;
-use job_runs::{NoMemory, document, run_on};
+use crate::answers::is_entailed;
+use crate::session_tests::input_of;
+use edit_session::{Status, answer_script};
+use job_runs::NoMemory;
+use run_log::RunLog;
 use std::alloc::Global;
-use std::process::Abort;
 use std::str;
 use std::test::Fail;
 
 // How many lines a script has.
 const LINES: usize = 50;
 
-// Documents, by their axioms.
-const DOCUMENTS: &[[&str; 2]] = &[
-    [
-        "SubClassOf(:A ObjectUnionOf(:B :C))",
-        "SubClassOf(:B ObjectSomeValuesFrom(:R :D))",
-    ],
-    [
-        "TransitiveObjectProperty(:R)",
-        "SubClassOf(:A ObjectSomeValuesFrom(:R :B))",
-    ],
-    ["ClassAssertion(:A :x)", "ObjectPropertyAssertion(:R :x :y)"],
+// The axioms of documents, each on a line.
+const DOCUMENTS: &[&str] = &[
+    "SubClassOf(:A ObjectUnionOf(:B :C))\nSubClassOf(:B ObjectSomeValuesFrom(:R :D))",
+    "TransitiveObjectProperty(:R)\nSubClassOf(:A ObjectSomeValuesFrom(:R :B))",
+    "ClassAssertion(:A :x)\nObjectPropertyAssertion(:R :x :y)",
 ];
 
 // Classes, the more likely ones twice.
@@ -61,13 +56,8 @@ const QUERIES: &[[&str; 3]] = &[
     ["ClassAssertion(ObjectUnionOf(", " ", ") :x)"],
 ];
 
-// What a line of a script asks for.
-#[derive(Drop)]
-enum Edit {
-    Add(String),
-    Remove(usize),
-    Ask(String),
-}
+// Numbers of axioms, some of which are not live.
+const NUMBERS: &[&str] = &["0", "1", "2", "3", "4", "5", "6", "7", "8", "9", "10", "11"];
 
 // ---- random lines
 
@@ -93,83 +83,90 @@ impl Draws {
         CLASSES[self.below(CLASSES.len())]
     }
 
-    // An axiom or a query of one of these kinds.
-    fn statement(&mut self, alloc: Global, kinds: &[[&str; 3]]) -> Result<String, NoMemory>
+    // Puts an axiom or a query of one of these kinds last.
+    fn put_statement(&mut self, text: &mut String, kinds: &[[&str; 3]]) -> Result<(), NoMemory>
         requires { 0 < length kinds.now }
     {
         let kind = kinds[self.below(kinds.len())];
-        let one = self.class();
-        let two = self.class();
-        Ok(format!(in alloc; "{}{one}{}{two}{}", kind[0], kind[1], kind[2])?)
+        text.push_str(kind[0])?;
+        text.push_str(self.class())?;
+        text.push_str(kind[1])?;
+        text.push_str(self.class())?;
+        text.push_str(kind[2])?;
+        Ok(())
     }
 
-    // A line; every second one asks, and every fourth one removes, some of these a number that is not live.
-    fn edit(&mut self, alloc: Global) -> Result<Edit, NoMemory> {
-        Ok(match self.below(8) {
-            0 | 1 => Edit::Add(self.statement(alloc, AXIOMS)?),
-            2 | 3 => Edit::Remove(self.below(12)),
-            _ => Edit::Ask(self.statement(alloc, QUERIES)?),
-        })
+    // Puts a line last; every second one asks, and every fourth one removes.
+    fn put_line(&mut self, text: &mut String) -> Result<(), NoMemory> {
+        let kind = self.below(8);
+        if kind < 2 {
+            text.push_str("add ")?;
+            self.put_statement(text, AXIOMS)?;
+        } else if kind < 4 {
+            text.push_str("remove ")?;
+            text.push_str(NUMBERS[self.below(NUMBERS.len())])?;
+        } else {
+            text.push_str("ask ")?;
+            self.put_statement(text, QUERIES)?;
+        }
+        text.push_str("\n")?;
+        Ok(())
     }
 }
 
-fn edits(alloc: Global, seed: u64) -> Result<Vec<Edit>, NoMemory> {
+fn put_script(script: &mut String, seed: u64) -> Result<(), NoMemory> {
     let mut draws = Draws {
         last: seed.wrapping_mul(0x9e37_79b9_7f4a_7c15),
     };
-    let mut edits = Vec::new(alloc);
     for _ in 0..LINES {
-        edits.push(draws.edit(alloc)?)?;
+        draws.put_line(script)?;
     }
-    Ok(edits)
-}
-
-fn script_of(alloc: Global, edits: &[Edit]) -> Result<String, NoMemory> {
-    let mut script = String::new(alloc);
-    for edit in edits {
-        let line = line_of(alloc, edit)?;
-        script.push_str(line.as_str())?;
-    }
-    Ok(script)
-}
-
-fn line_of(alloc: Global, edit: &Edit) -> Result<String, NoMemory> {
-    Ok(match edit {
-        Edit::Add(text) => format!(in alloc; "add {text}\n")?,
-        Edit::Remove(number) => format!(in alloc; "remove {number}\n")?,
-        Edit::Ask(text) => format!(in alloc; "ask {text}\n")?,
-    })
+    Ok(())
 }
 
 // ---- answers
 
 // The axioms that were held, by their numbers; a removed one is empty.
 #[derive(Drop)]
-struct Mirror {
-    axioms: Vec<String>,
+struct Mirror<'a> {
+    axioms: Vec<&'a str>,
 }
 
-impl Mirror {
-    // The mirror of a document.
-    fn new(alloc: Global, document: &[&str]) -> Result<Mirror, NoMemory> {
-        let mut axioms = Vec::new(alloc);
-        for text in document {
-            axioms.push(String::from_str(alloc, text)?)?;
+impl<'a> Mirror<'a> {
+    // Takes the axioms of a document, and tells whether each line is answered, as a new run says.
+    fn are_right(
+        &mut self,
+        alloc: Global,
+        axioms: &'a str,
+        script: &'a str,
+        answers: &str,
+    ) -> Result<bool, NoMemory> {
+        for axiom in axioms.lines() {
+            self.axioms.push(axiom)?;
         }
-        Ok(Mirror { axioms })
+        let mut are_so = answers.lines().count() == LINES;
+        for (line, answer) in script.lines().zip(answers.lines()) {
+            are_so &= self.is_right(alloc, line, answer)?;
+        }
+        Ok(are_so)
     }
 
     // Whether this is the answer to a line, after which the mirror stands as the session should.
-    fn is_right(&mut self, alloc: Global, edit: &Edit, answer: &str) -> Result<bool, NoMemory> {
-        match edit {
-            Edit::Add(text) => self.is_added(alloc, text.as_str(), answer),
-            Edit::Remove(number) => self.is_removed(alloc, *number, answer),
-            Edit::Ask(query) => self.is_answered(alloc, query.as_str(), answer),
+    fn is_right(&mut self, alloc: Global, line: &'a str, answer: &str) -> Result<bool, NoMemory> {
+        let Some((word, text)) = line.split_once(' ') else {
+            return Ok(false);
+        };
+        if word == "add" {
+            self.is_added(alloc, text, answer)
+        } else if word == "remove" {
+            self.is_removed(alloc, number_of(text), answer)
+        } else {
+            self.is_answered(alloc, text, answer)
         }
     }
 
-    fn is_added(&mut self, alloc: Global, text: &str, answer: &str) -> Result<bool, NoMemory> {
-        self.axioms.push(String::from_str(alloc, text)?)?;
+    fn is_added(&mut self, alloc: Global, text: &'a str, answer: &str) -> Result<bool, NoMemory> {
+        self.axioms.push(text)?;
         let number = self.axioms.len();
         let wanted = format!(in alloc; "axiom {number}")?;
         Ok(answer == wanted.as_str())
@@ -179,26 +176,21 @@ impl Mirror {
         if !self.is_live(number) {
             return Ok(answer == "bad line");
         }
-        self.empty(alloc, number);
+        self.empty(number);
         let wanted = format!(in alloc; "removed {number}")?;
         Ok(answer == wanted.as_str())
     }
 
-    // The text of the axiom of a number; empty where there is none, or it was removed.
-    fn axiom(&self, number: usize) -> &str {
+    fn is_live(&self, number: usize) -> bool {
         match self.axioms.get(number.wrapping_sub(1)) {
-            Some(text) => text.as_str(),
-            None => "",
+            Some(text) => !text.is_empty(),
+            None => false,
         }
     }
 
-    fn is_live(&self, number: usize) -> bool {
-        !self.axiom(number).is_empty()
-    }
-
-    fn empty(&mut self, alloc: Global, number: usize) {
+    fn empty(&mut self, number: usize) {
         if let Some(text) = self.axioms.get_mut(number.wrapping_sub(1)) {
-            *text = String::new(alloc);
+            *text = "";
         }
     }
 
@@ -206,36 +198,45 @@ impl Mirror {
     // which are live.
     fn is_answered(&self, alloc: Global, query: &str, answer: &str) -> Result<bool, NoMemory> {
         if answer == "no" {
-            let all = self.live(alloc)?;
-            return Ok(!follows(alloc, all.as_str(), query)?);
+            return Ok(!self.follows(alloc, query, None)?);
         }
-        let Some((word, numbers)) = answer.split_once(' ') else {
-            return Ok(false);
-        };
-        let named = self.named(alloc, numbers)?;
-        Ok(word == "yes" && self.are_live(numbers) && follows(alloc, named.as_str(), query)?)
-    }
-
-    fn live(&self, alloc: Global) -> Result<String, NoMemory> {
-        let mut text = String::new(alloc);
-        for axiom in &self.axioms {
-            text.push_str(axiom.as_str())?;
-            text.push_str("\n")?;
+        match answer.strip_prefix("yes ") {
+            Some(numbers) => {
+                Ok(self.are_live(numbers) && self.follows(alloc, query, Some(numbers))?)
+            }
+            None => Ok(false),
         }
-        Ok(text)
-    }
-
-    fn named(&self, alloc: Global, numbers: &str) -> Result<String, NoMemory> {
-        let mut text = String::new(alloc);
-        for word in numbers.split(' ') {
-            text.push_str(self.axiom(number_of(word)))?;
-            text.push_str("\n")?;
-        }
-        Ok(text)
     }
 
     fn are_live(&self, numbers: &str) -> bool {
         numbers == "empty" || numbers.split(' ').all(|word| self.is_live(number_of(word)))
+    }
+
+    // Whether a query follows from the live axioms, or from those of these numbers.
+    fn follows(&self, alloc: Global, query: &str, numbers: Option<&str>) -> Result<bool, NoMemory> {
+        let mut document = String::new(alloc);
+        self.put_document(&mut document, numbers)?;
+        is_entailed(alloc, document.as_str(), query)
+    }
+
+    fn put_document(&self, text: &mut String, numbers: Option<&str>) -> Result<(), NoMemory> {
+        text.push_str("Prefix(:=<http://e.org/>)\nOntology(\n")?;
+        for (place, axiom) in self.axioms.iter().enumerate() {
+            if is_among(numbers, place.wrapping_add(1)) {
+                text.push_str(axiom)?;
+                text.push_str("\n")?;
+            }
+        }
+        text.push_str(")\n")?;
+        Ok(())
+    }
+}
+
+// Whether a number is one of these, or there is no choice.
+fn is_among(numbers: Option<&str>, number: usize) -> bool {
+    match numbers {
+        Some(numbers) => numbers.split(' ').any(|word| number_of(word) == number),
+        None => true,
     }
 }
 
@@ -244,44 +245,50 @@ fn number_of(word: &str) -> usize {
     word.parse::<usize>().unwrap_or(0)
 }
 
-fn follows(alloc: Global, axioms: &str, query: &str) -> Result<bool, NoMemory> {
-    let text = document(alloc, axioms)?;
-    let answer = run_on(alloc, &["entails", query], text.as_bytes())?;
-    Ok(answer.verdict() == b"entailed".as_slice())
-}
-
-// Whether each line is answered, as a new run says.
-fn are_right(
+fn are_right<'a>(
     alloc: Global,
-    document: &[&str],
-    edits: &[Edit],
+    axioms: &'a str,
+    script: &'a str,
     answers: &str,
 ) -> Result<bool, NoMemory> {
-    let mut mirror = Mirror::new(alloc, document)?;
-    for (edit, answer) in edits.iter().zip(answers.lines()) {
-        if !mirror.is_right(alloc, edit, answer)? {
-            return Ok(false);
-        }
-    }
-    Ok(answers.lines().count() == edits.len())
+    let mut mirror = Mirror {
+        axioms: Vec::new(alloc),
+    };
+    mirror.are_right(alloc, axioms, script, answers)
 }
 
-// Whether a session on a document answers each line, as a new run says.
-fn is_right_on(alloc: Global, document: &[&str; 2], edits: &[Edit]) -> Result<bool, NoMemory> {
-    let script = script_of(alloc, edits)?;
-    let axioms = format!(in alloc; "{}\n{}", document[0], document[1])?;
-    let told = told(alloc, axioms.as_str(), script.as_bytes(), 1_000_000)?;
-    let answers = str::from_utf8(told.text.bytes()).unwrap_or("");
-    Ok(told.status == Status::Done && are_right(alloc, document, edits, answers)?)
+// Whether a session answers each line to an input of these axioms and this script, as a new run says.
+fn is_answered_right(
+    alloc: Global,
+    input: &[u8],
+    axioms: &str,
+    script: &str,
+) -> Result<bool, NoMemory> {
+    if input.len() > 1_000_000 {
+        return Err(NoMemory);
+    }
+    let (status, text) = answer_script(alloc, 1_000_000, input, &mut RunLog::new(alloc));
+    let answers = str::from_utf8(text.bytes()).unwrap_or("");
+    Ok(status == Status::Done && are_right(alloc, axioms, script, answers)?)
+}
+
+fn is_right_to(alloc: Global, axioms: &str, script: &str) -> Result<bool, NoMemory> {
+    let input = input_of(alloc, axioms, script)?;
+    is_answered_right(alloc, input.as_bytes(), axioms, script)
+}
+
+fn is_right_on(alloc: Global, axioms: &str, seed: u64) -> Result<bool, NoMemory> {
+    let mut script = String::new(alloc);
+    put_script(&mut script, seed)?;
+    is_right_to(alloc, axioms, script.as_str())
 }
 
 #[test]
 fn answers_are_those_of_new_runs(rt: HostRuntime) -> Result<(), Fail> {
-    let alloc = rt.alloc();
-    for (place, document) in DOCUMENTS.iter().enumerate() {
-        for seed in 1_u64..4 {
-            let edits = edits(alloc, seed.wrapping_mul(7).wrapping_add(place as u64))?;
-            let is_right = is_right_on(alloc, document, &edits)?;
+    for (place, axioms) in DOCUMENTS.iter().enumerate() {
+        for number in 1_u64..4 {
+            let seed = number.wrapping_mul(7).wrapping_add(place as u64);
+            let is_right = is_right_on(rt.alloc(), axioms, seed)?;
             assert!(rt; is_right, "document {place}, seed {seed}");
         }
     }

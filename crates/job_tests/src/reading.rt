@@ -1,5 +1,6 @@
 // Documents and sets of their axioms, for calls below the jobs.
 ghost use Rattle.std.specs.Prelude.{◌≡◌, IfOk};
+ghost use Rattle.std.specs.List.{All};
 ghost use Rattle.ontology_limits.specs.Limits.{IsInLimit};
 
 use axiom_sets::AxiomSet;
@@ -42,4 +43,28 @@ fn put(set: &mut AxiomSet, number: u32)
     if number >= 1 && number <= set.limit() {
         set.put(number);
     }
+}
+
+/// The sets of these numbers, up to a count.
+pub(crate) fn sets_of(
+    alloc: Global,
+    count: u32,
+    lists: &[&[u32]],
+) -> Result<Vec<AxiomSet>, NoMemory>
+    ensures { IfOk result (λ v. All (λ s. s.limit ≡ count) v.items) }
+{
+    let mut sets = Vec::new(alloc);
+    for list in lists {
+        sets.push(set_of(alloc, count, list)?)?;
+    }
+    Ok(sets)
+}
+
+/// Whether the sets have these numbers, in this order.
+pub(crate) fn are_sets(sets: &[AxiomSet], lists: &[&[u32]]) -> bool {
+    let mut are_same = sets.len() == lists.len();
+    for (set, list) in sets.iter().zip(lists) {
+        are_same &= set.numbers().eq(list.iter().copied());
+    }
+    are_same
 }

@@ -7,7 +7,6 @@ use individual_jobs::{Status, Text, instances, realize, why};
 use job_runs::{Answer, NoMemory, document, run_on};
 use run_log::RunLog;
 use std::alloc::Global;
-use std::process::Abort;
 use std::test::Fail;
 
 // ---- whole texts
@@ -167,26 +166,25 @@ empty
 // A budget that suffices for each of them.
 const AMPLE: u32 = 2_000;
 
-// What is answered, and what it took of the budget.
-#[derive(Drop)]
+// What comes of a budget.
+#[derive(Clone, Copy)]
 struct Told {
-    status: Status,
-    text: Text,
+    /// Whether all is told that is wanted.
+    is_all: bool,
+    /// Whether nothing is.
+    is_nothing: bool,
+    /// What it took of the budget.
     spent: u64,
 }
 
 impl Told {
-    fn is(&self, status: Status, text: &[u8]) -> bool {
-        self.status == status && self.text.bytes() == text
-    }
-
     // Whether it is what a budget gives, where the whole answer takes so much: all with more, nothing with less. With
     // just that much it may be either: of a budget of which nothing is left no test is begun, not even of no steps.
-    fn is_within(&self, budget: u32, all: &Told) -> bool {
+    fn is_within(self, budget: u32, whole: u64) -> bool {
         let budget = u64::from(budget);
-        let is_all = self.is(all.status, all.text.bytes()) && self.spent == all.spent;
-        let is_nothing = self.is(Status::Undecided, b"undecided\n") && self.spent == budget;
-        (is_all && all.spent <= budget) || (is_nothing && budget <= all.spent)
+        let is_all = self.is_all && self.spent == whole;
+        let is_nothing = self.is_nothing && self.spent == budget;
+        (is_all && whole <= budget) || (is_nothing && budget <= whole)
     }
 }
 
@@ -207,65 +205,58 @@ fn answer_to(
     }
 }
 
-fn answer_within(alloc: Global, asked: Asked, budget: u32, bytes: &[u8]) -> Told
+// What comes of a budget, where so the run is to end and this is to be answered with an ample one.
+fn told_within(
+    alloc: Global,
+    asked: Asked,
+    budget: u32,
+    bytes: &[u8],
+    wanted: (Status, &str),
+) -> Told
     requires { length bytes.now < 1000 }
 {
+    let (status, text) = wanted;
     let mut log = RunLog::new(alloc);
-    let (status, text) = answer_to(alloc, asked, budget, bytes, &mut log);
-    let spent = log.spent();
-    drop(log);
+    let (ended, answer) = answer_to(alloc, asked, budget, bytes, &mut log);
     Told {
-        status,
-        text,
-        spent,
+        is_all: ended == status && answer.bytes() == text.as_bytes(),
+        is_nothing: ended == Status::Undecided && answer.bytes() == b"undecided\n".as_slice(),
+        spent: log.spent(),
     }
-}
-
-fn check_budget(rt: &impl Abort, alloc: Global, asked: Asked, budget: u32, bytes: &[u8], all: &Told)
-    requires { length bytes.now < 1000 }
-{
-    let some = answer_within(alloc, asked, budget, bytes);
-    assert!(rt; some.is_within(budget, all), "{budget} of {}", all.spent);
 }
 
 // Whether all is told with an ample budget, and what each budget gives up to the first that is more than enough.
-fn check_answers(
-    rt: &impl Abort,
-    alloc: Global,
-    asked: Asked,
-    bytes: &[u8],
-    status: Status,
-    text: &str,
-)
+fn are_told(alloc: Global, asked: Asked, bytes: &[u8], wanted: (Status, &str)) -> bool
     requires { length bytes.now < 1000 }
 {
-    let all = answer_within(alloc, asked, AMPLE, bytes);
-    assert!(rt; all.is(status, text.as_bytes()), "{text}");
-    assert!(rt; all.spent < u64::from(AMPLE));
-    for budget in 1..all.spent as u32 + 2 {
-        check_budget(rt, alloc, asked, budget, bytes, &all);
+    let all = told_within(alloc, asked, AMPLE, bytes, wanted);
+    if !all.is_all || all.spent >= u64::from(AMPLE) {
+        return false;
     }
+    let mut are_so = true;
+    for budget in 1..all.spent as u32 + 2 {
+        let some = told_within(alloc, asked, budget, bytes, wanted);
+        are_so &= some.is_within(budget, all.spent);
+    }
+    are_so
 }
 
-fn check_case(
-    rt: &impl Abort,
+fn are_told_of(
     alloc: Global,
     axioms: &str,
     asked: Asked,
-    status: Status,
-    text: &str,
-) -> Result<(), NoMemory> {
+    wanted: (Status, &str),
+) -> Result<bool, NoMemory> {
     let document = document(alloc, axioms)?;
     let bytes = document.as_bytes();
-    assert!(rt; bytes.len() < 1000);
-    check_answers(rt, alloc, asked, bytes, status, text);
-    Ok(())
+    Ok(bytes.len() < 1000 && are_told(alloc, asked, bytes, wanted))
 }
 
 #[test]
 fn tells_all_or_spends_all(rt: HostRuntime) -> Result<(), Fail> {
     for (axioms, asked, status, text) in CASES {
-        check_case(&rt, rt.alloc(), axioms, *asked, *status, text)?;
+        let are_so = are_told_of(rt.alloc(), axioms, *asked, (*status, *text))?;
+        assert!(rt; are_so, "{text}");
     }
     Ok(())
 }
@@ -325,9 +316,12 @@ struct Lines {
     axioms: String,
 }
 
-// Puts the lines of an instance last: the first of what explains it says how many justifications there are, and those
-// of axioms come last.
+// Puts the lines of an instance last, unless nothing explains it: the first of what does says how many justifications
+// there are, and those of axioms come last.
 fn put_instance(lines: &mut Lines, name: &str, explained: &str) -> Result<(), NoMemory> {
+    if explained == "justifications 0\n" {
+        return Ok(());
+    }
     lines.sets.push_str("instance <http://e.org/")?;
     lines.sets.push_str(name)?;
     lines.sets.push_str("> ")?;
@@ -351,23 +345,21 @@ fn put_individual(
     name: &str,
 ) -> Result<(), NoMemory> {
     let answer = explained(alloc, document, class, name)?;
-    let text = str::from_utf8(answer.text()).unwrap_or("");
-    if text != "justifications 0\n" {
-        put_instance(lines, name, text)?;
-    }
-    Ok(())
+    put_instance(lines, name, str::from_utf8(answer.text()).unwrap_or(""))
 }
 
-// The lines of all individuals.
-fn lines_of(alloc: Global, document: &str, class: &str, names: &[&str]) -> Result<Lines, NoMemory> {
-    let mut lines = Lines {
-        sets: String::new(alloc),
-        axioms: String::new(alloc),
-    };
+// Puts the lines of all individuals last.
+fn put_individuals(
+    alloc: Global,
+    lines: &mut Lines,
+    document: &str,
+    class: &str,
+    names: &[&str],
+) -> Result<(), NoMemory> {
     for name in names {
-        put_individual(alloc, &mut lines, document, class, name)?;
+        put_individual(alloc, lines, document, class, name)?;
     }
-    Ok(lines)
+    Ok(())
 }
 
 fn are_among(lines: &str, others: &str) -> bool {
@@ -389,6 +381,7 @@ fn is_made_of(text: &str, lines: &Lines) -> bool {
     }
 }
 
+// Whether the reasons are these lines, and there are some.
 fn has_reasons(
     alloc: Global,
     document: &str,
@@ -397,37 +390,40 @@ fn has_reasons(
 ) -> Result<bool, NoMemory> {
     let answer = run_on(alloc, &["why", class], document.as_bytes())?;
     let text = str::from_utf8(answer.text()).unwrap_or("");
-    Ok(answer.status == Status::Done && is_made_of(text, lines))
+    Ok(answer.status == Status::Done && !lines.sets.is_empty() && is_made_of(text, lines))
 }
 
-fn check_lines(
-    rt: &impl Abort,
+fn are_explained(
     alloc: Global,
     document: &str,
     class: &str,
     names: &[&str],
-) -> Result<(), NoMemory> {
-    let lines = lines_of(alloc, document, class, names)?;
-    assert!(rt; !lines.sets.is_empty(), "{document}");
-    assert!(rt; has_reasons(alloc, document, class, &lines)?, "{document}");
-    Ok(())
+) -> Result<bool, NoMemory> {
+    let mut lines = Lines {
+        sets: String::new(alloc),
+        axioms: String::new(alloc),
+    };
+    put_individuals(alloc, &mut lines, document, class, names)?;
+    has_reasons(alloc, document, class, &lines)
 }
 
-fn check_reasons(
-    rt: &impl Abort,
+fn are_reasons_explained(
     alloc: Global,
     class: &str,
     names: &[&str],
     axioms: &str,
-) -> Result<(), NoMemory> {
+) -> Result<bool, NoMemory> {
     let document = document(alloc, axioms)?;
-    check_lines(rt, alloc, document.as_str(), class, names)
+    are_explained(alloc, document.as_str(), class, names)
 }
 
 #[test]
 fn reasons_are_what_explain_lists(rt: HostRuntime) -> Result<(), Fail> {
     for (class, names, axioms) in DOCUMENTS {
-        check_reasons(&rt, rt.alloc(), class, names, axioms)?;
+        assert!(rt;
+            are_reasons_explained(rt.alloc(), class, names, axioms)?,
+            "{axioms}"
+        );
     }
     Ok(())
 }

@@ -1,25 +1,29 @@
 // The taxonomy of a document by its definition, from the answers about all pairs of its classes, each asked by itself,
 // and the types of its individuals and the individuals of a class from those about each of them and each class.
 
-use job_runs::{NoMemory, run_on};
+use crate::answers::is_entailed;
+use job_runs::NoMemory;
 use std::alloc::Global;
 
-/// Class expressions, `owl:Thing` and `owl:Nothing` before the names of the document, and for each the places of those
-/// that contain it.
-#[derive(Drop)]
+/// Which classes of a document contain which, of at most eight. A class is told by its place: `owl:Thing` and
+/// `owl:Nothing` come before the names.
+#[derive(Clone, Copy)]
 pub(crate) struct Relation {
-    classes: Vec<String>,
-    above: Vec<usize>,
+    // How many classes there are.
+    count: usize,
+    // A bit for each class and one that contains it.
+    pairs: u64,
 }
 
-// Names that are wanted: those of empty classes, of classes that hold everything, of equal classes, and the first
-// names of direct parents.
+// Names that are wanted: those of empty classes, of classes that hold everything, of equal classes, of classes that
+// strictly contain one, and of those at some places the direct ones.
 #[derive(Clone, Copy)]
 enum Wanted {
     Empty,
     Everything,
     EqualTo(usize),
-    ParentOf(usize),
+    Above(usize),
+    DirectIn(usize),
 }
 
 // The places that come before the names.
@@ -29,99 +33,79 @@ const NOTHING: usize = 1;
 
 const FIRST: usize = 2;
 
+// The class at a place, where the document lists these names.
+fn class_at<'a>(names: &[&'a str], place: usize) -> &'a str {
+    if place == THING {
+        return "owl:Thing";
+    }
+    if place == NOTHING {
+        return "owl:Nothing";
+    }
+    match names.get(place.wrapping_sub(FIRST)) {
+        Some(name) => *name,
+        None => "",
+    }
+}
+
 /// Asks about all pairs of classes of the document, which lists these names in this order.
 pub(crate) fn relation_of(
     alloc: Global,
     document: &str,
     names: &[&str],
 ) -> Result<Relation, NoMemory> {
-    let classes = classes_of(alloc, names)?;
-    let above = all_above(alloc, document, &classes)?;
-    Ok(Relation { classes, above })
-}
-
-// For each class the places of those that contain it.
-fn all_above(alloc: Global, document: &str, classes: &[String]) -> Result<Vec<usize>, NoMemory> {
-    let mut above = Vec::new(alloc);
-    for class in classes {
-        above.push(those_above(alloc, document, classes, class.as_str())?)?;
-    }
-    Ok(above)
-}
-
-fn classes_of(alloc: Global, names: &[&str]) -> Result<Vec<String>, NoMemory> {
-    let mut classes = Vec::new(alloc);
-    classes.push(String::from_str(alloc, "owl:Thing")?)?;
-    classes.push(String::from_str(alloc, "owl:Nothing")?)?;
-    for name in names {
-        classes.push(format!(in alloc; "<http://e.org/{name}>")?)?;
-    }
-    Ok(classes)
-}
-
-// The places of the classes that contain this one.
-fn those_above(
-    alloc: Global,
-    document: &str,
-    classes: &[String],
-    class: &str,
-) -> Result<usize, NoMemory> {
-    let mut above = 0;
-    for (place, other) in classes.iter().enumerate() {
-        if contains(alloc, document, class, other.as_str())? {
-            above = with(above, place);
+    let count = names.len().saturating_add(FIRST);
+    let mut pairs = 0;
+    for place in 0..count {
+        for other in 0..count {
+            if is_part(
+                alloc,
+                document,
+                class_at(names, place),
+                class_at(names, other),
+            )? {
+                pairs |= pair(place, other);
+            }
         }
     }
-    Ok(above)
+    Ok(Relation { count, pairs })
 }
 
 // Whether the second class contains the first.
-fn contains(alloc: Global, document: &str, class: &str, other: &str) -> Result<bool, NoMemory> {
+fn is_part(alloc: Global, document: &str, class: &str, other: &str) -> Result<bool, NoMemory> {
     let query = format!(in alloc; "SubClassOf({class} {other})")?;
-    let answer = run_on(alloc, &["entails", query.as_str()], document.as_bytes())?;
-    Ok(answer.verdict() == b"entailed".as_slice())
+    is_entailed(alloc, document, query.as_str())
 }
 
 // Whether the individual is in the class.
 fn is_instance(alloc: Global, document: &str, class: &str, name: &str) -> Result<bool, NoMemory> {
-    let query = format!(in alloc; "ClassAssertion({class} <http://e.org/{name}>)")?;
-    let answer = run_on(alloc, &["entails", query.as_str()], document.as_bytes())?;
-    Ok(answer.verdict() == b"entailed".as_slice())
+    let query = format!(in alloc; "ClassAssertion({class} {name})")?;
+    is_entailed(alloc, document, query.as_str())
 }
 
-/// The text of the individuals of the document that are in a class expression. It lists these in this order.
+/// The places of the individuals of the document that are in a class expression.
 pub(crate) fn instances_of(
     alloc: Global,
     document: &str,
     class: &str,
     individuals: &[&str],
-) -> Result<String, NoMemory> {
-    let lines = instance_lines(alloc, document, class, individuals)?;
-    let count = lines.lines().count();
-    Ok(format!(in alloc; "instances {count}\n{lines}")?)
-}
-
-// The name of each individual that is in the class expression, on a line.
-fn instance_lines(
-    alloc: Global,
-    document: &str,
-    class: &str,
-    individuals: &[&str],
-) -> Result<String, NoMemory> {
-    let mut lines = String::new(alloc);
-    for name in individuals {
+) -> Result<usize, NoMemory> {
+    let mut places = 0;
+    for (place, name) in individuals.iter().enumerate() {
         if is_instance(alloc, document, class, name)? {
-            push_individual(&mut lines, name)?;
-            lines.push_str("\n")?;
+            places = with(places, place);
         }
     }
-    Ok(lines)
+    Ok(places)
 }
 
-fn push_individual(text: &mut String, name: &str) -> Result<(), NoMemory> {
-    text.push_str("<http://e.org/")?;
-    text.push_str(name)?;
-    text.push_str(">")?;
+/// Puts the names at these places last, each on a line.
+pub(crate) fn put_lines(text: &mut String, names: &[&str], places: usize) -> Result<(), NoMemory> {
+    for (place, name) in names.iter().enumerate() {
+        if has(places, place) {
+            text.push_str(name)?;
+            text.push_str("\n")?;
+        }
+    }
     Ok(())
 }
 
@@ -133,88 +117,100 @@ fn has(places: usize, place: usize) -> bool {
     (places >> (place % 16)) & 1 == 1
 }
 
+// The bit of a class and one that contains it.
+fn pair(place: usize, other: usize) -> u64 {
+    1_u64 << (place.wrapping_mul(8).wrapping_add(other) % 64)
+}
+
+// Puts a word last, and the classes at these places, each after a blank, where the document lists these names.
+fn put_classes(
+    text: &mut String,
+    names: &[&str],
+    word: &str,
+    places: usize,
+) -> Result<(), NoMemory> {
+    text.push_str(word)?;
+    for place in 0..16_usize {
+        if has(places, place) {
+            text.push_str(" ")?;
+            text.push_str(class_at(names, place))?;
+        }
+    }
+    Ok(())
+}
+
+// The places of the names of which the individual is an instance.
+fn types_of(
+    alloc: Global,
+    document: &str,
+    names: &[&str],
+    individual: &str,
+) -> Result<usize, NoMemory> {
+    let mut types = 0;
+    for (place, name) in names.iter().enumerate() {
+        if is_instance(alloc, document, name, individual)? {
+            types = with(types, place.wrapping_add(FIRST));
+        }
+    }
+    Ok(types)
+}
+
 impl Relation {
-    /// The text of the taxonomy.
-    pub(crate) fn text(&self, alloc: Global) -> Result<String, NoMemory> {
+    /// Puts the text of the taxonomy of the document last, which lists these names in this order.
+    pub(crate) fn put_taxonomy(self, text: &mut String, names: &[&str]) -> Result<(), NoMemory> {
         if self.is_below(THING, NOTHING) {
-            return Ok(String::from_str(alloc, "inconsistent\n")?);
+            text.push_str("inconsistent\n")?;
+            return Ok(());
         }
-        let mut text = String::from_str(alloc, "consistent\nnothing")?;
-        self.put(&mut text, self.places(Wanted::Empty))?;
-        text.push_str("\nthing")?;
-        self.put(&mut text, self.places(Wanted::Everything))?;
-        text.push_str("\n")?;
-        for place in FIRST..self.classes.len() {
+        let empty = self.places(Wanted::Empty);
+        put_classes(text, names, "consistent\nnothing", empty)?;
+        put_classes(text, names, "\nthing", self.places(Wanted::Everything))?;
+        for place in FIRST..self.count {
             if self.is_first(place) {
-                self.put_group(&mut text, place)?;
+                let above = self.places(Wanted::Above(place));
+                put_classes(text, names, "\nclass", self.places(Wanted::EqualTo(place)))?;
+                put_classes(text, names, " under", self.direct_of(above))?;
             }
         }
-        Ok(text)
-    }
-
-    /// The text of the realization of the document, which lists these individuals in this order.
-    pub(crate) fn types_text(
-        &self,
-        alloc: Global,
-        document: &str,
-        individuals: &[&str],
-    ) -> Result<String, NoMemory> {
-        if self.is_below(THING, NOTHING) {
-            return Ok(String::from_str(alloc, "inconsistent\n")?);
-        }
-        let mut text = String::from_str(alloc, "consistent\n")?;
-        for name in individuals {
-            let types = self.types_of(alloc, document, name)?;
-            self.put_types(&mut text, name, types)?;
-        }
-        Ok(text)
-    }
-
-    // The places of the names of which the individual is an instance.
-    fn types_of(&self, alloc: Global, document: &str, name: &str) -> Result<usize, NoMemory> {
-        let mut types = 0;
-        for (place, class) in self.classes.iter().enumerate() {
-            if place >= FIRST && is_instance(alloc, document, class.as_str(), name)? {
-                types = with(types, place);
-            }
-        }
-        Ok(types)
-    }
-
-    // The line of an individual that is in the classes of these places.
-    fn put_types(&self, text: &mut String, name: &str, types: usize) -> Result<(), NoMemory> {
-        text.push_str("individual ")?;
-        push_individual(text, name)?;
-        text.push_str(" types")?;
-        let direct = self.direct_of(types);
-        self.put(text, if direct == 0 { with(0, THING) } else { direct })?;
         text.push_str("\n")?;
         Ok(())
     }
 
-    // Those of the places at which the first name of a group stands, and of whose groups none of the others is part.
-    fn direct_of(&self, types: usize) -> usize {
-        let mut direct = 0;
-        for place in FIRST..self.classes.len() {
-            if self.is_direct(types, place) {
-                direct = with(direct, place);
-            }
+    /// Puts the text of the realization of the document last, which lists these names and these individuals in this
+    /// order.
+    pub(crate) fn put_realization(
+        self,
+        alloc: Global,
+        text: &mut String,
+        document: &str,
+        names: &[&str],
+        individuals: &[&str],
+    ) -> Result<(), NoMemory> {
+        if self.is_below(THING, NOTHING) {
+            text.push_str("inconsistent\n")?;
+            return Ok(());
         }
-        direct
+        text.push_str("consistent\n")?;
+        for individual in individuals {
+            let types = types_of(alloc, document, names, individual)?;
+            text.push_str("individual ")?;
+            text.push_str(individual)?;
+            put_classes(text, names, " types", self.direct_of(types))?;
+            text.push_str("\n")?;
+        }
+        Ok(())
     }
 
-    fn is_direct(&self, types: usize, place: usize) -> bool {
-        has(types, place)
-            && self.is_first(place)
-            && (FIRST..self.classes.len()).all(|other| !(has(types, other)
-                && self.is_first(other)
-                && self.is_strictly_below(other, place)))
+    // Those of the places that are direct among them; that of `owl:Thing` where there are none.
+    fn direct_of(self, places: usize) -> usize {
+        let direct = self.places(Wanted::DirectIn(places));
+        if direct == 0 { with(0, THING) } else { direct }
     }
 
     // The places of the names that are wanted.
-    fn places(&self, wanted: Wanted) -> usize {
+    fn places(self, wanted: Wanted) -> usize {
         let mut places = 0;
-        for place in FIRST..self.classes.len() {
+        for place in FIRST..self.count {
             if self.is_wanted(place, wanted) {
                 places = with(places, place);
             }
@@ -222,77 +218,47 @@ impl Relation {
         places
     }
 
-    fn is_wanted(&self, place: usize, wanted: Wanted) -> bool {
+    fn is_wanted(self, place: usize, wanted: Wanted) -> bool {
         match wanted {
             Wanted::Empty => self.is_below(place, NOTHING),
             Wanted::Everything => self.is_below(THING, place),
             Wanted::EqualTo(other) => self.are_equal(place, other),
-            Wanted::ParentOf(other) => self.is_parent(other, place),
+            Wanted::Above(other) => self.is_strictly_below(other, place),
+            Wanted::DirectIn(places) => self.is_direct(places, place),
         }
     }
 
-    // The line of the group whose first name stands at this place.
-    fn put_group(&self, text: &mut String, place: usize) -> Result<(), NoMemory> {
-        text.push_str("class")?;
-        self.put(text, self.places(Wanted::EqualTo(place)))?;
-        text.push_str(" under")?;
-        let parents = self.places(Wanted::ParentOf(place));
-        self.put(
-            text,
-            if parents == 0 {
-                with(0, THING)
-            } else {
-                parents
-            },
-        )?;
-        text.push_str("\n")?;
-        Ok(())
-    }
-
-    // The classes at these places, each after a blank.
-    fn put(&self, text: &mut String, places: usize) -> Result<(), NoMemory> {
-        for (place, class) in self.classes.iter().enumerate() {
-            if has(places, place) {
-                text.push_str(" ")?;
-                text.push_str(class.as_str())?;
+    // Whether the first name of a group stands at this place, which is one of the places, and none of the groups of the
+    // others is strictly part of it.
+    fn is_direct(self, places: usize, place: usize) -> bool {
+        let mut is_so = has(places, place) && self.is_first(place);
+        for other in FIRST..self.count {
+            if has(places, other) && self.is_first(other) && self.is_strictly_below(other, place) {
+                is_so = false;
             }
         }
-        Ok(())
+        is_so
     }
 
-    fn is_below(&self, place: usize, other: usize) -> bool {
-        match self.above.get(place) {
-            Some(above) => has(*above, other),
-            None => false,
-        }
+    fn is_below(self, place: usize, other: usize) -> bool {
+        self.pairs & pair(place, other) != 0
     }
 
-    fn are_equal(&self, place: usize, other: usize) -> bool {
+    fn are_equal(self, place: usize, other: usize) -> bool {
         self.is_below(place, other) && self.is_below(other, place)
     }
 
-    fn is_strictly_below(&self, place: usize, other: usize) -> bool {
+    fn is_strictly_below(self, place: usize, other: usize) -> bool {
         self.is_below(place, other) && !self.is_below(other, place)
     }
 
     // Whether the name at this place is the first of a group: it is neither empty nor holds everything, and no name
     // before it is equal.
-    fn is_first(&self, place: usize) -> bool {
-        if self.is_below(place, NOTHING) || self.is_below(THING, place) {
-            return false;
+    fn is_first(self, place: usize) -> bool {
+        let mut is_so = !self.is_below(place, NOTHING) && !self.is_below(THING, place);
+        for other in FIRST..place {
+            is_so &= !self.are_equal(place, other);
         }
-        (FIRST..place).all(|other| !self.are_equal(place, other))
-    }
-
-    // Whether the second is the first name of a direct parent of the group of the first.
-    fn is_parent(&self, place: usize, other: usize) -> bool {
-        if !self.is_first(other) || !self.is_strictly_below(place, other) {
-            return false;
-        }
-        (FIRST..self.classes.len()).all(|third| !self.is_between(place, third, other))
-    }
-
-    fn is_between(&self, place: usize, third: usize, other: usize) -> bool {
-        self.is_strictly_below(place, third) && self.is_strictly_below(third, other)
+        is_so
     }
 }

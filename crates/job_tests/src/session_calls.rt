@@ -3,11 +3,10 @@ ghost use Rattle.std.specs.Prelude.{[], IfOk};
 ghost use Rattle.edit_session.specs.SessionLog.{IsSessionLog};
 ghost use Rattle.edit_session.specs.Lines.{MayGoOn};
 
-use edit_session::{NoMemory, Said, Session, run_script};
+use edit_session::{Said, Session, run_script};
 use ofn_reader::{Refusal, read_ontology};
 use run_log::RunLog;
 use std::alloc::Global;
-use std::process::Abort;
 use std::test::Fail;
 
 const TWO_AXIOMS: &[u8] = b"Prefix(:=<http://e.org/>)
@@ -27,61 +26,63 @@ fn begun(alloc: Global, document: &[u8]) -> Result<Session, Refusal>
     Ok(Session::new(alloc, ontology, context)?)
 }
 
-// How a line alone ends in a session on a document, and what is answered.
-fn line_told(alloc: Global, document: &[u8], line: &[u8]) -> Result<(Said, Vec<u8>), Refusal> {
-    let mut session = begun(alloc, document)?;
-    let told = told_to_line(alloc, &mut session, line);
-    drop(session);
-    Ok(told?)
-}
-
-fn told_to_line(
+// Whether a line is answered so.
+fn is_line_answered(
     alloc: Global,
     session: &mut Session,
     line: &[u8],
-) -> Result<(Said, Vec<u8>), NoMemory>
+    wanted: &[u8],
+) -> Result<bool, Refusal>
     requires may_go_on { MayGoOn session.old 1000 [] }
 {
     let mut log = RunLog::new(alloc);
     let mut out = Vec::new(alloc);
     let said = session.line(line, 1000, &mut log, &mut out)?;
-    Ok((said, out))
+    Ok(said == Said::Answered && out.as_slice() == wanted)
 }
 
-// How these lines end in a session on a document, and what is answered.
-fn script_told(
+fn is_first_line_answered(
     alloc: Global,
     document: &[u8],
-    lines: &[&[u8]],
-) -> Result<(Said, Vec<u8>), Refusal> {
+    line: &[u8],
+    wanted: &[u8],
+) -> Result<bool, Refusal> {
     let mut session = begun(alloc, document)?;
-    let told = told_to_script(alloc, &mut session, lines);
-    drop(session);
-    Ok(told?)
+    is_line_answered(alloc, &mut session, line, wanted)
 }
 
-fn told_to_script(
+// Whether these lines are answered so.
+fn is_script_answered(
     alloc: Global,
     session: &mut Session,
     lines: &[&[u8]],
-) -> Result<(Said, Vec<u8>), NoMemory>
+    wanted: &[u8],
+) -> Result<bool, Refusal>
     requires may_go_on { MayGoOn session.old 1000 [] }
     requires honest { IsSessionLog session.old.state.ontology 1000 [] }
 {
     let mut log = RunLog::new(alloc);
     let mut out = Vec::new(alloc);
     let said = run_script(session, lines, 1000, &mut log, &mut out)?;
-    Ok((said, out))
+    Ok(said == Said::Answered && out.as_slice() == wanted)
+}
+
+fn is_whole_script_answered(
+    alloc: Global,
+    document: &[u8],
+    lines: &[&[u8]],
+    wanted: &[u8],
+) -> Result<bool, Refusal> {
+    let mut session = begun(alloc, document)?;
+    is_script_answered(alloc, &mut session, lines, wanted)
 }
 
 #[test]
 fn lines_and_scripts_are_answered(rt: HostRuntime) -> Result<(), Fail> {
     let alloc = rt.alloc();
-    let (said, text) = line_told(alloc, TWO_AXIOMS, b"ask SubClassOf(:A :C)")?;
-    assert!(rt; said == Said::Answered);
-    assert!(rt; text.as_slice() == b"yes 1 2\n".as_slice());
-    let (said, text) = script_told(alloc, TWO_AXIOMS, SCRIPT)?;
-    assert!(rt; said == Said::Answered);
-    assert!(rt; text.as_slice() == b"removed 1\nno\n".as_slice());
+    let line = is_first_line_answered(alloc, TWO_AXIOMS, b"ask SubClassOf(:A :C)", b"yes 1 2\n")?;
+    assert!(rt; line, "a line");
+    let script = is_whole_script_answered(alloc, TWO_AXIOMS, SCRIPT, b"removed 1\nno\n")?;
+    assert!(rt; script, "a script");
     Ok(())
 }

@@ -1,57 +1,70 @@
 // Sessions: what is answered to scripts and how many tests that takes, limits, and budgets that do not suffice.
 
-use edit_session::{Status, Text, answer_script};
-use job_runs::{NoMemory, document};
+use edit_session::{Status, answer_script};
+use job_runs::NoMemory;
 use run_log::RunLog;
 use std::alloc::Global;
-use std::process::Abort;
 use std::test::Fail;
 
-/// How a session ends, what is answered, how many tests that takes, and how many steps these take.
-#[derive(Drop)]
-pub(crate) struct Answered {
-    pub(crate) status: Status,
-    pub(crate) text: Text,
+/// A document with these axioms, and a script behind it.
+pub(crate) fn input_of(alloc: Global, axioms: &str, script: &str) -> Result<String, NoMemory> {
+    Ok(format!(in alloc; "Prefix(:=<http://e.org/>)\nOntology(\n{axioms}\n)\n{script}")?)
+}
+
+// What comes of a session.
+#[derive(Clone, Copy)]
+struct Told {
+    /// Whether it ends and is answered as is wanted.
+    is_wanted: bool,
+    /// How many tests that takes.
     tests: usize,
+    /// How many steps these take.
     spent: u64,
 }
 
-impl Answered {
-    // Whether it ends so, and this is answered.
-    fn says(&self, status: Status, text: &str) -> bool {
-        self.status == status && self.text.bytes() == text.as_bytes()
-    }
-}
-
-/// What is told to a script behind a document with these axioms.
-pub(crate) fn told(
+// What comes of an input, which is not longer than the tests need, where it is to end so and this is to be answered.
+fn told_to(
     alloc: Global,
-    axioms: &str,
-    script: &[u8],
+    input: &[u8],
     budget: u32,
-) -> Result<Answered, NoMemory> {
-    let text = document(alloc, axioms)?;
-    let mut input = Vec::from_slice(alloc, text.as_bytes())?;
-    input.extend_from_slice(script)?;
-    told_to(alloc, &input, budget)
-}
-
-// The same to an input, which is not longer than the tests need.
-fn told_to(alloc: Global, input: &[u8], budget: u32) -> Result<Answered, NoMemory> {
+    status: Status,
+    text: &str,
+) -> Result<Told, NoMemory> {
     if input.len() > 1_000_000 {
         return Err(NoMemory);
     }
     let mut log = RunLog::new(alloc);
-    let (status, text) = answer_script(alloc, budget, input, &mut log);
-    let tests = log.entries().len();
-    let spent = log.spent();
-    drop(log);
-    Ok(Answered {
-        status,
-        text,
-        tests,
-        spent,
+    let (ended, answers) = answer_script(alloc, budget, input, &mut log);
+    Ok(Told {
+        is_wanted: ended == status && answers.bytes() == text.as_bytes(),
+        tests: log.entries().len(),
+        spent: log.spent(),
     })
+}
+
+// The same of a script behind a document with these axioms.
+fn told(
+    alloc: Global,
+    axioms: &str,
+    script: &str,
+    budget: u32,
+    status: Status,
+    text: &str,
+) -> Result<Told, NoMemory> {
+    let input = input_of(alloc, axioms, script)?;
+    told_to(alloc, input.as_bytes(), budget, status, text)
+}
+
+// Whether a script is answered so, by so many tests.
+fn is_told(
+    alloc: Global,
+    axioms: &str,
+    script: &str,
+    text: &str,
+    tests: usize,
+) -> Result<bool, NoMemory> {
+    let told = told(alloc, axioms, script, 1000, Status::Done, text)?;
+    Ok(told.is_wanted && told.tests == tests)
 }
 
 // ---- scripts and what is said to them
@@ -215,27 +228,15 @@ ask SubClassOf(:B :A)",
     },
 ];
 
-#[test]
-fn scripts_are_told(rt: HostRuntime) -> Result<(), Fail> {
-    for (place, case) in CASES.iter().enumerate() {
-        let told = told(rt.alloc(), case.axioms, case.script.as_bytes(), 1000)?;
-        let is_so = told.says(Status::Done, case.text) && told.tests == case.tests;
-        assert!(rt; is_so, "case {place}");
-    }
-    Ok(())
+// Whether a hundred equal asks are one test.
+fn are_one_test(alloc: Global, script: &str) -> Result<bool, NoMemory> {
+    let text = "yes 1\n".repeat(alloc, 100)?;
+    is_told(alloc, "SubClassOf(:A :B)", script, text.as_str(), 1)
 }
 
-#[test]
-fn a_hundred_equal_asks_are_one_test(rt: HostRuntime) -> Result<(), Fail> {
-    let mut script = String::new(rt.alloc());
-    let mut text = String::new(rt.alloc());
-    for _ in 0_u32..100 {
-        script.push_str("ask SubClassOf(:A :B)\n")?;
-        text.push_str("yes 1\n")?;
-    }
-    let told = told(rt.alloc(), "SubClassOf(:A :B)", script.as_bytes(), 1000)?;
-    assert!(rt; told.says(Status::Done, text.as_str()) && told.tests == 1);
-    Ok(())
+fn are_equal_asks_one_test(alloc: Global) -> Result<bool, NoMemory> {
+    let script = "ask SubClassOf(:A :B)\n".repeat(alloc, 100)?;
+    are_one_test(alloc, script.as_str())
 }
 
 // ---- what stands around a script
@@ -283,29 +284,24 @@ const INPUTS: &[Input] = &[
     },
 ];
 
-#[test]
-fn scripts_stand_behind_documents(rt: HostRuntime) -> Result<(), Fail> {
-    for (place, input) in INPUTS.iter().enumerate() {
-        let told = told_to(rt.alloc(), input.bytes, 1000)?;
-        assert!(rt; told.says(input.status, input.text), "input {place}");
+// ---- limits
+
+fn push_role(alloc: Global, axioms: &mut String, number: u32) -> Result<(), NoMemory> {
+    let line = format!(in alloc; "Declaration(ObjectProperty(:R{number}))\n")?;
+    axioms.push_str(line.as_str())?;
+    Ok(())
+}
+
+// Declarations of 999 roles: one more is within the limit.
+fn push_roles(alloc: Global, axioms: &mut String) -> Result<(), NoMemory> {
+    for number in 0_u32..999 {
+        push_role(alloc, axioms, number)?;
     }
     Ok(())
 }
 
-// ---- limits
-
-// Declarations of 999 roles: one more is within the limit.
-fn roles_but_one(alloc: Global) -> Result<String, NoMemory> {
-    let mut axioms = String::new(alloc);
-    for number in 0_u32..999 {
-        let line = format!(in alloc; "Declaration(ObjectProperty(:R{number}))\n")?;
-        axioms.push_str(line.as_str())?;
-    }
-    Ok(axioms)
-}
-
 // The role that a query brings is gone after its answer, and one that an axiom brings stays.
-const ROLES: &[u8] = b"ask SubClassOf(:A ObjectSomeValuesFrom(:S :A))
+const ROLES: &str = "ask SubClassOf(:A ObjectSomeValuesFrom(:S :A))
 ask SubClassOf(:A ObjectSomeValuesFrom(:S ObjectSomeValuesFrom(:T :A)))
 ask SubClassOf(:A ObjectSomeValuesFrom(:T :A))
 add SubClassOf(:A ObjectSomeValuesFrom(:U :A))
@@ -314,14 +310,35 @@ ask SubClassOf(:A ObjectSomeValuesFrom(:U :A))
 remove 1
 add SubClassOf(:A ObjectSomeValuesFrom(:S :A))";
 
+const TOLD_OF_ROLES: &str =
+    "no\nlimit roles query\nno\naxiom 1\nlimit roles query\nyes 1\nremoved 1\nlimit roles query\n";
+
+fn are_roles_told(alloc: Global, axioms: &str) -> Result<bool, NoMemory> {
+    is_told(alloc, axioms, ROLES, TOLD_OF_ROLES, 2)
+}
+
+fn are_names_of_queries_counted_alone(alloc: Global) -> Result<bool, NoMemory> {
+    let mut axioms = String::new(alloc);
+    push_roles(alloc, &mut axioms)?;
+    are_roles_told(alloc, axioms.as_str())
+}
+
 #[test]
-fn names_of_queries_count_for_these_alone(rt: HostRuntime) -> Result<(), Fail> {
+fn scripts_are_told(rt: HostRuntime) -> Result<(), Fail> {
     let alloc = rt.alloc();
-    let axioms = roles_but_one(alloc)?;
-    let told = told(alloc, axioms.as_str(), ROLES, 1000)?;
-    let text =
-        "no\nlimit roles query\nno\naxiom 1\nlimit roles query\nyes 1\nremoved 1\nlimit roles query\n";
-    assert!(rt; told.says(Status::Done, text) && told.tests == 2);
+    for (place, case) in CASES.iter().enumerate() {
+        let is_so = is_told(alloc, case.axioms, case.script, case.text, case.tests)?;
+        assert!(rt; is_so, "case {place}");
+    }
+    for (place, input) in INPUTS.iter().enumerate() {
+        let told = told_to(alloc, input.bytes, 1000, input.status, input.text)?;
+        assert!(rt; told.is_wanted, "input {place}");
+    }
+    assert!(rt; are_equal_asks_one_test(alloc)?, "equal asks");
+    assert!(rt;
+        are_names_of_queries_counted_alone(alloc)?,
+        "names of queries"
+    );
     Ok(())
 }
 
@@ -329,9 +346,9 @@ fn names_of_queries_count_for_these_alone(rt: HostRuntime) -> Result<(), Fail> {
 
 const LOOP: &str = "SubClassOf(:A ObjectSomeValuesFrom(:R :A))";
 
-const ONE: &[u8] = b"remove 2\nask SubClassOf(:A owl:Nothing)";
+const ONE: &str = "remove 2\nask SubClassOf(:A owl:Nothing)";
 
-const BOTH: &[u8] = b"remove 2\nask SubClassOf(:A owl:Nothing)\nask SubClassOf(:A :B)\nremove 1";
+const BOTH: &str = "remove 2\nask SubClassOf(:A owl:Nothing)\nask SubClassOf(:A :B)\nremove 1";
 
 // How the script ends within a budget, how many steps it takes, and what is answered to both queries, where so many
 // steps suffice for the first one and for both.
@@ -345,17 +362,29 @@ fn wanted_within(budget: u64, one: u64, both: u64) -> (Status, u64, &'static str
     }
 }
 
-// What was answered before the budget is spent stands, and then all of it is spent.
+// Whether what was answered before the budget is spent stands, and then all of it is spent.
+fn are_answers_kept(alloc: Global) -> Result<bool, NoMemory> {
+    let one = told(alloc, LOOP, ONE, 1000, Status::Done, "bad line\nno\n")?;
+    let both = told(
+        alloc,
+        LOOP,
+        BOTH,
+        1000,
+        Status::Done,
+        "bad line\nno\nno\nremoved 1\n",
+    )?;
+    let mut are_so = one.is_wanted && both.is_wanted;
+    are_so &= 1 < one.spent && one.spent < both.spent && both.spent < 100;
+    for budget in 1_u32..100 {
+        let (status, spent, text) = wanted_within(u64::from(budget), one.spent, both.spent);
+        let told = told(alloc, LOOP, BOTH, budget, status, text)?;
+        are_so &= told.is_wanted && told.spent == spent;
+    }
+    Ok(are_so)
+}
+
 #[test]
 fn answers_before_the_last_test_stand(rt: HostRuntime) -> Result<(), Fail> {
-    let alloc = rt.alloc();
-    let one = told(alloc, LOOP, ONE, 1000)?.spent;
-    let both = told(alloc, LOOP, BOTH, 1000)?.spent;
-    assert!(rt; 1 < one && one < both && both < 100);
-    for budget in 1_u32..100 {
-        let told = told(alloc, LOOP, BOTH, budget)?;
-        let (status, spent, text) = wanted_within(u64::from(budget), one, both);
-        assert!(rt; told.says(status, text) && told.spent == spent, "{budget}");
-    }
+    assert!(rt; are_answers_kept(rt.alloc())?);
     Ok(())
 }

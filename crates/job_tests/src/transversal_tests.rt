@@ -3,7 +3,7 @@
 ghost use Rattle.std.specs.Prelude.{◌≡◌, IfOk};
 ghost use Rattle.std.specs.List.{All};
 
-use crate::reading::set_of;
+use crate::reading::{are_sets, sets_of};
 use audit_check::{NoMemory, are_transversals, contains_another, transversals};
 use axiom_sets::AxiomSet;
 use std::alloc::Global;
@@ -34,41 +34,21 @@ const CASES: &[(&[&[u32]], &[&[u32]])] = &[
     (&[&[1, 3], &[2, 4], &[1]], &[&[1, 2], &[1, 4]]),
 ];
 
-// The sets of these numbers, up to a count.
-fn sets_of(alloc: Global, count: u32, lists: &[&[u32]]) -> Result<Vec<AxiomSet>, NoMemory>
-    ensures { IfOk result (λ v. All (λ s. s.limit ≡ count) v.items) }
-{
-    let mut sets = Vec::new(alloc);
-    for list in lists {
-        sets.push(set_of(alloc, count, list)?)?;
-    }
-    Ok(sets)
-}
-
-// Whether the sets have these numbers, in this order.
-fn are_sets(sets: &[AxiomSet], lists: &[&[u32]]) -> bool {
-    let mut are_same = sets.len() == lists.len();
-    for (set, list) in sets.iter().zip(lists) {
-        are_same &= set.numbers().eq(list.iter().copied());
-    }
-    are_same
-}
-
 // Whether the transversals are these, and are told to be these.
+fn are_transversals_of(
+    alloc: Global,
+    sets: &[AxiomSet],
+    wanted: &[&[u32]],
+) -> Result<bool, NoMemory>
+    requires { All (λ s. s.limit ≡ 6) sets.now }
+{
+    let list = transversals(alloc, sets, 6)?;
+    Ok(are_transversals(alloc, sets, 6, &list)? && are_sets(&list, wanted))
+}
+
 fn are_found(alloc: Global, lists: &[&[u32]], wanted: &[&[u32]]) -> Result<bool, NoMemory> {
     let sets = sets_of(alloc, 6, lists)?;
-    let list = transversals(alloc, &sets, 6)?;
-    let is_told = are_transversals(alloc, &sets, 6, &list)?;
-    Ok(is_told && are_sets(&list, wanted))
-}
-
-#[test]
-fn small_lists(rt: HostRuntime) -> Result<(), Fail> {
-    let alloc = rt.alloc();
-    for case in CASES {
-        assert!(rt; are_found(alloc, case.0, case.1)?, "{:?}", case.0);
-    }
-    Ok(())
+    are_transversals_of(alloc, &sets, wanted)
 }
 
 // A set of two numbers up to 130.
@@ -132,22 +112,31 @@ fn mixed_count(alloc: Global) -> Result<usize, NoMemory> {
     Ok(list.len())
 }
 
-#[test]
-fn many_sets(rt: HostRuntime) -> Result<(), Fail> {
-    let alloc = rt.alloc();
-    assert_eq!(rt; mixed_count(alloc)?, 4045, "of twenty sets");
-    assert!(rt; is_short_list_told(alloc)?, "none of many");
-    Ok(())
+// Whether no set is told to be no list of the transversals of three sets, of which the second alone contains another.
+fn are_told_apart(alloc: Global, sets: &[AxiomSet]) -> Result<bool, NoMemory>
+    requires { All (λ s. s.limit ≡ 6) sets.now }
+{
+    let count = sets.len();
+    if count != 3 {
+        return Ok(false);
+    }
+    let is_told = are_transversals(alloc, sets, 6, &[])?;
+    Ok(!is_told && !contains_another(sets, 0) && contains_another(sets, 1))
+}
+
+fn are_not_whole(alloc: Global) -> Result<bool, NoMemory> {
+    let sets = sets_of(alloc, 6, &[&[1, 2], &[1, 2, 3], &[3]])?;
+    are_told_apart(alloc, &sets)
 }
 
 #[test]
-fn lists_that_are_not_whole(rt: HostRuntime) -> Result<(), Fail> {
+fn transversals_are_found_and_told(rt: HostRuntime) -> Result<(), Fail> {
     let alloc = rt.alloc();
-    let sets = sets_of(alloc, 6, &[&[1, 2], &[1, 2, 3], &[3]])?;
-    assert!(rt; !are_transversals(alloc, &sets, 6, &[])?, "none");
-    let count = sets.len();
-    assert_eq!(rt; count, 3, "how many");
-    assert!(rt; !contains_another(&sets, 0), "the first");
-    assert!(rt; contains_another(&sets, 1), "the second");
+    for case in CASES {
+        assert!(rt; are_found(alloc, case.0, case.1)?, "{:?}", case.0);
+    }
+    assert!(rt; are_not_whole(alloc)?, "lists that are not whole");
+    assert!(rt; mixed_count(alloc)? == 4045, "of twenty sets");
+    assert!(rt; is_short_list_told(alloc)?, "none of many");
     Ok(())
 }
