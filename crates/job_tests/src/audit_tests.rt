@@ -59,7 +59,9 @@ fn verdict_on(
     requires limits { IsInLimit ontology.now query.now }
 {
     let audit = read_text(alloc, lines, ontology)?;
-    Ok(verify(alloc, ontology, query, &audit)?)
+    let verdict = verify(alloc, ontology, query, &audit);
+    drop(audit);
+    Ok(verdict?)
 }
 
 // The lines with another one in the place of one.

@@ -3,7 +3,7 @@ ghost use Rattle.std.specs.Prelude.{[], IfOk};
 ghost use Rattle.edit_session.specs.SessionLog.{IsSessionLog};
 ghost use Rattle.edit_session.specs.Lines.{MayGoOn};
 
-use edit_session::{Said, Session, run_script};
+use edit_session::{NoMemory, Said, Session, run_script};
 use ofn_reader::{Refusal, read_ontology};
 use run_log::RunLog;
 use std::alloc::Global;
@@ -12,7 +12,14 @@ use std::test::Fail;
 const TWO_AXIOMS: &[u8] = b"Prefix(:=<http://e.org/>)
 Ontology(SubClassOf(:A :B) SubClassOf(:B :C))";
 
-const SCRIPT: &[&[u8]] = &[b"remove 1", b" ", b"ask SubClassOf(:A :C)"];
+// Lines, and what is answered to them.
+const ANSWERED: &[(&[&[u8]], &[u8])] = &[
+    (&[b"ask SubClassOf(:A :C)"], b"yes 1 2\n"),
+    (
+        &[b"remove 1", b" ", b"ask SubClassOf(:A :C)"],
+        b"removed 1\nno\n",
+    ),
+];
 
 // A session on a document of at most 1,000 bytes.
 fn begun(alloc: Global, document: &[u8]) -> Result<Session, Refusal>
@@ -26,33 +33,24 @@ fn begun(alloc: Global, document: &[u8]) -> Result<Session, Refusal>
     Ok(Session::new(alloc, ontology, context)?)
 }
 
-// Whether a line is answered so.
-fn is_line_answered(
-    alloc: Global,
+// Answers a line alone, or a script of other lines.
+fn answer(
     session: &mut Session,
-    line: &[u8],
-    wanted: &[u8],
-) -> Result<bool, Refusal>
-    requires may_go_on { MayGoOn session.old 1000 [] }
+    lines: &[&[u8]],
+    log: &mut RunLog,
+    out: &mut Vec<u8>,
+) -> Result<Said, NoMemory>
+    requires may_go_on { MayGoOn session.old 1000 log.old }
+    requires honest { IsSessionLog session.old.state.ontology 1000 log.old }
 {
-    let mut log = RunLog::new(alloc);
-    let mut out = Vec::new(alloc);
-    let said = session.line(line, 1000, &mut log, &mut out)?;
-    Ok(said == Said::Answered && out.as_slice() == wanted)
-}
-
-fn is_first_line_answered(
-    alloc: Global,
-    document: &[u8],
-    line: &[u8],
-    wanted: &[u8],
-) -> Result<bool, Refusal> {
-    let mut session = begun(alloc, document)?;
-    is_line_answered(alloc, &mut session, line, wanted)
+    match lines {
+        [line] => session.line(line, 1000, log, out),
+        _ => run_script(session, lines, 1000, log, out),
+    }
 }
 
 // Whether these lines are answered so.
-fn is_script_answered(
+fn are_answered(
     alloc: Global,
     session: &mut Session,
     lines: &[&[u8]],
@@ -63,26 +61,25 @@ fn is_script_answered(
 {
     let mut log = RunLog::new(alloc);
     let mut out = Vec::new(alloc);
-    let said = run_script(session, lines, 1000, &mut log, &mut out)?;
+    let said = answer(session, lines, &mut log, &mut out)?;
     Ok(said == Said::Answered && out.as_slice() == wanted)
 }
 
-fn is_whole_script_answered(
+fn are_answered_on(
     alloc: Global,
     document: &[u8],
     lines: &[&[u8]],
     wanted: &[u8],
 ) -> Result<bool, Refusal> {
     let mut session = begun(alloc, document)?;
-    is_script_answered(alloc, &mut session, lines, wanted)
+    are_answered(alloc, &mut session, lines, wanted)
 }
 
 #[test]
 fn lines_and_scripts_are_answered(rt: HostRuntime) -> Result<(), Fail> {
-    let alloc = rt.alloc();
-    let line = is_first_line_answered(alloc, TWO_AXIOMS, b"ask SubClassOf(:A :C)", b"yes 1 2\n")?;
-    assert!(rt; line, "a line");
-    let script = is_whole_script_answered(alloc, TWO_AXIOMS, SCRIPT, b"removed 1\nno\n")?;
-    assert!(rt; script, "a script");
+    for (place, (lines, wanted)) in ANSWERED.iter().enumerate() {
+        let are_so = are_answered_on(rt.alloc(), TWO_AXIOMS, lines, wanted)?;
+        assert!(rt; are_so, "lines {place}");
+    }
     Ok(())
 }
