@@ -43,7 +43,7 @@ fn told_to(
 }
 
 // The same of a script behind a document with these axioms.
-fn told(
+fn told_by(
     alloc: Global,
     axioms: &str,
     script: &str,
@@ -63,7 +63,7 @@ fn is_told(
     text: &str,
     tests: usize,
 ) -> Result<bool, NoMemory> {
-    let told = told(alloc, axioms, script, 1000, Status::Done, text)?;
+    let told = told_by(alloc, axioms, script, 1000, Status::Done, text)?;
     Ok(told.is_wanted && told.tests == tests)
 }
 
@@ -364,8 +364,8 @@ fn wanted_within(budget: u64, one: u64, both: u64) -> (Status, u64, &'static str
 
 // Whether what was answered before the budget is spent stands, and then all of it is spent.
 fn are_answers_kept(alloc: Global) -> Result<bool, NoMemory> {
-    let one = told(alloc, LOOP, ONE, 1000, Status::Done, "bad line\nno\n")?;
-    let both = told(
+    let one = told_by(alloc, LOOP, ONE, 1000, Status::Done, "bad line\nno\n")?;
+    let both = told_by(
         alloc,
         LOOP,
         BOTH,
@@ -377,7 +377,7 @@ fn are_answers_kept(alloc: Global) -> Result<bool, NoMemory> {
     are_so &= 1 < one.spent && one.spent < both.spent && both.spent < 100;
     for budget in 1_u32..100 {
         let (status, spent, text) = wanted_within(u64::from(budget), one.spent, both.spent);
-        let told = told(alloc, LOOP, BOTH, budget, status, text)?;
+        let told = told_by(alloc, LOOP, BOTH, budget, status, text)?;
         are_so &= told.is_wanted && told.spent == spent;
     }
     Ok(are_so)
