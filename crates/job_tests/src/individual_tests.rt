@@ -221,10 +221,10 @@ fn push_lines<'a>(
     Ok(())
 }
 
-fn read_lines(
+fn read_lines<'a>(
     alloc: Global,
-    axioms: &str,
-    rules: &[&str],
+    axioms: &'a str,
+    rules: &[&'a str],
     ontology: &Ontology,
 ) -> Result<Refutation, CertFault> {
     let mut lines = Vec::new(alloc);
