@@ -4,7 +4,7 @@ ghost use Rattle.std.specs.Prelude.{◌≡◌, ◌<◌, IfOk};
 ghost use Rattle.std.specs.List.{All};
 
 use axiom_sets::AxiomSet;
-use shq_base::NoMemory;
+use shq_terms::NoMemory;
 use std::alloc::Global;
 
 /// Sets of numbers from 1 to `count`.

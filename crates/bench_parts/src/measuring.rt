@@ -1,23 +1,25 @@
-// What a search did, and how long it took.
-ghost use Rattle.std.specs.Prelude.{◌≡◌, ◌+◌, ◌<◌, ◌^◌, false, IfOk, length};
+// What a search over the axioms of a document did, and how long it took.
+ghost use Rattle.std.specs.Prelude.{◌≡◌, ◌+◌, ◌<◌, ◌≤◌, ◌^◌, false, IfOk, length};
 ghost use Rattle.axiom_sets.specs.Sets.{IsWithin};
-ghost use Rattle.ontology_limits.specs.Limits.{IsInLimit};
+ghost use Rattle.search_rules.specs.Limits.{IsInLimit};
 ghost use Rattle.search_rules.specs.RuleLists.{AreNumbersOf};
-ghost use Rattle.bench_parts.specs.Small.{asked};
 
-use crate::family::Family;
-use crate::making::ontology_of;
 use crate::printing::{print_number, print_text};
 use axiom_sets::AxiomSet;
 use bumpalo::Bump;
+use pinpointing_jobs::read_input;
 use search_rules::SearchRules;
-use shq_terms::{Concept, NoMemory, Node, On, Ontology, Query};
+use shq_io::{Source, read_all};
+use shq_terms::{NoMemory, Ontology, Query};
 use std::alloc::{Allocator, Global};
 use std::io;
 use std::num::nearest_u64_to_f64;
 use std::rt::Clock;
 use std::time::Instant;
 use tableau::{Effort, End, Search};
+
+/// The most bytes of a document.
+const MOST: u32 = 1 << 24;
 
 /// The rules of all axioms of an ontology, with the numbers of what the query asks.
 #[derive(Drop)]
@@ -36,33 +38,34 @@ struct Outcome {
     effort: Effort,
 }
 
-/// Prints what the search over a family of a size does.
-pub(crate) fn report(
+/// Reads a document to its end, and prints what the search whether the axiom follows does within so many steps; or why
+/// there is none.
+pub(crate) fn report<S: Source>(
     rt: &(impl Print + Clock),
     alloc: Global,
-    name: &str,
-    family: Family,
-    size: u32,
+    axiom: &str,
+    fuel: u64,
+    source: &mut S,
 ) -> io::Result<()> {
-    print_text(rt, name)?;
-    print_text(rt, ", ")?;
-    print_number(rt, u64::from(size), ": ")?;
-    match ontology_of(alloc, family, size) {
-        Ok(ontology) => report_rules(rt, alloc, &ontology, family.fuel(size)),
-        Err(fault) => println!(rt; "{fault}"),
+    match read_all(alloc, source, MOST) {
+        Ok(document) => report_document(rt, alloc, axiom, fuel, &document),
+        Err(end) => println!(rt; "{end}"),
     }
 }
 
-fn report_rules(
+fn report_document(
     rt: &(impl Print + Clock),
     alloc: Global,
-    ontology: &Ontology,
+    axiom: &str,
     fuel: u64,
+    document: &[u8],
 ) -> io::Result<()>
-    requires in_limit { IsInLimit ontology.now asked }
+    requires { length document.now ≤ 4294967293 }
 {
-    let query = query();
-    report_query(rt, alloc, ontology, &query, fuel)
+    match read_input(alloc, axiom, document) {
+        Ok(input) => report_query(rt, alloc, &input.ontology, &input.query, fuel),
+        Err(_) => print_text(rt, "the document or the axiom is not read\n"),
+    }
 }
 
 fn report_query(
@@ -118,19 +121,6 @@ fn print_effort(rt: &impl Print, effort: Effort) -> io::Result<()> {
     print_number(rt, effort.backs, " ways back, ")?;
     print_number(rt, effort.lost, " choices lost, ")?;
     print_number(rt, effort.stripped, " lines taken out, ")
-}
-
-/// Whether the first class has a member.
-fn query() -> Query
-    ensures { result ≡ asked }
-{
-    Query {
-        sub: Concept {
-            node: Node::Name(0),
-        },
-        sup: Concept { node: Node::Bottom },
-        on: On::Any,
-    }
 }
 
 /// The rules of all axioms, with which the query is asked.
@@ -202,19 +192,15 @@ fn run<A: Allocator + Copy>(search: &mut Search<'_, A>, fuel: u64) -> Result<Out
 }
 
 fn outcome_of<A: Allocator + Copy>(search: &Search<'_, A>, end: &End) -> Outcome {
-    let (end, lines) = end_of(end);
+    let (end, lines) = match end {
+        End::Saturated => ("saturated", 0),
+        End::Closed(refutation) => ("closed", refutation.lines().len()),
+        End::Spent => ("spent", 0),
+    };
     Outcome {
         end,
         lines,
         steps: search.steps(),
         effort: search.effort(),
-    }
-}
-
-fn end_of(end: &End) -> (&'static str, usize) {
-    match end {
-        End::Saturated => ("saturated", 0),
-        End::Closed(refutation) => ("closed", refutation.lines().len()),
-        End::Spent => ("spent", 0),
     }
 }
