@@ -198,8 +198,10 @@ fn compare_table(
     )
 }
 
-/// Puts the prints that a function makes into both tables.
-fn fill_tables<F: Fn(u64) -> [u64; 4]>(
+/// Puts the prints that a function makes into both tables, and compares the kernel over them.
+fn fill_and_compare<F: Fn(u64) -> [u64; 4]>(
+    rt: &(impl Print + Clock),
+    name: &str,
     rows: &mut Vec<[u64; 4]>,
     table: &mut Lanes,
     print_of: F,
@@ -211,19 +213,6 @@ fn fill_tables<F: Fn(u64) -> [u64; 4]>(
         rows.push(print).map_err(|_| out_of_memory())?;
         table.push(print).map_err(|_| out_of_memory())?;
     }
-    Ok(())
-}
-
-fn fill_and_compare<F: Fn(u64) -> [u64; 4]>(
-    rt: &(impl Print + Clock),
-    name: &str,
-    rows: &mut Vec<[u64; 4]>,
-    table: &mut Lanes,
-    print_of: F,
-) -> io::Result<()>
-    requires { F.IsAlwaysCallable print_of }
-{
-    fill_tables(rows, table, print_of)?;
     compare_table(rt, name, rows, table)
 }
 

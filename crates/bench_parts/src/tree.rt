@@ -32,22 +32,11 @@ fn make<A: Allocator + Copy>(tree: &mut FactTree<A>, from: u32) -> bool {
     false
 }
 
-fn put<A: Allocator + Copy>(tree: &mut FactTree<A>, node: u32, concept: u32) -> bool {
-    if node < tree.nodes() {
-        return tree.add(Fact::Has(node, concept)).is_ok();
-    }
-    false
-}
-
 fn join<A: Allocator + Copy>(tree: &mut FactTree<A>, first: u32, second: u32) -> bool {
     if first < tree.nodes() && second < tree.nodes() {
         return tree.add(Fact::Same(first, second)).is_ok();
     }
     false
-}
-
-fn has<A: Allocator + Copy>(tree: &FactTree<A>, node: u32, concept: u32) -> bool {
-    node < tree.nodes() && tree.has(node, concept)
 }
 
 fn back<A: Allocator + Copy>(tree: &mut FactTree<A>, len: usize) {
@@ -56,16 +45,12 @@ fn back<A: Allocator + Copy>(tree: &mut FactTree<A>, len: usize) {
     }
 }
 
-fn nodes<A: Allocator + Copy>(tree: &mut FactTree<A>) {
-    for node in 1..NODES {
-        let _done = make(tree, (node - 1) / 3);
-    }
-}
-
 fn fill<A: Allocator + Copy>(tree: &mut FactTree<A>) {
     for k in 0..EACH {
         for node in 0..NODES {
-            let _done = put(tree, node, concept(node, k));
+            if node < tree.nodes() {
+                let _done = tree.add(Fact::Has(node, concept(node, k))).is_ok();
+            }
         }
     }
 }
@@ -74,7 +59,7 @@ fn count<A: Allocator + Copy>(tree: &FactTree<A>) -> u32 {
     let mut hits = 0u32;
     for k in 0..2 * EACH {
         for node in 0..NODES {
-            if has(tree, node, concept(node, k)) {
+            if node < tree.nodes() && tree.has(node, concept(node, k)) {
                 hits = hits.wrapping_add(1);
             }
         }
@@ -92,29 +77,6 @@ fn joins<A: Allocator + Copy>(tree: &mut FactTree<A>, len: usize) {
         }
     }
     back(tree, len);
-}
-
-/// A star of 10,000 children.
-fn star<A: Allocator + Copy>(tree: &mut FactTree<A>) {
-    for _ in 1..NODES {
-        let _done = make(tree, 0);
-    }
-}
-
-/// 99 times 101 nodes at once.
-fn hundreds<A: Allocator + Copy>(tree: &mut FactTree<A>) {
-    for k in 0..99u32 {
-        if 0 < tree.nodes() {
-            let _done = tree.fresh(0, 7, k, 101).is_ok();
-        }
-    }
-}
-
-/// A chain of 20,000 nodes.
-fn chain<A: Allocator + Copy>(tree: &mut FactTree<A>) {
-    for node in 0..2 * NODES {
-        let _done = make(tree, node);
-    }
 }
 
 /// Each node but the first is joined with the one before it, the first ones first.
@@ -144,13 +106,15 @@ fn seconds(rt: &impl Clock, start: Instant) -> io::Result<f64> {
     Ok(start.elapsed(rt)?.as_secs_f64())
 }
 
-/// Many children of one node.
+/// 10,000 children of one node.
 fn time_star<A: Allocator + Copy>(
     rt: &(impl Print + Clock),
     tree: &mut FactTree<A>,
 ) -> io::Result<()> {
     let start = Instant::now(rt)?;
-    star(tree);
+    for _ in 1..NODES {
+        let _done = make(tree, 0);
+    }
     let made = seconds(rt, start)?;
     let start = Instant::now(rt)?;
     back(tree, 0);
@@ -160,33 +124,31 @@ fn time_star<A: Allocator + Copy>(
     print_text(rt, "\n")
 }
 
-/// Many nodes at once.
+/// 99 times 101 nodes at once.
 fn time_hundreds<A: Allocator + Copy>(
     rt: &(impl Print + Clock),
     tree: &mut FactTree<A>,
 ) -> io::Result<()> {
     let start = Instant::now(rt)?;
-    hundreds(tree);
+    for k in 0..99u32 {
+        if 0 < tree.nodes() {
+            let _done = tree.fresh(0, 7, k, 101).is_ok();
+        }
+    }
     let made = seconds(rt, start)?;
     print_finely(rt, "99 times 101 new nodes, pairwise apart", made)?;
     print_text(rt, "\n")
 }
 
-fn time_new_nodes<A: Allocator + Copy>(
-    rt: &(impl Print + Clock),
-    tree: &mut FactTree<A>,
-) -> io::Result<()> {
-    time_star(rt, tree)?;
-    time_hundreds(rt, tree)
-}
-
-/// A chain whose nodes are joined one after the other, in one of two orders.
+/// A chain of 20,000 nodes that are joined one after the other, in one of two orders.
 fn time_chain<A: Allocator + Copy>(
     rt: &(impl Print + Clock),
     tree: &mut FactTree<A>,
     is_last_first: bool,
 ) -> io::Result<()> {
-    chain(tree);
+    for node in 0..2 * NODES {
+        let _done = make(tree, node);
+    }
     let start = Instant::now(rt)?;
     if is_last_first {
         fold(tree);
@@ -332,7 +294,9 @@ fn time_concepts<A: Allocator + Copy>(
     rt: &(impl Print + Clock),
     tree: &mut FactTree<A>,
 ) -> io::Result<()> {
-    nodes(tree);
+    for node in 1..NODES {
+        let _done = make(tree, (node - 1) / 3);
+    }
     let start = Instant::now(rt)?;
     fill(tree);
     let added = seconds(rt, start)?;
@@ -383,7 +347,10 @@ fn time_kind<A: Allocator + Copy>(
             time_concepts(rt, tree)?;
             time_joins(rt, tree)
         }
-        Kind::NewNodes => time_new_nodes(rt, tree),
+        Kind::NewNodes => {
+            time_star(rt, tree)?;
+            time_hundreds(rt, tree)
+        }
         Kind::FirstFirst => time_chain(rt, tree, false),
         Kind::LastFirst => time_chain(rt, tree, true),
     }
