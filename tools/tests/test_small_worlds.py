@@ -1,70 +1,28 @@
 """The lists that the cases of `job_cases` have of documents with facts, and what they have of individuals, against all
 small interpretations.
 """
-import re
 import unittest
 from itertools import combinations, product
 
 from shq_tools.documents import document, ontology_of
-from shq_tools.places import TOP as REPOSITORY
 from shq_tools.reading_answers import query_of
 from shq_tools.terms import BOTTOM, TOP, inner_classes
+from tests.cases import cases, document_of
 
-CASES = REPOSITORY / "crates" / "job_cases"
 # No interpretation has more elements.
 MOST_ELEMENTS = 3
 
 
-def documents():
-    """The axioms of each document with facts, by its number, and what is asked of it."""
-    text = (CASES / "stdin").read_text("utf-8")
-    found = {}
-    for block in re.split(r"\n\n+", text):
-        lines = block.splitlines()
-        if match := re.fullmatch(r"document facts of document (\d+)", lines[0]):
-            found[match[1]] = ["\n".join(it.removeprefix("axioms ") for it in lines[1:])]
-        elif match := re.fullmatch(r"case reasons of facts (\d+)", lines[0]):
-            found[match[1]].append(lines[2].removeprefix("ask explain "))
-    return found
-
-
-def told(kind, number):
-    """The sets that the cases have for a document: its reasons or its repairs."""
-    for line in (CASES / "stdout").read_text("utf-8").splitlines():
-        if line.startswith(f"{kind} of facts {number}: Done; "):
-            _, *rest = line.split("; ", 1)[1].split(" | ")
-            sets = [it for it in rest if not it.startswith("axiom ")]
-            return [() if it == "empty" else tuple(map(int, it.split())) for it in sets]
-    raise LookupError(number)
-
-
-def cases(job):
-    """The axioms, the text of the class, and the lines of the answer, of each numbered case of such a name."""
-    blocks, answers = {}, {}
-    for line in (CASES / "stdout").read_text("utf-8").splitlines():
-        name, _, said = line.partition(": Done; ")
-        answers[name] = said.removesuffix(" (unended)").split(" | ")
-    text = re.sub(r"(?m)^#.*\n", "", (CASES / "stdin").read_text("utf-8"))
-    for block in re.split(r"\n\n+", text.strip()):
-        first, *lines = block.splitlines()
-        name = first.partition(" ")[2]
-        if lines and lines[0].startswith("like "):
-            lines = blocks[lines[0].removeprefix("like ")] + lines[1:]
-        blocks[name] = lines
-        if re.fullmatch(rf"case {job} \d+", first):
-            asked = [it.split(" ", 2)[2:] for it in lines if it.startswith("ask ")]
-            axioms = [it.removeprefix("axioms ") for it in lines if it.startswith("axioms ")]
-            yield "\n".join(axioms), "".join(asked[-1]), answers[name]
-
-
-def read_axioms(axioms):
-    return document(f"Prefix(:=<http://e.org/>)\nOntology(\n{axioms}\n)\n".encode("utf-8"))
-
-
-def read_question(axioms, of):
+def read_question(case):
     """The axioms, the individuals, and the class expression of a question."""
-    read = read_axioms(axioms)
-    return *ontology_of(read), query_of(of, read.prefixes)[0]
+    read = document(document_of(case.axioms))
+    return *ontology_of(read), query_of(case.asked, read.prefixes)[0]
+
+
+def sets_in(told):
+    """The sets that stand on the lines of a list."""
+    sets = [it for it in told[1:] if not it.startswith("axiom ")]
+    return [() if it == "empty" else tuple(map(int, it.split())) for it in sets]
 
 
 def count_of(bits):
@@ -235,17 +193,17 @@ def lists_of(axioms, query, individuals):
 
 class SmallWorlds(unittest.TestCase):
     def test_lists_of_documents_with_facts(self):
-        found = documents()
+        found = list(zip(cases(r"reasons of facts \d+"), cases(r"repairs of facts \d+")))
         self.assertEqual(len(found), 30)
-        for number, (axioms, statement) in found.items():
-            with self.subTest(number=number, statement=statement):
-                read = read_axioms(axioms)
-                query = query_of(statement, read.prefixes)
+        for one, other in found:
+            with self.subTest(case=one.name, other=other.name):
+                read = document(document_of(one.axioms))
+                query = query_of(one.asked, read.prefixes)
                 listed, individuals = ontology_of(read)
                 asked = [query[2]] if query[2] is not None and query[2] not in individuals else []
                 reasons, repairs = lists_of(listed, query, individuals + asked)
-                self.assertEqual(reasons, told("reasons", number))
-                self.assertEqual(repairs, told("repairs", number))
+                self.assertEqual(reasons, sets_in(one.told))
+                self.assertEqual(repairs, sets_in(other.told))
 
 
 class Refuted(Outcomes):
@@ -275,35 +233,35 @@ def following(axioms, queries, individuals):
 
 class Individuals(unittest.TestCase):
     def test_instances(self):
-        found = list(cases("instances"))
+        found = list(cases(r"instances \d+"))
         self.assertEqual(len(found), 7)
-        for axioms, of, told in found:
-            with self.subTest(axioms=axioms, of=of):
-                listed, individuals, sup = read_question(axioms, of)
+        for case in found:
+            with self.subTest(case=case.name):
+                listed, individuals, sup = read_question(case)
                 found = following(listed, [(TOP, sup, it) for it in individuals], individuals)
                 members = [f"<{it}>" for it in individuals if (TOP, sup, it) in found]
-                self.assertEqual(told, [f"instances {len(members)}", *members])
+                self.assertEqual(case.told, [f"instances {len(members)}", *members])
 
     def test_reasons(self):
-        found = list(cases("why"))
+        found = list(cases(r"why \d+"))
         self.assertEqual(len(found), 8)
-        for axioms, of, told in found:
-            with self.subTest(axioms=axioms, of=of):
-                listed, individuals, sup = read_question(axioms, of)
+        for case in found:
+            with self.subTest(case=case.name):
+                listed, individuals, sup = read_question(case)
                 lines = []
                 for it in individuals:
                     reasons, _ = lists_of(listed, (TOP, sup, it), individuals)
                     lines += [f"instance <{it}> justifications {len(reasons)}"] * bool(reasons)
                     lines += [" ".join(map(str, one)) or "empty" for one in reasons]
-                self.assertEqual([it for it in told if it and not it.startswith("axiom ")], lines)
+                self.assertEqual([it for it in case.told if it and not it.startswith("axiom ")], lines)
 
     def test_types(self):
-        found = list(cases("types"))
+        found = list(cases(r"types \d+"))
         self.assertEqual(len(found), 8)
-        for axioms, _, told in found:
-            with self.subTest(axioms=axioms):
-                listed, individuals = ontology_of(read_axioms(axioms))
-                self.assertEqual(told, Types(axioms, listed, individuals).lines())
+        for case in found:
+            with self.subTest(case=case.name):
+                listed, individuals = ontology_of(document(document_of(case.axioms)))
+                self.assertEqual(case.told, Types("\n".join(case.axioms), listed, individuals).lines())
 
 
 class Types:
