@@ -1,15 +1,12 @@
-// The jobs on individuals: their whole texts, and what each budget from one step on leaves of them; and that the
-// reasons of an instance are what `explain` lists for the statement that it is one.
+// The jobs on individuals: their whole texts, and what each budget from one step on leaves of them.
 
 ghost use Rattle.std.specs.Prelude.{◌≡◌, ◌<◌, [], length};
 
 use individual_jobs::{Status, Text, instances, realize, why};
-use job_runs::{Answer, NoMemory, document, run_on};
+use job_runs::{NoMemory, document};
 use run_log::RunLog;
 use std::alloc::Global;
 use std::test::Fail;
-
-// ---- whole texts
 
 // What is asked of a document.
 #[derive(Clone, Copy)]
@@ -257,173 +254,6 @@ fn tells_all_or_spends_all(rt: HostRuntime) -> Result<(), Fail> {
     for (axioms, asked, status, text) in CASES {
         let are_so = are_told_of(rt.alloc(), axioms, *asked, (*status, *text))?;
         assert!(rt; are_so, "{text}");
-    }
-    Ok(())
-}
-
-// ---- compared with `explain`
-
-// A class expression, the individuals in the order of their list, and the axioms.
-const DOCUMENTS: &[(&str, &[&str], &str)] = &[
-    (":B", &["x", "y", "z"], THREE),
-    (":D", &["x"], TWO_WAYS),
-    ("ObjectSomeValuesFrom(:R :B)", &["x", "y"], BESIDE),
-    (
-        ":A",
-        &["x", "y", "z"],
-        "SameIndividual(:x :y)
-ClassAssertion(:A :x)
-ClassAssertion(:A :y)
-DifferentIndividuals(:y :z)",
-    ),
-    (
-        ":C",
-        &["x", "y", "z"],
-        "EquivalentClasses(:C ObjectMinCardinality(2 :R))
-ObjectPropertyAssertion(:R :x :y)
-ObjectPropertyAssertion(:R :x :z)
-DifferentIndividuals(:y :z)
-ClassAssertion(ObjectSomeValuesFrom(:R :C) :y)",
-    ),
-    (
-        "ObjectComplementOf(:B)",
-        &["x", "y", "z"],
-        "TransitiveObjectProperty(:R)
-ObjectPropertyAssertion(:R :x :y)
-ObjectPropertyAssertion(:R :y :z)
-ClassAssertion(ObjectAllValuesFrom(:R :A) :x)
-DisjointClasses(:A :B)",
-    ),
-    (
-        ":C",
-        &["x", "y"],
-        "DisjointClasses(:A :B)
-ClassAssertion(ObjectIntersectionOf(:A :B) :x)
-ClassAssertion(owl:Nothing :y)",
-    ),
-];
-
-// What `explain` answers to the statement that an individual is in a class expression.
-fn explained(alloc: Global, document: &str, class: &str, name: &str) -> Result<Answer, NoMemory> {
-    let statement = format!(in alloc; "ClassAssertion({class} :{name})")?;
-    run_on(alloc, &["explain", statement.as_str()], document.as_bytes())
-}
-
-// Lines that an answer is to have: those of instances and their sets, and those of axioms.
-#[derive(Drop)]
-struct Lines {
-    sets: String,
-    axioms: String,
-}
-
-// Puts the lines of an instance last, unless nothing explains it: the first of what does says how many justifications
-// there are, and those of axioms come last.
-fn put_instance(lines: &mut Lines, name: &str, explained: &str) -> Result<(), NoMemory> {
-    if explained == "justifications 0\n" {
-        return Ok(());
-    }
-    lines.sets.push_str("instance <http://e.org/")?;
-    lines.sets.push_str(name)?;
-    lines.sets.push_str("> ")?;
-    match explained.split_once("axiom ") {
-        Some((sets, axioms)) => {
-            lines.sets.push_str(sets)?;
-            lines.axioms.push_str("axiom ")?;
-            lines.axioms.push_str(axioms)?;
-        }
-        None => lines.sets.push_str(explained)?,
-    }
-    Ok(())
-}
-
-// Puts the lines of an individual last, unless it is no instance.
-fn put_individual(
-    alloc: Global,
-    lines: &mut Lines,
-    document: &str,
-    class: &str,
-    name: &str,
-) -> Result<(), NoMemory> {
-    let answer = explained(alloc, document, class, name)?;
-    put_instance(lines, name, str::from_utf8(answer.text()).unwrap_or(""))
-}
-
-// Puts the lines of all individuals last.
-fn put_individuals(
-    alloc: Global,
-    lines: &mut Lines,
-    document: &str,
-    class: &str,
-    names: &[&str],
-) -> Result<(), NoMemory> {
-    for name in names {
-        put_individual(alloc, lines, document, class, name)?;
-    }
-    Ok(())
-}
-
-fn are_among(lines: &str, others: &str) -> bool {
-    lines
-        .lines()
-        .all(|line| others.lines().any(|other| other == line))
-}
-
-// Whether a text has just these lines of instances and sets, and behind them each of these axioms once, in their order:
-// none of the documents has more than nine.
-fn is_made_of(text: &str, lines: &Lines) -> bool {
-    match text.strip_prefix(lines.sets.as_str()) {
-        Some(rest) => {
-            are_among(rest, lines.axioms.as_str())
-                && are_among(lines.axioms.as_str(), rest)
-                && rest.lines().is_sorted_by(|line, next| line < next)
-        }
-        None => false,
-    }
-}
-
-// Whether the reasons are these lines, and there are some.
-fn has_reasons(
-    alloc: Global,
-    document: &str,
-    class: &str,
-    lines: &Lines,
-) -> Result<bool, NoMemory> {
-    let answer = run_on(alloc, &["why", class], document.as_bytes())?;
-    let text = str::from_utf8(answer.text()).unwrap_or("");
-    Ok(answer.status == Status::Done && !lines.sets.is_empty() && is_made_of(text, lines))
-}
-
-fn are_explained(
-    alloc: Global,
-    document: &str,
-    class: &str,
-    names: &[&str],
-) -> Result<bool, NoMemory> {
-    let mut lines = Lines {
-        sets: String::new(alloc),
-        axioms: String::new(alloc),
-    };
-    put_individuals(alloc, &mut lines, document, class, names)?;
-    has_reasons(alloc, document, class, &lines)
-}
-
-fn are_reasons_explained(
-    alloc: Global,
-    class: &str,
-    names: &[&str],
-    axioms: &str,
-) -> Result<bool, NoMemory> {
-    let document = document(alloc, axioms)?;
-    are_explained(alloc, document.as_str(), class, names)
-}
-
-#[test]
-fn reasons_are_what_explain_lists(rt: HostRuntime) -> Result<(), Fail> {
-    for (class, names, axioms) in DOCUMENTS {
-        assert!(rt;
-            are_reasons_explained(rt.alloc(), class, names, axioms)?,
-            "{axioms}"
-        );
     }
     Ok(())
 }

@@ -6,8 +6,8 @@ use run_log::RunLog;
 use std::alloc::Global;
 use std::test::Fail;
 
-/// A document with these axioms, and a script behind it.
-pub(crate) fn input_of(alloc: Global, axioms: &str, script: &str) -> Result<String, NoMemory> {
+// A document with these axioms, and a script behind it.
+fn input_of(alloc: Global, axioms: &str, script: &str) -> Result<String, NoMemory> {
     Ok(format!(in alloc; "Prefix(:=<http://e.org/>)\nOntology(\n{axioms}\n)\n{script}")?)
 }
 

@@ -64,8 +64,8 @@ const SETS: &[(&[u32], Verdict)] = &[
     (&[], Verdict::Rejected(0)),
 ];
 
-/// What is said of a refutation over the axioms of these numbers.
-pub(crate) fn verdict_over(
+// What is said of a refutation over the axioms of these numbers.
+fn verdict_over(
     alloc: Global,
     ontology: &Ontology,
     query: &Query,
