@@ -1,6 +1,6 @@
 //! Cases for the reasoner: documents, what is asked of them, and what comes of it. The file `stdin` has the cases as
-//! text, and the file `stdout` one line for each, worked out by hand. A new case is some lines there, and costs no
-//! proof.
+//! text, and the file `stdout` one line for each; the end of `docs/DEFINITIONS.md` says how these lines were found. A
+//! new case is some lines there, and costs no proof.
 //!
 //! A line of `stdin` is a key, and behind one blank what belongs to it. Empty lines, and lines that begin with `#`, say
 //! nothing. A block begins with its name:
