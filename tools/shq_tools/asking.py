@@ -1,249 +1,149 @@
 """The command `./shq`: hands its words to the program, or to a script of this folder.
 
 Standard output and the exit status are those of the program. What is said besides goes to standard error: a usage
-line where the words are wrong, how to allow more steps where they were spent, and on a terminal the seconds that
-passed.
+line where the words are wrong, how to allow more where an answer is undecided, and on a terminal the seconds that
+passed. `commands` has the table of all commands and options.
 """
-import os
-import shlex
-import signal
-import subprocess
 import sys
-import threading
-import time
-from dataclasses import dataclass
 
-from shq_tools.places import PROGRAM
+from shq_tools import program
+from shq_tools.budgets import SECONDS, known_with, known_within
+from shq_tools.commands import COMMANDS, help_text, usage_for
+from shq_tools.hints import hint_on_budget, hint_on_seconds
+from shq_tools.messages import say
+from shq_tools.output import guarded, written
+from shq_tools.places import TOOLS, TOP
+from shq_tools.preparing import Unprepared, prepared
+from shq_tools.running import end_by, run_through
+from shq_tools.sources import source_of
+from shq_tools.statuses import Status
+from shq_tools.words import BadWords, asked
 
-DEFAULT_BUDGET = 1_000_000
-MOST_BUDGET = 4_294_967_295
-BAD_WORDS = 2
-UNDECIDED = 8
-# How long a job runs before its seconds are shown.
-QUIET_SECONDS = 2
-
-
-@dataclass(frozen=True)
-class Job:
-    """A job of the program: the words after its name, whether a budget may follow, whether it reads an ontology."""
-
-    operands: tuple
-    has_budget: bool = True
-    has_input: bool = True
-
-    def usage(self, name):
-        words = ["usage: ./shq", name, *self.operands]
-        words += ["[budget STEPS]"] * self.has_budget + ["[FILE]"] * self.has_input
-        return " ".join(words)
+HELP_WORDS = ("--help", "-h")
+READ_FAULT = b"read fault\n"
+BAD_WORDS = b"bad words\n"
 
 
-JOBS = {
-    "check": Job(("AXIOM",), has_budget=False),
-    "audit": Job(("AXIOM",), has_budget=False),
-    "entails": Job(("AXIOM",)),
-    "sat": Job(("CLASS",)),
-    "classify": Job(()),
-    "realize": Job(()),
-    "instances": Job(("CLASS",)),
-    "why": Job(("CLASS",)),
-    "explain": Job(("AXIOM",)),
-    "repair": Job(("AXIOM",)),
-    "evidence": Job(("AXIOM",)),
-    "session": Job(()),
-    "workload": Job(("N",), has_input=False),
-}
-USAGE = f"usage: ./shq {'|'.join(JOBS)}|profile|cut|read ..  (./shq --help says more)"
+def seconds_of(question):
+    """For how many seconds a question may be asked, or None where its words have a budget. Raises `BadWords`."""
+    text = question.options.get("--seconds")
+    has_budget = question.words[-2:-1] == ("budget",)
+    if text is None:
+        return None if has_budget or not question.command.has_budget else SECONDS
+    if has_budget:
+        raise BadWords("--seconds and a budget do not go together")
+    try:
+        seconds = float(text)
+    except ValueError:
+        seconds = 0
+    if not 0 < seconds < float("inf"):
+        raise BadWords(f"--seconds needs a number above 0, and not {text}")
+    return seconds
 
 
-@dataclass(frozen=True)
-class Asked:
-    """What is asked of the program: its words, the file that it reads in place of standard input, and how it was
-    asked.
-    """
-
-    words: tuple
-    file: str = None
-    given: tuple = ()
-
-
-def say(text):
-    print(f"shq: {text}", file=sys.stderr, flush=True)
+def told(question, known, hint):
+    """Prints what is known, with a hint where that is undecided, and returns the status."""
+    if not written(known.ended.output):
+        return Status.WRITE_FAULT
+    if known.status == Status.UNDECIDED:
+        say(hint)
+    if known.signal:
+        end_by(known.signal)
+    return known.status
 
 
-def without_budget(words):
-    """The words without `--budget STEPS`, and the steps, or None where it is not there."""
-    for at, word in enumerate(words):
-        if word.startswith("--budget="):
-            return words[:at] + words[at + 1 :], word.partition("=")[2]
-        if word == "--budget" and at + 1 < len(words):
-            return words[:at] + words[at + 2 :], words[at + 1]
-    return words, None
-
-
-def without_file(words):
-    """The words without a file name that stands last, and the file, or None where there is none."""
-    job = JOBS.get(words[0]) if words else None
-    if job is None or not job.has_input:
-        return words, None
-    count = 1 + len(job.operands)
-    if words[count : count + 1] == ["budget"] and len(words) >= count + 2:
-        count += 2
-    if len(words) != count + 1 or words[-1].startswith("-"):
-        return words, None
-    return words[:-1], words[-1]
-
-
-def asked(given):
-    """What the words of the command ask."""
-    words, budget = without_budget(list(given))
-    words, file = without_file(words)
-    if budget is not None:
-        words = [*words, "budget", budget]
-    return Asked(tuple(words), file, tuple(given))
-
-
-def usage_for(words):
-    """The usage line that fits the words best."""
-    job = JOBS.get(words[0]) if words else None
-    return job.usage(words[0]) if job else USAGE
-
-
-def budget_in(words):
-    """How many steps the words allow."""
-    return int(words[-1]) if len(words) >= 3 and words[-2] == "budget" else DEFAULT_BUDGET
-
-
-def asked_again(question, steps):
-    """The words of a command that allows so many steps."""
-    words, _ = without_budget(list(question.words))
-    if len(words) >= 3 and words[-2] == "budget":
-        words = words[:-2]
-    file = [] if question.file is None else [question.file]
-    text = shlex.join(["./shq", *words, "--budget", str(steps), *file])
-    has_input = JOBS[words[0]].has_input
-    return text if file or not has_input else f"{text} < FILE"
-
-
-def hint_on_undecided(question):
-    """What to write where the steps were spent."""
-    steps = budget_in(question.words)
-    said = f"undecided: the {steps:,} steps that were allowed are spent"
-    if steps >= MOST_BUDGET:
-        return f"{said}, and no more can be allowed"
-    more = min(10 * steps, MOST_BUDGET)
-    return f"{said}; to allow more, write\n  {asked_again(question, more)}"
-
-
-class Seconds:
-    """Shows on standard error how many seconds a job has run, where that is a terminal."""
-
-    def __init__(self):
-        self.ended = threading.Event()
-        self.thread = threading.Thread(target=self.show, daemon=True)
-
-    def show(self):
-        begun = time.monotonic()
-        wait = QUIET_SECONDS
-        while not self.ended.wait(wait):
-            sys.stderr.write(f"\rshq: {time.monotonic() - begun:.0f} seconds")
-            sys.stderr.flush()
-            wait = 1
-        if wait == 1:
-            sys.stderr.write("\r\x1b[K")
-            sys.stderr.flush()
-
-    def start(self):
-        if sys.stderr.isatty():
-            self.thread.start()
-        return self
-
-    def stop(self):
-        self.ended.set()
-        if self.thread.is_alive():
-            self.thread.join()
-
-
-def copied(child, seconds):
-    """Copies what the program writes to the terminal, once the line with the seconds is gone."""
-    for piece in iter(lambda: child.stdout.read1(1 << 16), b""):
-        seconds.stop()
-        sys.stdout.buffer.write(piece)
-        sys.stdout.buffer.flush()
-
-
-def hand_on_signals(child):
-    """An interrupt reaches the program by itself; what else ends this script ends the program first."""
-    signal.signal(signal.SIGINT, signal.SIG_IGN)
-    for number in (signal.SIGTERM, signal.SIGHUP):
-        signal.signal(number, lambda got, _: child.send_signal(got))
-
-
-def end_by(number):
-    """Ends this script by the signal that ended the program."""
-    signal.signal(number, signal.SIG_DFL)
-    os.kill(os.getpid(), number)
-
-
-def run_program(words, source):
-    """Runs the program on an open file, or on standard input where it is None, and returns its status."""
-    # on a terminal the answer has to wait until the line with the seconds is gone
-    is_copied = sys.stderr.isatty() and sys.stdout.isatty()
-    output = subprocess.PIPE if is_copied else None
-    child = subprocess.Popen([PROGRAM, *words], stdin=source, stdout=output)
-    hand_on_signals(child)
-    seconds = Seconds().start()
-    if is_copied:
-        copied(child, seconds)
-    status = child.wait()
-    seconds.stop()
-    if status < 0:
-        end_by(-status)
+def ask_by_budget(question, source):
+    """Asks with the budget that the words have, or without one, and returns the status."""
+    status = run_through(question.words, source)
+    if status == Status.UNDECIDED:
+        say(hint_on_budget(question))
     return status
 
 
-def opened(question):
-    """The question, and its file, open, or None. Where the file cannot be opened the words stay as they were given."""
-    if question.file is None:
-        return question, None
+def ask_by_seconds(question, source, seconds):
+    """Asks with budgets that grow, and returns the status."""
+    known = known_within(question.words, source, seconds)
+    return told(question, known, hint_on_seconds(question, known, seconds))
+
+
+def answered(question, source):
+    """Asks the program, and returns its status."""
+    seconds = seconds_of(question)
+    if seconds is None:
+        return ask_by_budget(question, source)
+    return ask_by_seconds(question, source, seconds)
+
+
+def read_fault(question, error):
+    """Says that what a job reads cannot be read, and returns the status."""
+    say(f"{question.file or 'standard input'}: {error.strerror}")
+    return Status.READ_FAULT if written(READ_FAULT) else Status.WRITE_FAULT
+
+
+def ask_on_file(question):
+    """Asks about an ontology, and returns the status."""
+    if question.file is None and sys.stdin and sys.stdin.isatty():
+        say("reading what is typed, up to Ctrl-D; a file can be given as the last word")
     try:
-        return question, open(question.file, "rb")
+        source = source_of(question.file)
     except OSError as error:
-        say(f"{question.file}: {error.strerror}")
-        return Asked((*question.words, question.file), None, question.given), None
+        return read_fault(question, error)
+    try:
+        return answered(*prepared(question, source))
+    except Unprepared as fault:
+        say(str(fault))
+        return fault.status
 
 
-def waits_for_terminal(question):
-    """Whether the program will read what is typed."""
-    job = JOBS.get(question.words[0]) if question.words else None
-    is_whole = job and len(question.words) >= 1 + len(job.operands)
-    return bool(is_whole and job.has_input and question.file is None and sys.stdin.isatty())
+def ask_without_file(question):
+    """Asks what needs no ontology, or lets the program say that the words are bad, and returns the status."""
+    command = question.command
+    if command and not command.files and command.is_job:
+        return answered(question, None)
+    return run_through(question.words)
 
 
 def ask(given):
     """Asks the program, and returns its status."""
-    question, source = opened(asked(given))
-    if waits_for_terminal(question):
-        say("reading what is typed, up to Ctrl-D; a file can be given as the last word")
-    status = run_program(question.words, source)
-    if status == BAD_WORDS:
-        print(usage_for(question.words), file=sys.stderr)
-    if status == UNDECIDED:
-        say(hint_on_undecided(question))
+    if not program.is_ready():
+        return Status.NOT_BUILT
+    try:
+        question = asked(given)
+        status = ask_on_file(question) if question.is_whole else ask_without_file(question)
+    except BadWords as fault:
+        say(str(fault))
+        status = Status.BAD_WORDS if written(BAD_WORDS) else Status.WRITE_FAULT
+    if status == Status.BAD_WORDS:
+        print(usage_for(given), file=sys.stderr)
     return status
+
+
+def print_help(words):
+    """Prints what a command is for, or what all are, and returns 0."""
+    command = next((COMMANDS[it] for it in words if it in COMMANDS), None)
+    text = help_text(command) if command else (TOOLS / "usage.txt").read_text(encoding="utf-8")
+    return Status.DONE if written(text.encode("utf-8")) else Status.WRITE_FAULT
+
+
+def print_version():
+    """Prints the version, and returns 0."""
+    try:
+        version = (TOP / "VERSION").read_text(encoding="utf-8").strip()
+    except OSError:
+        version = "without a version"
+    return Status.DONE if written(f"jezundwa {version}\n".encode("utf-8")) else Status.WRITE_FAULT
 
 
 def main(given):
     """Does what the words of ./shq ask, and returns the exit status."""
-    if given and given[0] == "profile":
-        from shq_tools.profile import main as profile
-
-        return profile(given[1:])
-    if given and given[0] == "cut":
-        from shq_tools.cut import main as cut
-
-        return cut(given[1:])
-    if given and given[0] == "read":
-        from shq_tools.reading_answers import main as read
-
-        return read(given[1:])
-    return ask(given)
+    words = list(given)
+    if words[:1] == ["help"] or any(it in HELP_WORDS for it in words):
+        return print_help(words)
+    if words[:1] == ["--version"]:
+        return print_version()
+    command = COMMANDS.get(words[0]) if words else None
+    if command is None or command.is_job:
+        return ask(words)
+    if command.needs_program and not program.is_ready():
+        return Status.NOT_BUILT
+    return guarded(command.run, words[1:])

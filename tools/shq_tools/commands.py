@@ -1,0 +1,144 @@
+"""The commands of `./shq`, in one table: their words, their options, and what runs them.
+
+To add a command, put a row into `COMMANDS`; to add an option, make an `Option` and name it in the rows that take it
+(`JOB_OPTIONS` for each job of the program that reads an ontology). The usage lines, `./shq COMMAND --help`, and
+whatever else lists commands are made from here: `COMMANDS` and `GENERAL_OPTIONS` are all there is.
+
+A row with a `runner`, as `shq_tools.cut:main`, is a script of this folder: the call gets the words behind the
+command's name, and its answer is the exit status. A row without one is a job of the program.
+
+An option with `prepares`, as `shq_tools.approximating:prepared`, changes what a job reads before the program is asked:
+see `preparing` for what that call gets and answers.
+"""
+import importlib
+from dataclasses import dataclass
+
+
+@dataclass(frozen=True)
+class Option:
+    """An option: its name with its dashes, what stands behind it (nothing for a switch), and what it is for.
+
+    Where the value may be left out, it is given by an equals sign alone, as in `--approximate=full`.
+    """
+
+    name: str
+    value: str = ""
+    text: str = ""
+    may_lack_value: bool = False
+    prepares: str = ""
+
+    def usage(self):
+        if not self.value:
+            return self.name
+        return f"{self.name}[={self.value}]" if self.may_lack_value else f"{self.name} {self.value}"
+
+
+@dataclass(frozen=True)
+class Command:
+    """A command: what it is for, the words that it needs, those that it may have behind them, and its options."""
+
+    name: str
+    text: str
+    operands: tuple = ()
+    files: tuple = ("FILE",)
+    options: tuple = ()
+    runner: str = ""
+    has_budget: bool = False
+    needs_program: bool = True
+
+    @property
+    def is_job(self):
+        """Whether it is a job of the program."""
+        return not self.runner
+
+    def usage(self):
+        """The usage line."""
+        words = ["usage: ./shq", self.name, *self.operands]
+        words += ["[budget STEPS]"] * self.has_budget
+        words += [f"[{it}]" for it in self.files]
+        return " ".join(words)
+
+    def option(self, name):
+        """The option of this name, or None."""
+        return next((it for it in self.options if it.name == name), None)
+
+    def run(self, words):
+        """Runs a script of this folder, and returns its status."""
+        return called(self.runner)(words)
+
+
+def called(place):
+    """The call that stands at a place, as `shq_tools.cut:main`."""
+    module, _, name = place.partition(":")
+    return getattr(importlib.import_module(module), name)
+
+
+BUDGET = Option("--budget", "STEPS", "allow so many steps of search, from 1 to 4,294,967,295")
+SECONDS = Option("--seconds", "N", "allow so many seconds (60 without it), with budgets that grow; not with --budget")
+
+JOB_OPTIONS = ()
+TIMED = (BUDGET, SECONDS)
+
+JOBS = (
+    Command("check", "whether a certificate behind the ontology is right", ("AXIOM",), options=JOB_OPTIONS),
+    Command("audit", "whether an audit behind the ontology is right", ("AXIOM",), options=JOB_OPTIONS),
+    Command("entails", "whether AXIOM follows, with a certificate", ("AXIOM",), options=TIMED + JOB_OPTIONS,
+            has_budget=True),
+    Command("sat", "whether CLASS can have a member, with a certificate", ("CLASS",), options=TIMED + JOB_OPTIONS,
+            has_budget=True),
+    Command("classify", "the hierarchy of all classes, and those that are contradictory",
+            options=TIMED + JOB_OPTIONS, has_budget=True),
+    Command("realize", "the most specific classes of each individual", options=TIMED + JOB_OPTIONS, has_budget=True),
+    Command("instances", "the individuals in CLASS", ("CLASS",), options=TIMED + JOB_OPTIONS, has_budget=True),
+    Command("why", "the individuals in CLASS, each with every reason", ("CLASS",), options=TIMED + JOB_OPTIONS,
+            has_budget=True),
+    Command("explain", "every reason why AXIOM follows", ("AXIOM",), options=TIMED + JOB_OPTIONS, has_budget=True),
+    Command("repair", "every way to stop AXIOM from following", ("AXIOM",), options=TIMED + JOB_OPTIONS,
+            has_budget=True),
+    Command("evidence", "all reasons and repairs as an audit, with what shows each", ("AXIOM",),
+            options=TIMED + JOB_OPTIONS, has_budget=True),
+    Command("session", "an answer to each line of a script behind the ontology", options=TIMED + JOB_OPTIONS,
+            has_budget=True),
+    Command("workload", "counts over an ontology that the program makes itself", ("N",), files=(), options=TIMED,
+            has_budget=True),
+)
+
+READ_OPTIONS = (
+    Option("--labels", "FILE", "the ontology, or another file that has the labels"),
+    Option("--language", "TAG", "the language of the labels, as en"),
+    Option("--query", "AXIOM", "the statement, or the class, that was asked about"),
+    Option("--dot", "", "a picture for Graphviz"),
+    Option("--html", "", "one page"),
+)
+
+TOOLS = (
+    Command("profile", "lists all that is outside of the language", runner="shq_tools.profile:main",
+            needs_program=False),
+    Command("cut", "writes the ontology without what is outside of the language", runner="shq_tools.cut:main",
+            needs_program=False),
+    Command("read", "shows an answer for people", options=READ_OPTIONS, runner="shq_tools.reading_answers:main",
+            needs_program=False),
+)
+
+GENERAL_OPTIONS = (
+    Option("--help", "", "what the commands are, or with a command what it is for and its options"),
+    Option("--version", "", "the version"),
+)
+
+COMMANDS = {it.name: it for it in JOBS + TOOLS}
+USAGE = f"usage: ./shq {'|'.join(COMMANDS)} ..  (./shq --help says more)"
+
+
+def usage_for(words):
+    """The usage line that fits the words best."""
+    command = COMMANDS.get(words[0]) if words else None
+    return command.usage() if command else USAGE
+
+
+def help_text(command):
+    """What `./shq COMMAND --help` prints."""
+    lines = [command.usage(), "", f"  {command.text}"]
+    if command.options:
+        width = max(len(it.usage()) for it in command.options)
+        lines += ["", "options:", *(f"  {it.usage():<{width}}  {it.text}" for it in command.options)]
+    return "\n".join([*lines, "", "./shq --help has all commands, answers and statuses.", ""])
