@@ -8,7 +8,6 @@ pub mod Skipped
 pub mod Empty
 pub mod Nexts
 pub mod AtElement
-pub mod Apart
 pub mod Candidates
 pub mod Groups
 pub mod Inside

@@ -1,5 +1,5 @@
 // Whether an interpretation meets axioms.
-ghost use Rattle.std.specs.Prelude.{◌≡◌, ◌<◌, IfOk, eqb};
+ghost use Rattle.std.specs.Prelude.{◌≡◌, ◌<◌, eqb};
 ghost use Rattle.std.specs.List.{list_all};
 ghost use Rattle.shq_meaning.specs.Truth.{all_same, none_twice, out_degree, are_same, differs_from_all, are_different};
 ghost use Rattle.shq_meaning.specs.Truth.{meets};
@@ -9,14 +9,13 @@ ghost use Rattle.finite_model.specs.AtElement.{can_break, begins_any};
 ghost use Rattle.finite_model.specs.ModelLists.{meaning};
 ghost use Rattle.finite_model.specs.Next.{IsNext};
 
+use crate::Interp;
 use crate::truth::least;
-use crate::{Interp, NoMemory};
 use shq_terms::{Axiom, Concept};
-use std::collections::BTreeSet;
 
 impl Interp {
     /// Whether the interpretation meets the axiom (OWL 2 Direct Semantics, section 2.3). An axiom that is no assertion
-    /// says the same of each element by itself, so elements that can break none are passed over.
+    /// says the same of each element by itself, so elements that can break none are passed over. No memory is taken.
     #[tactic(auto, using(crate::proofs::AtElement::met_at_each))]
     pub fn meets(&self, axiom: &Axiom) -> bool
         ensures { result ≡ meets (meaning self.now) «axiom».now }
@@ -64,31 +63,9 @@ impl Interp {
         individuals.iter().all(|other| self.individual(*other) == x)
     }
 
+    // Whether each two of the individuals are different elements. Each two are a fact of the axiom, and facts count as
+    // parts: an ontology within the limits has at most 500,000 of them, and so many comparisons are made at most.
     fn are_different(&self, individuals: &[u32]) -> bool
-        ensures { result ≡ are_different (meaning self.now) individuals.now }
-    {
-        match self.have_own_elements(individuals) {
-            Ok(different) => different,
-            Err(_) => self.differ_in_pairs(individuals),
-        }
-    }
-
-    // The same with the elements that were met kept in order, so that not each two individuals are compared.
-    fn have_own_elements(&self, individuals: &[u32]) -> Result<bool, NoMemory>
-        ensures { IfOk result (λ different. different ≡ are_different (meaning self.now) individuals.now) }
-    {
-        let mut met = BTreeSet::new(self.allocator());
-        for individual in individuals {
-            let first = met.insert(self.individual(*individual))?;
-            if !first {
-                return Ok(false);
-            }
-        }
-        Ok(true)
-    }
-
-    // The same without memory.
-    fn differ_in_pairs(&self, individuals: &[u32]) -> bool
         ensures { result ≡ are_different (meaning self.now) individuals.now }
     {
         for (index, individual) in individuals.iter().enumerate() {

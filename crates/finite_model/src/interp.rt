@@ -26,7 +26,6 @@ pub struct Interp {
     links: BTreeSet<(u32, u32, u32)>,
     // The individuals that are another element than 0, so that what is kept tells no more than what is meant.
     individuals: BTreeMap<u32, u32>,
-    alloc: Global,
 }
 
 impl Model for Interp {
@@ -58,7 +57,6 @@ impl Interp {
             members: BTreeSet::new(alloc),
             links: BTreeSet::new(alloc),
             individuals: BTreeMap::new(alloc),
-            alloc,
         }
     }
 
@@ -129,11 +127,6 @@ impl Interp {
         ensures inside { result < self.now.size }
     {
         self.individuals.get(&individual).copied().unwrap_or(0)
-    }
-
-    /// Memory for what is needed for a while.
-    pub(crate) fn allocator(&self) -> Global {
-        self.alloc
     }
 
     /// The elements of the class, ascending.

@@ -1,7 +1,7 @@
 use Rattle.std.proofs.Common.{◌≡◌, drop}
 use Rattle.shq_meaning.specs.Truth.{are_different}
 use Rattle.finite_model.specs.ModelLists.{meaning}
-use Rattle.finite_model.proofs.interp.Interp.differ_in_pairs.Given as goal
+use Rattle.finite_model.proofs.interp.Interp.are_different.Given as goal
 
 abbrev pub invariant-loop-index : goal.invariant-loop-index
 invariant-loop-index l =
