@@ -76,29 +76,34 @@ def called(place):
 BUDGET = Option("--budget", "STEPS", "allow so many steps of search, from 1 to 4,294,967,295")
 SECONDS = Option("--seconds", "N", "allow so many seconds (60 without it), with budgets that grow; not with --budget")
 
-JOB_OPTIONS = ()
+STRICT = Option("--strict", "", "end with status 10 where the file does not have a name of the question")
+
 TIMED = (BUDGET, SECONDS)
+# The options of each job that reads an ontology, of those that check a certificate, of those that ask a question, and
+# of those that ask about the whole ontology.
+JOB_OPTIONS = ()
+CHECK_OPTIONS = (STRICT, *JOB_OPTIONS)
+ASK_OPTIONS = (*TIMED, STRICT, *JOB_OPTIONS)
+WHOLE_OPTIONS = (*TIMED, *JOB_OPTIONS)
 
 JOBS = (
-    Command("check", "whether a certificate behind the ontology is right", ("AXIOM",), options=JOB_OPTIONS),
-    Command("audit", "whether an audit behind the ontology is right", ("AXIOM",), options=JOB_OPTIONS),
-    Command("entails", "whether AXIOM follows, with a certificate", ("AXIOM",), options=TIMED + JOB_OPTIONS,
+    Command("check", "whether a certificate behind the ontology is right", ("AXIOM",), options=CHECK_OPTIONS),
+    Command("audit", "whether an audit behind the ontology is right", ("AXIOM",), options=CHECK_OPTIONS),
+    Command("entails", "whether AXIOM follows, with a certificate", ("AXIOM",), options=ASK_OPTIONS, has_budget=True),
+    Command("sat", "whether CLASS can have a member, with a certificate", ("CLASS",), options=ASK_OPTIONS,
             has_budget=True),
-    Command("sat", "whether CLASS can have a member, with a certificate", ("CLASS",), options=TIMED + JOB_OPTIONS,
+    Command("classify", "the hierarchy of all classes, and those that are contradictory", options=WHOLE_OPTIONS,
             has_budget=True),
-    Command("classify", "the hierarchy of all classes, and those that are contradictory",
-            options=TIMED + JOB_OPTIONS, has_budget=True),
-    Command("realize", "the most specific classes of each individual", options=TIMED + JOB_OPTIONS, has_budget=True),
-    Command("instances", "the individuals in CLASS", ("CLASS",), options=TIMED + JOB_OPTIONS, has_budget=True),
-    Command("why", "the individuals in CLASS, each with every reason", ("CLASS",), options=TIMED + JOB_OPTIONS,
+    Command("realize", "the most specific classes of each individual", options=WHOLE_OPTIONS, has_budget=True),
+    Command("instances", "the individuals in CLASS", ("CLASS",), options=ASK_OPTIONS, has_budget=True),
+    Command("why", "the individuals in CLASS, each with every reason", ("CLASS",), options=ASK_OPTIONS,
             has_budget=True),
-    Command("explain", "every reason why AXIOM follows", ("AXIOM",), options=TIMED + JOB_OPTIONS, has_budget=True),
-    Command("repair", "every way to stop AXIOM from following", ("AXIOM",), options=TIMED + JOB_OPTIONS,
+    Command("explain", "every reason why AXIOM follows", ("AXIOM",), options=ASK_OPTIONS, has_budget=True),
+    Command("repair", "every way to stop AXIOM from following", ("AXIOM",), options=ASK_OPTIONS, has_budget=True),
+    Command("evidence", "all reasons and repairs as an audit, with what shows each", ("AXIOM",), options=ASK_OPTIONS,
             has_budget=True),
-    Command("evidence", "all reasons and repairs as an audit, with what shows each", ("AXIOM",),
-            options=TIMED + JOB_OPTIONS, has_budget=True),
-    Command("session", "an answer to each line of a script behind the ontology", options=TIMED + JOB_OPTIONS,
-            has_budget=True),
+    Command("session", "an answer to each line of a script, which stands behind the ontology or in SCRIPT",
+            files=("FILE", "SCRIPT"), options=WHOLE_OPTIONS, has_budget=True),
     Command("workload", "counts over an ontology that the program makes itself", ("N",), files=(), options=TIMED,
             has_budget=True),
 )

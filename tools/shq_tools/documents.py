@@ -66,15 +66,29 @@ def refuse_not_simple(axioms):
             raise Refused("outside", NOT_SIMPLE, axiom.line)
 
 
-def ontology_of(read):
-    """The numbered axioms of a document, and its individuals in the order in which they are met. Raises `Refused`
-    where the reasoner refuses it.
+def walked(read):
+    """The numbered axioms of a document, and its classes, roles and individuals by kind, as keys in the order in which
+    they are met. Raises `Refused` where the reasoner refuses it.
     """
     limits = Limits()
     walk = Walk(read.prefixes, limits)
     axioms = numbered([walk.axiom(it) for it in read.axiom_items])
     refuse_not_simple(axioms)
-    return axioms, list(limits.names["individuals"])
+    return axioms, limits.names
+
+
+def ontology_of(read):
+    """The numbered axioms of a document, and its individuals in the order in which they are met. Raises `Refused`
+    where the reasoner refuses it.
+    """
+    axioms, names = walked(read)
+    return axioms, list(names["individuals"])
+
+
+def names_of(read):
+    """The names of a document by kind, and how many axioms it has. Raises `Refused` where the reasoner refuses it."""
+    axioms, names = walked(read)
+    return names, len(axioms)
 
 
 def axioms_of(read):

@@ -17,7 +17,7 @@ def asked_again(question, *more):
     words = without_budget(list(question.words))
     rest = [word for name, value in question.options.items() if name not in ("--budget", "--seconds")
             for word in ([f"{name}={value}"] if value else [name])]
-    file = [] if question.file is None else [question.file]
+    file = [it for it in (question.file, question.script) if it is not None]
     text = shlex.join(["./shq", *words, *rest, *more, *file])
     return text if file or not question.command.files else f"{text} < FILE"
 

@@ -5,11 +5,13 @@ A call that prepares has the form `call(question, source, value)`: the question 
 them, `(question, source)`, changed by `dataclasses.replace`. What it has to tell the person it says on standard error.
 Where it cannot go on it raises `Unprepared` with what to say and the status to end with.
 
-`ALWAYS` are the calls that every job makes, in order; the others belong to options, by their field `prepares`.
+`FIRST` are the calls that every job on an ontology makes first, and `LAST` those that it makes last, each in order;
+in between come those of the options, by their field `prepares`, in the order in which the table has them.
 """
 from shq_tools.commands import called
 
-ALWAYS = ()
+FIRST = ()
+LAST = ("shq_tools.questions:prepared",)
 
 
 class Unprepared(Exception):
@@ -22,9 +24,10 @@ class Unprepared(Exception):
 
 def prepared(question, source):
     """The question and what the job reads, as the program is to get them. Raises `Unprepared`."""
-    for place in ALWAYS:
-        question, source = called(place)(question, source, "")
-    for option in question.command.options:
-        if option.prepares and option.name in question.options:
-            question, source = called(option.prepares)(question, source, question.options[option.name])
+    options = [it for it in question.command.options if it.prepares and it.name in question.options]
+    steps = [(it, "") for it in FIRST]
+    steps += [(it.prepares, question.options[it.name]) for it in options]
+    steps += [(it, "") for it in LAST]
+    for place, value in steps:
+        question, source = called(place)(question, source, value)
     return question, source

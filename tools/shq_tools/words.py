@@ -11,13 +11,17 @@ class BadWords(Exception):
 @dataclass(frozen=True)
 class Asked:
     """What is asked of the program: its words with the budget, the file that it reads in place of standard input, the
-    options by their names, and the words as they were given.
+    options by their names, the words as they were given, the file with the script of a session; and how many axioms were put into the ontology for this
+    question, behind how many of its own.
     """
 
     words: tuple
     file: str = None
     options: dict = field(default_factory=dict)
     given: tuple = ()
+    script: str = None
+    own_axioms: int = 0
+    added_axioms: int = 0
 
     @property
     def command(self):
@@ -72,23 +76,25 @@ def without_budget(words):
     return words[:-2] if len(words) >= 3 and words[-2] == "budget" else words
 
 
-def without_file(command, words):
-    """The words without a file name that stands last, and the file, or None where there is none."""
-    if command is None or not command.is_job or not command.files:
-        return words, None
+def without_files(command, words):
+    """The words without the names of files that stand last, and these."""
+    if command is None or not command.is_job:
+        return words, []
     count = 1 + len(command.operands)
     if words[count : count + 1] == ["budget"] and len(words) >= count + 2:
         count += 2
-    if len(words) != count + 1 or words[-1].startswith("-"):
-        return words, None
-    return words[:-1], words[-1]
+    files = words[count:]
+    if len(files) > len(command.files) or any(it.startswith("-") and it != "-" for it in files):
+        return words, []
+    return words[:count], files
 
 
 def asked(given):
     """What the words of a job ask. Raises `BadWords` where an option lacks its value."""
     command = command_in(given)
     words, options = without_options(command, list(given))
-    words, file = without_file(command, words)
+    words, files = without_files(command, words)
     if "--budget" in options:
         words = [*words, "budget", options["--budget"]]
-    return Asked(tuple(words), file, options, tuple(given))
+    file, script = [*files, None, None][:2]
+    return Asked(tuple(words), file, options, tuple(given), script)
