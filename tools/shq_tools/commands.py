@@ -76,12 +76,14 @@ def called(place):
 BUDGET = Option("--budget", "STEPS", "allow so many steps of search, from 1 to 4,294,967,295")
 SECONDS = Option("--seconds", "N", "allow so many seconds (60 without it), with budgets that grow; not with --budget")
 
+APPROXIMATE = Option("--approximate", "full", "translate what is outside of the language first, and say what is lost",
+                     may_lack_value=True, prepares="shq_tools.approximation.command:prepared")
 STRICT = Option("--strict", "", "end with status 10 where the file does not have a name of the question")
 
 TIMED = (BUDGET, SECONDS)
 # The options of each job that reads an ontology, of those that check a certificate, of those that ask a question, and
 # of those that ask about the whole ontology.
-JOB_OPTIONS = ()
+JOB_OPTIONS = (APPROXIMATE,)
 CHECK_OPTIONS = (STRICT, *JOB_OPTIONS)
 ASK_OPTIONS = (*TIMED, STRICT, *JOB_OPTIONS)
 WHOLE_OPTIONS = (*TIMED, *JOB_OPTIONS)
@@ -121,6 +123,11 @@ TOOLS = (
             needs_program=False),
     Command("cut", "writes the ontology without what is outside of the language", runner="shq_tools.cut:main",
             needs_program=False),
+    Command("approximate", "writes the ontology with what is outside of the language translated, as far as it can be said",
+            options=(Option("--full", "", "also what chains and inverses of roles say of each `all r C`"),),
+            runner="shq_tools.approximation.command:main", needs_program=False),
+    Command("convert", "writes a file of another syntax in functional-style syntax, by the OWL API",
+            runner="shq_tools.converting:main", needs_program=False),
     Command("read", "shows an answer for people", options=READ_OPTIONS, runner="shq_tools.reading_answers:main",
             needs_program=False),
 )

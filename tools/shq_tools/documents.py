@@ -43,6 +43,11 @@ def document(data):
     """
     if len(data) > MOST_BYTES:
         raise Refused("limit", "text", None)
+    return parsed(data)
+
+
+def parsed(data):
+    """The same of bytes of any length."""
     found, text, end = tokens(data)
     items = trees(found, end_line(data))
     prefixes = Prefixes()

@@ -10,7 +10,7 @@ in between come those of the options, by their field `prepares`, in the order in
 """
 from shq_tools.commands import called
 
-FIRST = ()
+FIRST = ("shq_tools.converting:prepared",)
 LAST = ("shq_tools.questions:prepared",)
 
 

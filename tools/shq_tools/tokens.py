@@ -6,7 +6,7 @@ whitespace, control characters and `( ) = < > " # @ ^`. Reading stops after the 
 `Ontology`.
 """
 import re
-from dataclasses import dataclass
+from typing import NamedTuple
 
 BYTE_ORDER_MARK = "\ufeff"
 
@@ -19,6 +19,8 @@ PATTERN = re.compile(
     |(?P<name>[^\x00-\x20\x7f()=<>"#@^]+)""",
     re.X,
 )
+# The kinds of tokens that may stand on more than one line.
+MANY_LINES = {"gap", "string"}
 # What there may be of a token that goes on where the text ends.
 UNENDED = re.compile(r"""<[^\x00-\x20\x7f<>"]*\Z|"[^"\\]*(?:\\["\\][^"\\]*)*\\?\Z|@\Z|\^\Z""")
 
@@ -37,8 +39,7 @@ def bad_text(kind, line):
     return Refused("bad text", kind, line)
 
 
-@dataclass(frozen=True)
-class Token:
+class Token(NamedTuple):
     """A token: its kind by the pattern above, its text without delimiters, its place in the text and its line."""
 
     kind: str
@@ -58,15 +59,16 @@ class DocumentEnd:
 
     def is_at(self, token):
         """Takes one token more, and returns whether it closes the document."""
-        if token.kind == "close" and self.depth == 1 and self.is_document:
-            return True
-        if token.kind == "open":
+        kind = token.kind
+        if kind == "open":
             if self.depth == 0:
                 self.is_document = self.latest == "document name"
             self.depth += 1
-        if token.kind == "close":
+        elif kind == "close":
+            if self.depth == 1 and self.is_document:
+                return True
             self.depth = max(0, self.depth - 1)
-        self.latest = self.behind(token)
+        self.latest = self.behind(token) if self.depth == 0 else "other"
         return False
 
     def behind(self, token):
@@ -104,17 +106,20 @@ def tokens(data):
     front, bad_line = readable_front(data)
     place = len(BYTE_ORDER_MARK) if front.startswith(BYTE_ORDER_MARK) else 0
     line, found, end = 1, [], DocumentEnd()
-    while place < len(front):
-        match = PATTERN.match(front, place)
-        if match is None:
-            raise fault_at(front, place, line, bad_line)
-        if match.lastgroup != "gap":
-            token = Token(match.lastgroup, match[match.lastgroup], place, match.end(), line)
+    for match in PATTERN.finditer(front, place):
+        kind = match.lastgroup
+        if match.start() != place:
+            break
+        place = match.end()
+        if kind != "gap":
+            token = Token(kind, match[kind], match.start(), place, line)
             found.append(token)
             if end.is_at(token):
-                return found, front, match.end()
-        line += match[0].count("\n")
-        place = match.end()
+                return found, front, place
+        if kind in MANY_LINES:
+            line += match[0].count("\n")
+    if place < len(front):
+        raise fault_at(front, place, line, bad_line)
     if bad_line is not None:
         raise bad_text("utf8", bad_line)
     return found, front, place

@@ -10,7 +10,8 @@ MOST_OPEN = 64
 class Item:
     """A name, an IRI, a literal, a sign (an equals sign, a tag or carets) or a group, with its line and its place.
 
-    A group has its name, or None, as its text, and its items. A literal has its tag or type behind its text.
+    A group has its name, or None, as its text, and its items. A literal has its tag or type behind its text: the
+    type is an item.
     """
 
     kind: str
@@ -20,6 +21,7 @@ class Item:
     end: int
     items: list = field(default_factory=list)
     tag: str = ""
+    datatype: object = None
 
     def is_group(self, name):
         return self.kind == "group" and self.text == name
@@ -39,7 +41,8 @@ def literal(tokens, place):
     count = type_length(tokens, place + 1)
     last = tokens[place + count]
     tag = last.text[1:] if count == 1 else ""
-    return Item("literal", token.text, token.line, token.start, last.end, tag=tag), place + 1 + count
+    datatype = single(last) if count == 2 else None
+    return Item("literal", token.text, token.line, token.start, last.end, tag=tag, datatype=datatype), place + 1 + count
 
 
 def single(token):

@@ -1,0 +1,215 @@
+"""Data.
+
+No data value becomes an element: an axiom on `owl:Thing`, or a complement, would speak of it. In place of that each
+class expression over data is made of classes of the form *at least n values of p are in D*, which are new names:
+
+- `DataAllValuesFrom(p D)` is *not at least 1 in the complement of D*, and `at most n` is *not at least n + 1*;
+- *at least 1 in D or E* is *at least 1 in D, or at least 1 in E*.
+
+Between these classes hold inclusions that are certain whatever the data are. What three ranges say together is lost.
+"""
+from shq_tools.approximation import ranges
+from shq_tools.approximation.bounds import joined, negated
+from shq_tools.approximation.literals import value_of
+from shq_tools.approximation.losses import Loss
+from shq_tools.approximation.owl import BOTTOM_DATA, TOP_DATA, TOP_RANGE
+from shq_tools.terms import BOTTOM, TOP, Axiom
+
+# A functional property with more values than these has no axiom that says that they differ.
+MOST_VALUES = 200
+
+
+class DataClasses:
+    """The classes *at least n values of p are in D* that were made, by property."""
+
+    def __init__(self, context):
+        self.context = context
+        self.made = {}
+        self.places = {}
+        # of each property the counts and ranges of its classes; those of a single value apart
+        self.values, self.others = {}, {}
+
+    def bound(self, of, grows):
+        """A class expression of the language for one over data."""
+        kind = of[0]
+        if kind in ("data some", "data all") and len(of[1]) > 1:
+            self.context.lose(Loss.DATA)
+            return TOP if grows else BOTTOM
+        if kind == "data value":
+            return self.least(1, of[1], ("values", (of[2],)))
+        if kind == "data some":
+            return self.least(1, of[1][0], of[2])
+        if kind == "data all":
+            return negated(self.least(1, of[1][0], ("not", of[2])))
+        _, number, name, inner = of
+        if kind == "data least":
+            return self.least(number, name, inner)
+        most = negated(self.least(number + 1, name, inner))
+        return most if kind == "data most" else joined("and", [self.least(number, name, inner), most])
+
+    def least(self, number, name, inner):
+        """The class expression for *at least so many values of a property are in a range*."""
+        self.context.lose(Loss.DATA)
+        inner = ranges.normal(inner)
+        if number == 0:
+            return TOP
+        if name == BOTTOM_DATA or ranges.has_fewer(inner, number):
+            return BOTTOM
+        if name == TOP_DATA and inner == TOP_RANGE:
+            return TOP
+        if number == 1 and inner[0] == "or":
+            return joined("or", [self.least(1, name, it) for it in inner[1]])
+        if number == 1 and inner[0] == "values" and len(inner[1]) > 1:
+            return joined("or", [self.least(1, name, ("values", (it,))) for it in inner[1]])
+        return self.class_of(number, name, inner)
+
+    def class_of(self, number, name, inner):
+        key = (name, number, inner)
+        if key not in self.made:
+            self.made[key] = self.context.names.class_name(expression(number, name, inner))
+            self.places[key] = self.context.place
+            self.relate(number, name, inner)
+            is_value = number == 1 and inner[0] == "values"
+            (self.values if is_value else self.others).setdefault(name, []).append((number, inner))
+        return self.made[key]
+
+    def relate(self, number, name, inner):
+        """Writes how a class stands to those that were made of the same property.
+
+        *At least n in D* is below *at least m in E* where n is no less than m and D is a part of E. Where D is a part of
+        the complement of E, *at least 1 in D* is below *at least 1 in the complement*, so apart from *all in E*.
+        """
+        is_value = number == 1 and inner[0] == "values"
+        others = self.others.get(name, []) + ([] if is_value else self.values.get(name, []))
+        for other in others:
+            for below, above in (((number, inner), other), (other, (number, inner))):
+                if below[0] >= above[0] and ranges.is_part(below[1], above[1]):
+                    self.include(name, below, above)
+
+    def include(self, name, below, above):
+        self.context.define(Axiom("SubClassOf", (self.made[name, *below], self.made[name, *above]), 0))
+
+    def made_of(self, name, inner):
+        """The class expression *at least 1 in a range*, where all of its classes were made, or None."""
+        if (name, 1, inner) in self.made:
+            return self.made[name, 1, inner]
+        if inner[0] == "or" or (inner[0] == "values" and len(inner[1]) > 1):
+            parts = inner[1] if inner[0] == "or" else [("values", (it,)) for it in inner[1]]
+            found = [self.made_of(name, it) for it in parts]
+            return None if None in found else joined("or", found)
+        return None
+
+    def split(self):
+        """Writes that each value of a property is in a range or in its complement, behind all else."""
+        seen = set()
+        for (name, number, inner), place in self.places.items():
+            whole = self.made.get((name, 1, TOP_RANGE))
+            other = self.made_of(name, ranges.negated(inner)) if number == 1 and whole else None
+            if other is not None and (name, ranges.negated(inner)) not in seen:
+                seen.add((name, inner))
+                sup = joined("or", [self.made[name, 1, inner], other])
+                self.context.define_at(place, Axiom("SubClassOf", (whole, sup), 0))
+
+    def of_property(self, name):
+        """The counts and ranges of the classes of a property."""
+        return self.others.get(name, []) + self.values.get(name, [])
+
+
+def expression(number, name, inner):
+    """The class expression that says *at least so many values in a range* in the shortest way."""
+    if number > 1:
+        return ("data least", number, name, inner)
+    if inner[0] == "values" and len(inner[1]) == 1:
+        return ("data value", name, inner[1][0])
+    return ("data some", (name,), inner)
+
+
+def of_assertion(context, axiom):
+    """`DataPropertyAssertion(p a v)`: a is in *p has value v*."""
+    name, individual, literal = axiom.items
+    of = context.data.least(1, name, ("values", (literal,)))
+    yield Axiom("ClassAssertion", (of, context.individual(individual)), axiom.line)
+    for nominal in context.nominals.those_of([individual]):
+        yield Axiom("SubClassOf", (nominal, of), axiom.line)
+
+
+def of_negative_assertion(context, axiom):
+    """`NegativeDataPropertyAssertion(p a v)`: a is not in *p has value v*."""
+    name, individual, literal = axiom.items
+    of = negated(context.data.least(1, name, ("values", (literal,))))
+    yield Axiom("ClassAssertion", (of, context.individual(individual)), axiom.line)
+    for nominal in context.nominals.those_of([individual]):
+        yield Axiom("SubClassOf", (nominal, of), axiom.line)
+
+
+def inclusions(axiom):
+    """The pairs of properties one of which is in the other by an axiom."""
+    if axiom.keyword == "SubDataPropertyOf":
+        return [axiom.items]
+    if axiom.keyword == "EquivalentDataProperties":
+        return list(zip(axiom.items, axiom.items[1:] + axiom.items[:1]))
+    return []
+
+
+def of_inclusion(context, sub, sup, line):
+    """p in q: *at least n values of p are in D* is below the same of q."""
+    if sup == TOP_DATA or sub == BOTTOM_DATA:
+        return
+    for number, inner in list(context.data.of_property(sub)):
+        above = context.data.least(number, sup, inner)
+        yield Axiom("SubClassOf", (context.data.made[sub, number, inner], above), line)
+
+
+def of_domain(context, axiom):
+    """`DataPropertyDomain(p C)`: what has a value of p is in C."""
+    name, domain = axiom.items
+    yield Axiom("SubClassOf", (context.data.least(1, name, TOP_RANGE), context.bounds.above(domain)), axiom.line)
+
+
+def of_range(context, axiom):
+    """`DataPropertyRange(p D)`: nothing has a value of p outside of D."""
+    name, inner = axiom.items
+    yield Axiom("SubClassOf", (context.data.least(1, name, ("not", inner)), BOTTOM), axiom.line)
+
+
+def of_functional(context, axiom):
+    """`FunctionalDataProperty(p)`: nothing has two values, so nothing has values in two ranges without a common value."""
+    name = axiom.items[0]
+    yield Axiom("SubClassOf", (context.data.least(2, name, TOP_RANGE), BOTTOM), axiom.line)
+    made = context.data.made
+    values = [inner for _, inner in context.data.values.get(name, [])]
+    others = [inner for number, inner in context.data.others.get(name, []) if number == 1]
+    for at, one in enumerate(others):
+        apart = [made[name, 1, it] for it in values + others[:at] if ranges.are_apart(one, it)]
+        if apart:
+            yield Axiom("SubClassOf", (made[name, 1, one], negated(joined("or", apart))), axiom.line)
+    if len(values) > MOST_VALUES:
+        context.lose(Loss.MANY_VALUES)
+        return
+    # literals that are certain to have the same value are one, so these differ
+    different = [it for it in values if value_of(it[1][0]) is not None]
+    if len(different) > 1:
+        yield Axiom("DisjointClasses", tuple(made[name, 1, it] for it in different), axiom.line)
+
+
+def of_disjoint(context, axiom):
+    """`DisjointDataProperties(p q ..)`: nothing has the same value of two of them."""
+    for at, one in enumerate(axiom.items):
+        for other in axiom.items[:at]:
+            for number, inner in context.data.values.get(one, []):
+                if (other, number, inner) in context.data.made:
+                    classes = tuple(context.data.made[it, number, inner] for it in (one, other))
+                    yield Axiom("DisjointClasses", classes, axiom.line)
+
+
+def of_datatype(context, axiom):
+    """`DatatypeDefinition(T D)`: *at least n in T* is *at least n in D*."""
+    datatype, inner = axiom.items
+    context.lose(Loss.DATATYPE)
+    for (name, number, given) in list(context.data.made):
+        if given == ("datatype", datatype):
+            same = context.data.least(number, name, inner)
+            yield Axiom("EquivalentClasses", (context.data.made[name, number, given], same), axiom.line)
+        if given == ("not", ("datatype", datatype)):
+            same = context.data.least(number, name, ("not", inner))
+            yield Axiom("EquivalentClasses", (context.data.made[name, number, given], same), axiom.line)

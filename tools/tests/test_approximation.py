@@ -1,0 +1,351 @@
+"""The rows of the translation from OWL 2, each with what was worked out by hand."""
+import unittest
+
+from shq_tools.approximation.display import shown_names
+from shq_tools.approximation.losses import Loss
+from shq_tools.approximation.text import approximation
+from shq_tools.approximation.translation import Strength
+from shq_tools.documents import axioms_of, document
+from shq_tools.manchester import axiom_text
+from tests.owl_grammar import document as ontology
+
+
+class ShownNames:
+    """Names for tests: the end of the IRI, and of new ones what they mean."""
+
+    def of(self, iri):
+        return shown_names([iri], self).get(iri) or iri.rpartition("/")[2]
+
+
+def rows_of(*axioms, strength=Strength.LIGHT):
+    """What each axiom of a document becomes, in Manchester syntax without quotation marks, sorted; and the losses."""
+    found = approximation(ontology(axioms).encode("utf-8"), strength)
+    first_line = ontology(["HERE"]).split("\n").index("HERE") + 1
+    rows = [[] for _ in axioms]
+    for axiom in axioms_of(document(found.data)):
+        rows[axiom.line - first_line].append(axiom_text(axiom, ShownNames()).replace("'", ""))
+    return [sorted(it) for it in rows], set(found.losses.lines)
+
+
+class RowsTest(unittest.TestCase):
+    def assert_rows(self, axioms, rows, *losses, strength=Strength.LIGHT):
+        """The axioms become these rows, with these losses."""
+        found, lost = rows_of(*axioms, strength=strength)
+        self.assertEqual(found, [sorted(it) for it in rows])
+        self.assertEqual(lost, set(losses))
+
+
+class Rows(RowsTest):
+    def test_what_is_inside_stays(self):
+        self.assert_rows(["SubClassOf(:A ObjectMinCardinality(2 :r))"], [["A SubClassOf r min 2"]])
+
+    def test_one_item(self):
+        self.assert_rows(["SubClassOf(ObjectIntersectionOf(:A) ObjectUnionOf(:B))"], [["A SubClassOf B"]])
+
+    def test_has_value(self):
+        rows = [["A SubClassOf r some {a}", "a Type {a}"]]
+        self.assert_rows(["SubClassOf(:A ObjectHasValue(:r :a))"], rows, Loss.NOMINAL)
+
+    def test_one_of(self):
+        axioms = ["EquivalentClasses(:A ObjectOneOf(:a :b))", "DifferentIndividuals(:a :b)", "ClassAssertion(:B :a)"]
+        rows = [
+            ["A EquivalentTo {a} or {b}", "a Type {a}", "b Type {b}"],
+            ["a DifferentFrom b", "DisjointClasses: {a}, {b}"],
+            ["a Type B", "{a} SubClassOf B"],
+        ]
+        self.assert_rows(axioms, rows, Loss.NOMINAL)
+
+    def test_same_individuals_and_pairs(self):
+        axioms = ["SubClassOf(:A ObjectOneOf(:a :b))", "SameIndividual(:a :b)", "ObjectPropertyAssertion(:r :a :b)"]
+        rows = [
+            ["A SubClassOf {a} or {b}", "a Type {a}", "b Type {b}"],
+            ["a SameAs b", "{a} EquivalentTo {b}"],
+            ["a r b", "{a} SubClassOf r some {b}"],
+        ]
+        self.assert_rows(axioms, rows, Loss.NOMINAL)
+
+    def test_negative_assertion(self):
+        rows = [["a Type r only (not {b})", "b Type {b}"]]
+        self.assert_rows(["NegativeObjectPropertyAssertion(:r :a :b)"], rows, Loss.NOMINAL)
+
+    def test_anonymous_individual(self):
+        axioms = ["ClassAssertion(:A _:x)", "ObjectPropertyAssertion(:r :a _:x)"]
+        self.assert_rows(axioms, [["_:x Type A"], ["a r _:x"]], Loss.ANONYMOUS)
+
+    def test_inverses(self):
+        axioms = [
+            "InverseObjectProperties(:r :s)",
+            "SubObjectPropertyOf(:r :t)",
+            "TransitiveObjectProperty(:r)",
+            "ObjectPropertyDomain(:r :A)",
+            "ObjectPropertyRange(:r :B)",
+            "ObjectPropertyAssertion(:r :a :b)",
+            "FunctionalObjectProperty(:u)",
+        ]
+        rows = [
+            ["inverse (r) EquivalentTo s", "r EquivalentTo inverse (s)"],
+            ["r SubPropertyOf t", "inverse (r) SubPropertyOf inverse (t)"],
+            ["Transitive: r", "Transitive: inverse (r)"],
+            ["r Domain A", "inverse (r) Range A"],
+            ["r Range B", "inverse (r) Domain B"],
+            ["a r b", "b inverse (r) a"],
+            ["Functional: u"],
+        ]
+        self.assert_rows(axioms, rows, Loss.INVERSE)
+
+    def test_symmetric(self):
+        self.assert_rows(["SymmetricObjectProperty(:r)"], [["r EquivalentTo inverse (r)"]], Loss.INVERSE)
+
+    def test_an_inverse_in_a_class_expression(self):
+        axioms = ["SubClassOf(:A ObjectSomeValuesFrom(ObjectInverseOf(:r) :B))"]
+        self.assert_rows(axioms, [["A SubClassOf inverse (r) some B"]], Loss.INVERSE)
+
+    def test_inverse_functional(self):
+        axioms = ["InverseFunctionalObjectProperty(:r)", "ObjectPropertyAssertion(:r :a :b)"]
+        rows = [["Functional: inverse (r)"], ["a r b", "b inverse (r) a"]]
+        self.assert_rows(axioms, rows, Loss.INVERSE_FUNCTIONAL)
+
+    def test_chains(self):
+        axioms = ["SubObjectPropertyOf(ObjectPropertyChain(:r :r) :r)", "SubObjectPropertyOf(ObjectPropertyChain(:s) :t)"]
+        self.assert_rows(axioms, [["Transitive: r"], ["s SubPropertyOf t"]])
+        self.assert_rows(["SubObjectPropertyOf(ObjectPropertyChain(:r :s) :r)"], [[]], Loss.CHAIN)
+
+    def test_numbers_over_roles_that_are_not_simple(self):
+        axioms = [
+            "TransitiveObjectProperty(:r)",
+            "SubClassOf(:A ObjectMinCardinality(2 :r :B))",
+            "SubClassOf(ObjectMaxCardinality(2 :r :B) :A)",
+            "SubClassOf(:A ObjectMaxCardinality(0 :r :B))",
+            "SubClassOf(:A ObjectMaxCardinality(1 :r :B))",
+            "SubClassOf(ObjectMinCardinality(2 :r :B) :A)",
+            "FunctionalObjectProperty(:r)",
+        ]
+        rows = [
+            ["Transitive: r"],
+            ["A SubClassOf r some B"],
+            ["not (r some B) SubClassOf A"],
+            ["A SubClassOf not (r some B)"],
+            [],
+            [],
+            [],
+        ]
+        self.assert_rows(axioms, rows, Loss.COUNTED)
+
+    def test_numbers_beyond_the_limit(self):
+        axioms = [
+            "SubClassOf(:A ObjectMinCardinality(101 :r :B))",
+            "SubClassOf(ObjectMaxCardinality(101 :r :B) :A)",
+            "SubClassOf(:A ObjectMaxCardinality(101 :r :B))",
+            "SubClassOf(ObjectMinCardinality(101 :r :B) :A)",
+        ]
+        rows = [["A SubClassOf r min 100 B"], ["r max 100 B SubClassOf A"], [], []]
+        self.assert_rows(axioms, rows, Loss.BEYOND_LIMITS)
+
+    def test_loops(self):
+        axioms = [
+            "SubClassOf(:A ObjectHasSelf(:r))",
+            "SubObjectPropertyOf(:r :s)",
+            "IrreflexiveObjectProperty(:s)",
+            "ReflexiveObjectProperty(:t)",
+            "ObjectPropertyAssertion(:r :a :a)",
+        ]
+        rows = [
+            ["A SubClassOf (r Self)", "(r Self) SubClassOf r some (r Self)"],
+            ["r SubPropertyOf s", "(r Self) SubClassOf (s Self)", "(s Self) SubClassOf s some (s Self)"],
+            ["(s Self) SubClassOf Nothing"],
+            ["Thing SubClassOf (t Self)", "(t Self) SubClassOf t some (t Self)"],
+            ["a r a", "a Type (r Self)"],
+        ]
+        self.assert_rows(axioms, rows, Loss.SELF, Loss.DISJOINT_ROLES)
+
+    def test_asymmetric_roles(self):
+        axioms = [
+            "AsymmetricObjectProperty(:r)",
+            "ObjectPropertyAssertion(:r :a :b)",
+            "ObjectPropertyAssertion(:r :b :a)",
+            "SubClassOf(:A ObjectHasSelf(:r))",
+        ]
+        rows = [
+            ["a Type {a}", "b Type {b}", "{a} SubClassOf r only ((not {b}) or (r only (not {a})))",
+             "(r Self) SubClassOf Nothing"],
+            ["a r b", "{a} SubClassOf r some {b}"],
+            ["b r a", "{b} SubClassOf r some {a}"],
+            ["A SubClassOf (r Self)", "(r Self) SubClassOf r some (r Self)"],
+        ]
+        self.assert_rows(axioms, rows, Loss.DISJOINT_ROLES, Loss.NOMINAL, Loss.SELF)
+
+    def test_disjoint_roles(self):
+        axioms = [
+            "DisjointObjectProperties(:r :s)",
+            "SubObjectPropertyOf(:t :s)",
+            "ObjectPropertyAssertion(:r :a :b)",
+            "ObjectPropertyAssertion(:t :a :b)",
+            "ObjectPropertyAssertion(:t :a :c)",
+        ]
+        rows = [
+            ["b Type {b}", "r some {b} SubClassOf s only (not {b})"],
+            ["t SubPropertyOf s"],
+            ["a r b"],
+            ["a t b"],
+            ["a t c"],
+        ]
+        self.assert_rows(axioms, rows, Loss.DISJOINT_ROLES, Loss.NOMINAL)
+
+    def test_the_role_that_leads_everywhere(self):
+        axioms = [
+            "SubClassOf(:A ObjectAllValuesFrom(owl:topObjectProperty :B))",
+            "SubClassOf(ObjectSomeValuesFrom(owl:topObjectProperty :B) :A)",
+            "SubClassOf(:A ObjectSomeValuesFrom(owl:bottomObjectProperty :B))",
+            "SubObjectPropertyOf(:r owl:topObjectProperty)",
+            "SubObjectPropertyOf(:r owl:bottomObjectProperty)",
+            "SubObjectPropertyOf(owl:topObjectProperty :r)",
+            "ObjectPropertyDomain(owl:topObjectProperty :A)",
+        ]
+        rows = [
+            ["A SubClassOf B"],
+            ["B SubClassOf A"],
+            ["A SubClassOf Nothing"],
+            [],
+            ["r some Thing SubClassOf Nothing"],
+            [],
+            ["Thing SubClassOf A"],
+        ]
+        self.assert_rows(axioms, rows, Loss.TOP_ROLE)
+
+    def test_what_is_left_out(self):
+        axioms = ["HasKey(:A () (:p))", "Import(<http://e.org/x>)", "DLSafeRule(Body() Head())"]
+        self.assert_rows(axioms, [[], [], []], Loss.KEY, Loss.IMPORT, Loss.RULE)
+
+    def test_an_equivalence_is_split_where_one_side_cannot_be_had(self):
+        axioms = ["TransitiveObjectProperty(:r)", "EquivalentClasses(:A ObjectMinCardinality(2 :r :B))"]
+        self.assert_rows(axioms, [["Transitive: r"], ["A SubClassOf r some B"]], Loss.COUNTED)
+
+
+def integers(facet, number):
+    return f'DatatypeRestriction(xsd:integer xsd:{facet} "{number}"^^xsd:integer)'
+
+
+class DataRows(RowsTest):
+    def test_a_value_in_a_range(self):
+        axioms = [
+            'SubClassOf(:A DataHasValue(:p "7"^^xsd:integer))',
+            f"SubClassOf(DataSomeValuesFrom(:p {integers('minInclusive', 5)}) :B)",
+            f"SubClassOf(DataSomeValuesFrom(:p {integers('minInclusive', 8)}) :C)",
+        ]
+        rows = [
+            ["A SubClassOf (p value 7)"],
+            ["(p some integer[>= 5]) SubClassOf B", "(p value 7) SubClassOf (p some integer[>= 5])"],
+            ["(p some integer[>= 8]) SubClassOf C", "(p some integer[>= 8]) SubClassOf (p some integer[>= 5])"],
+        ]
+        self.assert_rows(axioms, rows, Loss.DATA)
+
+    def test_all_in_a_range(self):
+        axioms = ['SubClassOf(:A DataHasValue(:p "x"))', "SubClassOf(:B DataAllValuesFrom(:p xsd:integer))"]
+        rows = [
+            ['A SubClassOf (p value "x")'],
+            ["B SubClassOf not (p some (not integer))", '(p value "x") SubClassOf (p some (not integer))'],
+        ]
+        self.assert_rows(axioms, rows, Loss.DATA)
+
+    def test_functional(self):
+        axioms = [
+            'SubClassOf(:A DataHasValue(:p "1"^^xsd:integer))',
+            'SubClassOf(:B DataHasValue(:p "1.0"^^xsd:decimal))',
+            'SubClassOf(:C DataHasValue(:p "2"^^xsd:integer))',
+            "FunctionalDataProperty(:p)",
+        ]
+        rows = [
+            ["A SubClassOf (p value 1)"],
+            ["B SubClassOf (p value 1)"],
+            ["C SubClassOf (p value 2)"],
+            ["(p min 2) SubClassOf Nothing", "DisjointClasses: (p value 1), (p value 2)"],
+        ]
+        self.assert_rows(axioms, rows, Loss.DATA)
+
+    def test_domain_range_and_inclusion(self):
+        axioms = [
+            'SubClassOf(:A DataHasValue(:q "x"))',
+            "SubDataPropertyOf(:q :p)",
+            "DataPropertyDomain(:p :B)",
+            "DataPropertyRange(:p xsd:integer)",
+        ]
+        rows = [
+            ['A SubClassOf (q value "x")'],
+            ['(q value "x") SubClassOf (p value "x")'],
+            ["(p some Literal) SubClassOf B", '(p value "x") SubClassOf (p some Literal)'],
+            ["(p some (not integer)) SubClassOf Nothing", '(p value "x") SubClassOf (p some (not integer))',
+             "(p some (not integer)) SubClassOf (p some Literal)"],
+        ]
+        self.assert_rows(axioms, rows, Loss.DATA)
+
+    def test_numbers(self):
+        axioms = ["SubClassOf(:A DataExactCardinality(1 :p))", "SubClassOf(:B DataMaxCardinality(2 :p))"]
+        rows = [
+            ["A SubClassOf (p some Literal) and (not (p min 2))", "(p min 2) SubClassOf (p some Literal)"],
+            ["B SubClassOf not (p min 3)", "(p min 3) SubClassOf (p min 2)", "(p min 3) SubClassOf (p some Literal)"],
+        ]
+        self.assert_rows(axioms, rows, Loss.DATA)
+
+    def test_a_range_and_its_complement(self):
+        axioms = [
+            "SubClassOf(:A DataSomeValuesFrom(:p xsd:integer))",
+            "SubClassOf(:B DataAllValuesFrom(:p xsd:integer))",
+            "SubClassOf(:C DataSomeValuesFrom(:p rdfs:Literal))",
+        ]
+        below_literal = [f"(p some {it}) SubClassOf (p some Literal)" for it in ("integer", "(not integer)")]
+        rows = [
+            ["A SubClassOf (p some integer)", "(p some Literal) SubClassOf (p some integer) or (p some (not integer))"],
+            ["B SubClassOf not (p some (not integer))"],
+            ["C SubClassOf (p some Literal)", *below_literal],
+        ]
+        self.assert_rows(axioms, rows, Loss.DATA)
+
+    def test_assertions(self):
+        axioms = ['DataPropertyAssertion(:p :a "x"@en)', 'NegativeDataPropertyAssertion(:p :b "x"@en)']
+        rows = [['a Type (p value "x"@en)'], ['b Type not (p value "x"@en)']]
+        self.assert_rows(axioms, rows, Loss.DATA)
+
+    def test_disjoint_properties(self):
+        axioms = ['SubClassOf(:A DataHasValue(:p "x"))', 'SubClassOf(:A DataHasValue(:q "x"))', "DisjointDataProperties(:p :q)"]
+        rows = [['A SubClassOf (p value "x")'], ['A SubClassOf (q value "x")'],
+                ['DisjointClasses: (q value "x"), (p value "x")']]
+        self.assert_rows(axioms, rows, Loss.DATA)
+
+    def test_datatype_definition(self):
+        axioms = ["SubClassOf(:A DataSomeValuesFrom(:p :D))", "DatatypeDefinition(:D xsd:string)"]
+        rows = [["A SubClassOf (p some D)"], ["(p some D) EquivalentTo (p some string)"]]
+        self.assert_rows(axioms, rows, Loss.DATA, Loss.DATATYPE)
+
+
+class Texts(unittest.TestCase):
+    def test_lines_stay(self):
+        text = ontology(["SubClassOf(:A\n  ObjectHasValue(:r :a)\n)", "SubClassOf(:B :C) # a comment", "HasKey(:A ()\n(:p))"])
+        found = approximation(text.encode("utf-8")).data.decode("utf-8")
+        self.assertEqual(found.count("\n"), text.count("\n"))
+        lines = found.split("\n")
+        self.assertTrue(lines[4].endswith("ObjectOneOf(%3Chttp://e.org/a%3E)>))"), lines[4])
+        self.assertEqual(lines[5:8], ["", "", "SubClassOf(:B :C) # a comment"])
+        self.assertEqual(lines[8:], ["", "", ")", ""])
+
+    def test_a_name_of_the_file_is_not_taken(self):
+        inner = "urn:owl2-as-shq:ObjectOneOf(%3Chttp://e.org/a%3E)"
+        text = ontology([f"SubClassOf(<{inner}> :A)", "SubClassOf(:B ObjectOneOf(:a))"])
+        found = approximation(text.encode("utf-8")).data.decode("utf-8")
+        self.assertIn("SubClassOf(<http://e.org/B> <urn:owl2-as-shq-2:ObjectOneOf(%3Chttp://e.org/a%3E)>)", found)
+
+    def test_what_is_inside_stays_byte_for_byte(self):
+        text = ontology(['SubClassOf(Annotation(:n "é") :A  ObjectUnionOf(:B :C)) # x', "ClassAssertion(:A :a)"])
+        self.assertEqual(approximation(text.encode("utf-8")).data, text.encode("utf-8"))
+
+    def test_what_is_damaged_stays(self):
+        text = ontology(["SubClassOf(:A)", "SubClassOf(:A x:B)", "SubClassOf(:A ObjectOneOf(:a))"])
+        found = approximation(text.encode("utf-8")).data.decode("utf-8").split("\n")
+        self.assertEqual(found[4:6], ["SubClassOf(:A)", "SubClassOf(:A x:B)"])
+
+    def test_what_stands_behind_stays(self):
+        text = ontology(["SubClassOf(:A ObjectOneOf(:a))"]) + "remove 1\n"
+        self.assertTrue(approximation(text.encode("utf-8")).data.endswith(b"\n)\nremove 1\n"))
+
+
+if __name__ == "__main__":
+    unittest.main()
