@@ -1,0 +1,13 @@
+pub mod Lists
+pub mod Stable
+pub mod Normal
+pub mod Models
+pub mod Meeting
+pub mod Fresh
+pub mod Rows
+pub mod Lines
+pub mod Named
+pub mod Refuted
+pub mod Counted
+pub mod Interpreted
+pub mod Chains

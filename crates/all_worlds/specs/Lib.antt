@@ -1,0 +1,4 @@
+pub mod Worlds
+pub mod Finite
+pub mod Examples
+pub mod Laws
