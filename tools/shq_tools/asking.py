@@ -6,112 +6,21 @@ passed. `commands` has the table of all commands and options.
 """
 import sys
 
-from shq_tools import program, scripts, sessions
-from shq_tools.budgets import SECONDS, known_with, known_within
+from shq_tools import program
+from shq_tools.answering import answered, read_fault
 from shq_tools.commands import COMMANDS, help_text, usage_for
-from shq_tools.hints import hint_on_budget, hint_on_seconds, steps_in
 from shq_tools.messages import say
 from shq_tools.output import guarded, written
-from shq_tools.own_answers import own_answer
 from shq_tools.places import TOOLS, TOP
 from shq_tools.preparing import Unprepared, prepared
-from shq_tools.running import end_by, run_through
+from shq_tools.running import run_through
 from shq_tools.sources import source_of
 from shq_tools.statuses import Status
+from shq_tools.views import refusal_shown
 from shq_tools.words import BadWords, asked
 
-# The jobs that list sets of axioms.
-LISTING_JOBS = ("explain", "repair", "why")
 HELP_WORDS = ("--help", "-h")
-READ_FAULT = b"read fault\n"
 BAD_WORDS = b"bad words\n"
-
-
-def seconds_of(question):
-    """For how many seconds a question may be asked, or None where its words have a budget. Raises `BadWords`."""
-    text = question.options.get("--seconds")
-    has_budget = question.words[-2:-1] == ("budget",)
-    if text is None:
-        return None if has_budget or not question.command.has_budget else SECONDS
-    if has_budget:
-        raise BadWords("--seconds and a budget do not go together")
-    try:
-        seconds = float(text)
-    except ValueError:
-        seconds = 0
-    if not 0 < seconds < float("inf"):
-        raise BadWords(f"--seconds needs a number above 0, and not {text}")
-    return seconds
-
-
-def known_to(question, source, seconds):
-    """What the program answers within so many seconds, or with the budget that the words have where there are none."""
-    if seconds is None:
-        return known_with(question.words, source)
-    return known_within(question.words, source, seconds)
-
-
-def hint_for(question, known, seconds):
-    """How to allow more."""
-    return hint_on_budget(question) if seconds is None else hint_on_seconds(question, known, seconds)
-
-
-def shown(question, known):
-    """What is printed of an answer, as bytes."""
-    output = known.ended.output
-    if question.added_axioms and question.words[0] in LISTING_JOBS:
-        text = own_answer(output.decode("utf-8"), question.own_axioms, question.added_axioms)
-        return text.encode("utf-8")
-    return output
-
-
-def told(question, known, hint):
-    """Prints what is known, with a hint where that is undecided, and returns the status."""
-    if not written(shown(question, known)):
-        return Status.WRITE_FAULT
-    if known.status == Status.UNDECIDED:
-        say(hint)
-    if known.signal:
-        end_by(known.signal)
-    return known.status
-
-
-def passed_through(question, source):
-    """Asks once, and lets the answer through as it comes; returns the status."""
-    status = run_through(question.words, source)
-    if status == Status.UNDECIDED:
-        say(hint_on_budget(question))
-    return status
-
-
-def session_answered(question, source):
-    """Asks the lines of a script, and returns the status."""
-    seconds = seconds_of(question)
-    try:
-        found = scripts.given_or_none(question, source)
-    except OSError as error:
-        return read_fault(question.script, error)
-    if found is None or seconds is None and not found.is_apart:
-        return passed_through(question, source)
-    known = sessions.known_of(found.text, found.lines, seconds, steps_in(question.words), found.is_apart)
-    return told(question, known, hint_for(question, known, seconds))
-
-
-def answered(question, source):
-    """Asks the program, and returns its status."""
-    if question.words[0] == "session":
-        return session_answered(question, source)
-    seconds = seconds_of(question)
-    if seconds is None and not question.added_axioms:
-        return passed_through(question, source)
-    known = known_to(question, source, seconds)
-    return told(question, known, hint_for(question, known, seconds))
-
-
-def read_fault(name, error):
-    """Says that a file, or standard input, cannot be read, and returns the status."""
-    say(f"{name or 'standard input'}: {error.strerror}")
-    return Status.READ_FAULT if written(READ_FAULT) else Status.WRITE_FAULT
 
 
 def ask_on_file(question):
@@ -121,12 +30,12 @@ def ask_on_file(question):
     try:
         source = source_of(question.file)
     except OSError as error:
-        return read_fault(question.file, error)
+        return read_fault(question, question.file, error)
     try:
         return answered(*prepared(question, source))
     except Unprepared as fault:
         say(str(fault))
-        return fault.status
+        return fault.status if written(refusal_shown(question, str(fault), fault.status)) else Status.WRITE_FAULT
 
 
 def ask_without_file(question):

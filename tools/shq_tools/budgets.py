@@ -27,6 +27,11 @@ def budgets():
     yield MOST
 
 
+def budget_in(words):
+    """How many steps the words allow, or 0 where they do not say it."""
+    return int(words[-1]) if len(words) >= 3 and words[-2] == "budget" and words[-1].isdigit() else 0
+
+
 @dataclass(frozen=True)
 class Known:
     """What is known at the end: how the last run ended that was not cut off, its budget (0 where there was none), and
@@ -47,21 +52,26 @@ def first_known(words):
     return Known(Ended(Status.UNDECIDED, NOTHING_FOUND.get(words[0], UNDECIDED)), 0)
 
 
+def by_budgets(words, source, seconds, signals, progress):
+    """What the program answers within so many seconds, in any thread."""
+    known, end = first_known(words), time.monotonic() + seconds
+    for steps in budgets():
+        progress.note = f", budget {steps:,}"
+        left = max(0.0, end - time.monotonic())
+        ended = run_caught((*words, "budget", str(steps)), source, left, signals)
+        if ended is None or ended.status < 0:
+            number = signals.got if ended is None else -ended.status
+            return Known(known.ended, known.budget, number)
+        known = Known(ended, steps)
+        if ended.status != Status.UNDECIDED:
+            break
+    return known
+
+
 def known_within(words, source, seconds):
     """What the program answers within so many seconds."""
-    known, signals, end = first_known(words), Signals(), time.monotonic() + seconds
     with Progress() as progress:
-        for steps in budgets():
-            progress.note = f", budget {steps:,}"
-            left = max(0.0, end - time.monotonic())
-            ended = run_caught((*words, "budget", str(steps)), source, left, signals)
-            if ended is None or ended.status < 0:
-                number = signals.got if ended is None else -ended.status
-                return Known(known.ended, known.budget, number)
-            known = Known(ended, steps)
-            if ended.status != Status.UNDECIDED:
-                return known
-    return known
+        return by_budgets(words, source, seconds, Signals(), progress)
 
 
 def known_with(words, source):
@@ -71,4 +81,4 @@ def known_with(words, source):
         ended = run_caught(words, source, None, signals)
     if ended.status < 0:
         return Known(first_known(words).ended, 0, -ended.status)
-    return Known(ended, 0)
+    return Known(ended, budget_in(words))

@@ -81,9 +81,13 @@ APPROXIMATE = Option("--approximate", "full", "translate what is outside of the 
 STRICT = Option("--strict", "", "end with status 10 where the file does not have a name of the question")
 
 TIMED = (BUDGET, SECONDS)
+JSON = Option("--json", "", "the answer as one object of JSON, of the form of docs/answer.schema.json")
+LANGUAGE = Option("--language", "TAG", "the language of the names in that object, as en")
+FAIL_ON = Option("--fail-on", "contradictory", "end with status 1 where a class, or the whole, is contradictory")
+
 # The options of each job that reads an ontology, of those that check a certificate, of those that ask a question, and
 # of those that ask about the whole ontology.
-JOB_OPTIONS = (APPROXIMATE,)
+JOB_OPTIONS = (APPROXIMATE, JSON, LANGUAGE)
 CHECK_OPTIONS = (STRICT, *JOB_OPTIONS)
 ASK_OPTIONS = (*TIMED, STRICT, *JOB_OPTIONS)
 WHOLE_OPTIONS = (*TIMED, *JOB_OPTIONS)
@@ -94,7 +98,8 @@ JOBS = (
     Command("entails", "whether AXIOM follows, with a certificate", ("AXIOM",), options=ASK_OPTIONS, has_budget=True),
     Command("sat", "whether CLASS can have a member, with a certificate", ("CLASS",), options=ASK_OPTIONS,
             has_budget=True),
-    Command("classify", "the hierarchy of all classes, and those that are contradictory", options=WHOLE_OPTIONS,
+    Command("classify", "the hierarchy of all classes, and those that are contradictory",
+            options=(*WHOLE_OPTIONS, FAIL_ON),
             has_budget=True),
     Command("realize", "the most specific classes of each individual", options=WHOLE_OPTIONS, has_budget=True),
     Command("instances", "the individuals in CLASS", ("CLASS",), options=ASK_OPTIONS, has_budget=True),
@@ -106,7 +111,7 @@ JOBS = (
             has_budget=True),
     Command("session", "an answer to each line of a script, which stands behind the ontology or in SCRIPT",
             files=("FILE", "SCRIPT"), options=WHOLE_OPTIONS, has_budget=True),
-    Command("workload", "counts over an ontology that the program makes itself", ("N",), files=(), options=TIMED,
+    Command("workload", "counts over an ontology that the program makes itself", ("N",), files=(), options=(*TIMED, JSON),
             has_budget=True),
 )
 

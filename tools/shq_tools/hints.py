@@ -1,7 +1,7 @@
 """What to say where an answer is undecided: how to allow more."""
 import shlex
 
-from shq_tools.budgets import FIRST, MOST
+from shq_tools.budgets import FIRST, MOST, budget_in
 from shq_tools.words import without_budget
 
 NO_MORE = "and no more can be allowed"
@@ -9,7 +9,7 @@ NO_MORE = "and no more can be allowed"
 
 def steps_in(words):
     """How many steps the words allow."""
-    return int(words[-1]) if len(words) >= 3 and words[-2] == "budget" else FIRST
+    return budget_in(words) or FIRST
 
 
 def asked_again(question, *more):

@@ -194,7 +194,7 @@ def prepared(question, source, _):
     text = text_of(word)
     is_long = len(text.encode("utf-8", "surrogateescape")) > MOST_WORD
     is_strict = "--strict" in question.options
-    plain = replace(question, words=(question.words[0], text, *question.words[2:]))
+    plain = replace(question, words=(question.words[0], text, *question.words[2:]), written=text)
     if len(source.data) > MOST_READ_AT_ONCE and not is_long and not is_strict:
         if is_surely_known(text, slot, source.data):
             return plain, source
@@ -212,5 +212,5 @@ def prepared(question, source, _):
         return replace(plain, words=(plain.words[0], found.text, *plain.words[2:])), source
     words = (plain.words[0], found.text, *plain.words[2:])
     data = with_axioms(source.data, found.added)
-    counts = {"own_axioms": vocabulary.axiom_count, "added_axioms": len(found.added)}
-    return replace(plain, words=words, **counts), replace(source, data=data)
+    plain = replace(plain, words=words, own_axioms=vocabulary.axiom_count, added=found.added)
+    return plain, replace(source, data=data)

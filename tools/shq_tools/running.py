@@ -20,12 +20,12 @@ class Ended:
 
 
 class Signals:
-    """The signals that end this script end the running program first. An interrupt at the terminal reaches the program
-    by itself.
+    """The signals that end this script end the running programs first. An interrupt at the terminal reaches them by
+    itself. It is made in the main thread; programs may be started in others.
     """
 
     def __init__(self):
-        self.child = None
+        self.children = set()
         self.got = None
         signal.signal(signal.SIGINT, self.note)
         for number in (signal.SIGTERM, signal.SIGHUP):
@@ -36,8 +36,9 @@ class Signals:
 
     def hand_on(self, number, _):
         self.got = number
-        if self.child is not None and self.child.poll() is None:
-            self.child.send_signal(number)
+        for child in list(self.children):
+            if child.poll() is None:
+                child.send_signal(number)
 
 
 def end_by(number):
@@ -46,15 +47,14 @@ def end_by(number):
     os.kill(os.getpid(), number)
 
 
-def started(words, source, output, signals):
+def started(words, source, output):
     """The program, running on the bytes of a source, or on what this script reads where there is none."""
     stdin = source.opened() if source else None
     try:
-        signals.child = subprocess.Popen([program.PROGRAM, *words], stdin=stdin, stdout=output)
+        return subprocess.Popen([program.PROGRAM, *words], stdin=stdin, stdout=output)
     finally:
         if stdin:
             stdin.close()
-    return signals.child
 
 
 def copied(child, progress):
@@ -75,7 +75,8 @@ def run_through(words, source=None):
     output = subprocess.PIPE if is_terminal() and sys.stdout else None
     signals = Signals()
     with Progress() as progress:
-        child = started(words, source, output, signals)
+        child = started(words, source, output)
+        signals.children.add(child)
         is_whole = copied(child, progress) if output else True
         status = child.wait()
     if status < 0:
@@ -85,11 +86,14 @@ def run_through(words, source=None):
 
 def run_caught(words, source, seconds, signals):
     """Runs the program and keeps what it prints. Answers None where it had to be ended after so many seconds."""
-    child = started(words, source, subprocess.PIPE, signals)
+    child = started(words, source, subprocess.PIPE)
+    signals.children.add(child)
     try:
         output, _ = child.communicate(timeout=seconds)
     except subprocess.TimeoutExpired:
         child.kill()
         child.communicate()
         return None
+    finally:
+        signals.children.discard(child)
     return Ended(child.returncode, output)

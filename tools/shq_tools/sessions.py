@@ -168,3 +168,10 @@ def known_of(text, lines, seconds, steps, is_beside):
     output = text_of(lines, is_beside).encode("utf-8")
     return Known(Ended(status_of(lines, is_beside), output), spent, script.signals.got)
 
+
+
+def told_lines(lines):
+    """The answers, for an object of JSON."""
+    told = [it for it in lines if it.answer is not None]
+    texts = [(it.number, it.written.decode("utf-8", "replace").strip(), it.answer) for it in told]
+    return {"verdict": "answered", "lines": [{"line": at, "text": text, "answer": said} for at, text, said in texts]}

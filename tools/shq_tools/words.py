@@ -11,8 +11,9 @@ class BadWords(Exception):
 @dataclass(frozen=True)
 class Asked:
     """What is asked of the program: its words with the budget, the file that it reads in place of standard input, the
-    options by their names, the words as they were given, the file with the script of a session; and how many axioms were put into the ontology for this
-    question, behind how many of its own.
+    options by their names, the words as they were given, and the file with the script of a session. Where the question
+    was put in another way: how it was written, and which axioms were put into the ontology for it, behind how many of
+    its own.
     """
 
     words: tuple
@@ -20,8 +21,9 @@ class Asked:
     options: dict = field(default_factory=dict)
     given: tuple = ()
     script: str = None
+    written: str = None
     own_axioms: int = 0
-    added_axioms: int = 0
+    added: tuple = ()
 
     @property
     def command(self):

@@ -22,9 +22,12 @@ echo "words: $*"
 cat
 exit "${STATUS:-0}"
 """
-# Needs a budget of ENOUGH steps, and never ends with one of ENDLESS steps.
+# Needs a budget of ENOUGH steps, and never ends with one of ENDLESS steps, when it makes the file BEGUN.
 GROWING = HEAD + """for last in "$@"; do :; done
-if [ "$last" -ge "${ENDLESS:-9999999999}" ]; then exec sleep 60; fi
+if [ "$last" -ge "${ENDLESS:-9999999999}" ]; then
+  : > "${BEGUN:-/dev/null}"
+  exec sleep 60
+fi
 echo "budget: $last"
 cat
 if [ "$last" -ge "${ENOUGH:-9999999999}" ]; then exit 0; fi

@@ -7,6 +7,7 @@ import sys
 import tempfile
 import time
 import unittest
+from pathlib import Path
 
 from shq_tools.budgets import Known
 from shq_tools.commands import COMMANDS, help_text, usage_for
@@ -205,11 +206,11 @@ class BySeconds(unittest.TestCase):
 
     def test_what_is_known_when_the_seconds_are_over(self):
         begun = time.monotonic()
-        said, complaint, status = shq("explain", "X", "--seconds", "1", program=GROWING, ENDLESS=64_000_000)
+        said, complaint, status = shq("explain", "X", "--seconds", "3", program=GROWING, ENDLESS=64_000_000)
         self.assertLess(time.monotonic() - begun, 20)
         self.assertEqual((said, status), ("budget: 8000000\nundecided\n", 8))
-        self.assertIn("undecided after 1 seconds, with a budget of 8,000,000 steps", complaint)
-        self.assertIn("./shq explain X --seconds 10 < FILE", complaint)
+        self.assertIn("undecided after 3 seconds, with a budget of 8,000,000 steps", complaint)
+        self.assertIn("./shq explain X --seconds 30 < FILE", complaint)
 
     def test_nothing_is_known(self):
         cases = {
@@ -229,12 +230,16 @@ class BySeconds(unittest.TestCase):
             self.assertIn("--budget 50", complaint)
 
     def test_what_is_known_when_it_is_ended_from_outside(self):
-        environment = {**os.environ, "ENDLESS": "8000000"}
-        with command_of(GROWING, ["explain", "X"]) as command:
-            how = {"stdin": subprocess.DEVNULL, "stdout": subprocess.PIPE, "stderr": subprocess.PIPE}
-            with subprocess.Popen(["timeout", "3", *command], cwd=TOOLS, env=environment, **how) as started:
+        with tempfile.TemporaryDirectory() as room, command_of(GROWING, ["explain", "X"]) as command:
+            begun = Path(room) / "begun"
+            how = {"stdin": subprocess.DEVNULL, "stdout": subprocess.PIPE, "stderr": subprocess.PIPE, "cwd": TOOLS}
+            environment = {**os.environ, "ENDLESS": "8000000", "BEGUN": str(begun)}
+            with subprocess.Popen(command, env=environment, **how) as started:
+                while not begun.exists():
+                    time.sleep(0.05)
+                started.terminate()
                 said, _ = started.communicate()
-        self.assertEqual((said, started.returncode), (b"budget: 1000000\nundecided\n", 124))
+        self.assertEqual((said, started.returncode), (b"budget: 1000000\nundecided\n", -15))
 
     def test_jobs_without_a_budget_are_asked_as_they_are(self):
         self.assertEqual(shq("check", "X", data=b"text")[0], "words: check X\ntext")

@@ -1,0 +1,173 @@
+"""An answer as one object of JSON, whose form is written down in `docs/answer.schema.json`."""
+import json
+import re
+
+from shq_tools.answers import (
+    Instances,
+    Model,
+    Realization,
+    Reasons,
+    Refutation,
+    SetList,
+    Taxonomy,
+    Unread,
+    answer,
+)
+from shq_tools.functional import axiom_text
+from shq_tools.names import Names, labels_in
+from shq_tools.statuses import Status, status_name
+from shq_tools.tokens import Refused
+
+REFUSED = re.compile(r"(bad text|outside|limit) (\S+)(?: (?:line (\d+)|query))?")
+REJECTED = re.compile(r"rejected (\S+)(?: (\S+))?")
+CERTIFIED = ("entailed", "not entailed", "satisfiable", "unsatisfiable")
+
+
+def axioms_of(found):
+    """The axioms below a list: number, line and text."""
+    return [{"number": it.number, "line": it.line, "text": axiom_text(it.axiom)} for it in found.values()]
+
+
+def sets_of(found):
+    return {"verdict": found.kind, "complete": not found.is_partial, "sets": found.sets, "axioms": axioms_of(found.axioms)}
+
+
+def groups_of(found):
+    return [{"classes": it.names, "below": [one for one in it.parents if one]} for it in found.groups]
+
+
+def taxonomy_of(found):
+    if not found.is_consistent:
+        return {"verdict": "inconsistent"}
+    return {"verdict": "consistent", "contradictory": found.nothing, "everything": found.thing, "groups": groups_of(found)}
+
+
+def reasons_of(found):
+    axioms = {}
+    for _, listed in found.instances:
+        axioms.update(listed.axioms)
+    members = [{"individual": one, "sets": listed.sets} for one, listed in found.instances]
+    return {"verdict": "instances", "instances": members, "axioms": axioms_of(dict(sorted(axioms.items())))}
+
+
+def model_of(found):
+    roles = {name: [list(it) for it in pairs] for name, pairs in found.roles.items()}
+    model = {"size": found.size, "classes": found.classes, "roles": roles, "individuals": found.individuals}
+    return {"verdict": found.verdict, "model": model}
+
+
+def types_of(found):
+    types = [{"individual": one, "classes": classes} for one, classes in found.types]
+    return {"verdict": "consistent", "types": types}
+
+
+def plain_of(lines):
+    """An answer of a few words."""
+    refused = REFUSED.fullmatch(lines[0])
+    if refused:
+        where = int(refused[3]) if refused[3] else "question" if lines[0].endswith(" query") else "text"
+        return {"verdict": "refused", "refused": {"why": refused[1], "what": refused[2], "where": where}}
+    rejected = REJECTED.fullmatch(lines[0])
+    if rejected:
+        at = rejected[2] if rejected[2] is None else int(rejected[2])
+        return {"verdict": "rejected", "rejected": {"what": rejected[1], "number": at}}
+    return {"verdict": lines[0]}
+
+
+def audit_of(lines):
+    """The list of an audit, as text, and how many reasons and repairs it has."""
+    counts = {word: int(number) for word, number in (it.split(" ") for it in lines if is_count(it))}
+    return {"verdict": "audit", **counts}
+
+
+def is_count(line):
+    return re.fullmatch(r"(justifications|repairs) \d+", line) is not None
+
+
+def counts_of(lines):
+    """The numbers of a workload."""
+    return {"verdict": "counted", "counts": {word: int(number) for word, number in (it.split(" ") for it in lines)}}
+
+
+BY_KIND = {
+    SetList: sets_of,
+    Taxonomy: taxonomy_of,
+    Realization: types_of,
+    Instances: lambda found: {"verdict": "instances", "individuals": found.names},
+    Reasons: reasons_of,
+    Model: model_of,
+    Refutation: lambda found: {"verdict": found.verdict, "used": found.axioms},
+}
+
+
+def read(job, text):
+    """What an answer says, by its kind. Raises `Unread`."""
+    lines = text.rstrip("\n").split("\n")
+    if job == "why" and not text:
+        return reasons_of(Reasons([]))
+    if job == "workload" and len(lines) > 1:
+        return counts_of(lines)
+    if job == "evidence" and lines[0] == "audit":
+        return {**audit_of(lines), "certificate": text}
+    found = answer(text)
+    told = BY_KIND.get(type(found), lambda it: plain_of(it.lines))(found)
+    return {**told, "certificate": text} if told["verdict"] in CERTIFIED else told
+
+
+def iris_in(told):
+    """The IRIs of a told answer: those in the texts of axioms, and those that stand alone."""
+    texts = " ".join(it["text"] for it in told.get("axioms", ()))
+    return set(re.findall(r"<([^<>\s]*)>", texts)) | set(bare_iris(told))
+
+
+def bare_iris(told):
+    """The IRIs that stand in a told answer without brackets."""
+    found = [*told.get("contradictory", ()), *told.get("everything", ()), *told.get("individuals", ())]
+    for group in told.get("groups", ()):
+        found += group["classes"]
+    for one in [*told.get("types", ()), *told.get("instances", ())]:
+        found += [one["individual"], *one.get("classes", ())]
+    model = told.get("model", {})
+    return [*found, *model.get("classes", ()), *model.get("roles", ()), *model.get("individuals", ())]
+
+
+def names_of(told, data, language):
+    """The labels of the things in a told answer, where the ontology has any."""
+    if b"label" not in data:
+        return {}
+    try:
+        labels = labels_in(data)
+    except Refused:
+        return {}
+    names = Names(labels, language)
+    return {iri: names.of(iri) for iri in sorted(iris_in(told)) if iri in labels}
+
+
+def head_of(question, status):
+    """What was asked, and how it ended."""
+    has_question = question.command is not None and question.command.operands and len(question.words) > 1
+    asked = question.words[1] if has_question else None
+    return {
+        "job": question.words[0] if question.words else "",
+        "question": asked if question.written is None else question.written,
+        "asked": asked,
+        "added": list(question.added),
+        "file": question.file,
+        "status": {"number": int(status), "name": status_name(status)},
+    }
+
+
+def object_of(question, source, output, status, **more):
+    """The object of an answer."""
+    head = head_of(question, status)
+    try:
+        told = read(head["job"], output)
+    except Unread as fault:
+        told = {"verdict": "unread", "message": str(fault)}
+    names = names_of(told, source.data, question.options.get("--language", "")) if source else {}
+    return {**head, "complete": status not in (Status.UNDECIDED, Status.NO_MEMORY), **told, "names": names, **more}
+
+
+def text_of(value):
+    """An object as text."""
+    return json.dumps(value, ensure_ascii=False, indent=1) + "\n"

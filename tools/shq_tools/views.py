@@ -1,0 +1,64 @@
+"""What is printed of an answer, by the options of its job, and the status that they give it."""
+from shq_tools import json_view
+from shq_tools.answers import Taxonomy, Unread, answer
+from shq_tools.messages import say
+from shq_tools.own_answers import own_answer
+from shq_tools.statuses import Status
+
+# The jobs that list sets of axioms.
+LISTING_JOBS = ("explain", "repair", "why")
+CONTRADICTORY = "contradictory"
+
+
+def is_whole_needed(question):
+    """Whether an answer has to be there as a whole before any of it is printed."""
+    return bool(question.added) or any(it in question.options for it in ("--json", "--fail-on"))
+
+
+def own_text(question, known):
+    """The answer as text, without the axioms that were put in for the question."""
+    text = known.ended.output.decode("utf-8", "replace")
+    if question.added and question.words[0] in LISTING_JOBS:
+        return own_answer(text, question.own_axioms, len(question.added))
+    return text
+
+
+def shown(question, source, known, **more):
+    """What is printed of an answer, as bytes. What more is told of it stands in its object of JSON alone."""
+    text = own_text(question, known)
+    if "--json" in question.options:
+        return json_view.text_of(json_view.object_of(question, source, text, known.status, **more)).encode("utf-8")
+    return text.encode("utf-8")
+
+
+def refusal_shown(question, message, status):
+    """What is printed of a question that is not asked, as bytes."""
+    if "--json" not in question.options:
+        return b""
+    found = json_view.head_of(question, status)
+    return json_view.text_of({**found, "complete": False, "verdict": "not asked", "message": message}).encode("utf-8")
+
+
+def contradictory_in(text):
+    """What is contradictory in the answer of `classify`, in words, or None."""
+    try:
+        found = answer(text)
+    except Unread:
+        return None
+    if not isinstance(found, Taxonomy):
+        return None
+    if not found.is_consistent:
+        return "the ontology is inconsistent"
+    count = len(found.nothing)
+    return f"{count:,} class{' is' if count == 1 else 'es are'} contradictory" if count else None
+
+
+def status_of(question, known):
+    """The status of an answer, where the words say that some answers are failures."""
+    if question.options.get("--fail-on") != CONTRADICTORY or known.status != Status.DONE:
+        return known.status
+    fault = contradictory_in(own_text(question, known))
+    if fault is None:
+        return known.status
+    say(fault)
+    return Status.FAILED
