@@ -50,40 +50,40 @@ met_nowhere w named q shapes lines h v t =
     (blank w named q (concept_at shapes) v t)
 
 module _ {d : Type 0} (w : World d) where
-  -- no member is a counter-example
-  no_counter : (k : ℕ) (axioms : List Numbered) (ks : List ℕ) (sub sup : Concept) (on : On) (shapes : List Shape)
-      (lines : List Line)
-      → IsRefutation (question_of k axioms ks (record { sub = sub; sup = sup; on = on })) shapes lines
-      → MeetsAll w (named_axioms axioms ks) → (v : d)
-      → (node_in_question k on < k + 1 → begun w k v (node_in_question k on) ≡ v) → IsIn w sub v → IsIn w sup v
-  no_counter k axioms ks sub sup on shapes lines h m v at inside =
-      stable w sup v
-      (λ out.
-      met_nowhere w k (question_of k axioms ks (record { sub = sub; sup = sup; on = on })) shapes lines h v
-      (record {
-        theory_met = meets_theory w axioms ks m;
-        facts_met = given_true w axioms k ks m;
-        are_first = omega arith;
-        is_at = at;
-        in_sub = inside;
-        not_in_sup = out;
-      }))
+  -- where no member is what a question asks for, what the query asks is so
+  module _ (k : ℕ) (axioms : List Numbered) (ks : List ℕ) (sub sup : Concept) (on : On)
+      (unmet : (v : d) → ¬ MeetsQuestion w k (question_of k axioms ks (record { sub = sub; sup = sup; on = on })) v)
+      (m : MeetsAll w (named_axioms axioms ks)) where
+    no_counter : (v : d) → (node_in_question k on < k + 1 → begun w k v (node_in_question k on) ≡ v) → IsIn w sub v
+        → IsIn w sup v
+    no_counter v at inside =
+        stable w sup v
+        (λ out.
+        unmet v
+        (record {
+          theory_met = meets_theory w axioms ks m;
+          facts_met = given_true w axioms k ks m;
+          are_first = omega arith;
+          is_at = at;
+          in_sub = inside;
+          not_in_sup = out;
+        }))
 
-  so_of : (k : ℕ) (axioms : List Numbered) (ks : List ℕ) (sub sup : Concept) (on : On) (shapes : List Shape)
-      (lines : List Line)
-      → IsRefutation (question_of k axioms ks (record { sub = sub; sup = sup; on = on })) shapes lines
+  pub so_where_unmet : (k : ℕ) (axioms : List Numbered) (ks : List ℕ) (sub sup : Concept) (on : On)
+      → ((v : d) → ¬ MeetsQuestion w k (question_of k axioms ks (record { sub = sub; sup = sup; on = on })) v)
       → MeetsAll w (named_axioms axioms ks) → IsSo w sub sup on
-  so_of k axioms ks sub sup Any shapes lines h m =
-      λ v. no_counter k axioms ks sub sup Any shapes lines h m v (λ lt. any_node w k v)
-  so_of k axioms ks sub sup (Individual a) shapes lines h m =
-      no_counter k axioms ks sub sup (Individual a) shapes lines h m (w.individual a) (individual_node w k a)
+  so_where_unmet k axioms ks sub sup Any unmet m =
+      λ v. no_counter k axioms ks sub sup Any unmet m v (λ lt. any_node w k v)
+  so_where_unmet k axioms ks sub sup (Individual a) unmet m =
+      no_counter k axioms ks sub sup (Individual a) unmet m (w.individual a) (individual_node w k a)
 
   pub refuted_holds : RefutationsHoldIn w
-  refuted_holds k axioms ks q shapes lines h m = so_of k axioms ks q.sub q.sup q.on shapes lines h m
+  refuted_holds k axioms ks q shapes lines h m =
+      so_where_unmet k axioms ks q.sub q.sup q.on (met_nowhere w k (question_of k axioms ks q) shapes lines h) m
 
   pub refuted_holds_by_all : RefutationsHoldByAllIn w
   refuted_holds_by_all k axioms ks q shapes lines h m =
-      so_of k axioms ks q.sub q.sup q.on shapes lines h (meets_named w axioms ks m)
+      refuted_holds k axioms ks q shapes lines h (meets_named w axioms ks m)
 
   -- ---- without individuals
 
