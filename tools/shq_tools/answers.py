@@ -1,4 +1,5 @@
 """The answers of the reasoner, read from their texts."""
+import re
 from dataclasses import dataclass, field
 
 from shq_tools.prefixes import Prefixes
@@ -10,6 +11,17 @@ from shq_tools.walk import NoLimits, Walk
 LISTS = ("justifications", "repairs")
 MODEL_VERDICTS = ("not entailed", "satisfiable")
 REFUTATION_VERDICTS = ("entailed", "unsatisfiable")
+# The lines of answers that are a few words.
+PLAIN_LINE = re.compile(
+    r"""undecided|no\ memory|bad\ words|read\ fault|limit\ text(\ query)?
+    |accepted\ (entailed|not\ entailed|audit)
+    |rejected\ (query|transversal|(line|axiom|justification|repair)\ \d+)
+    |bad\ text\ (utf8|token|balance|shape|prefix|clash)\ (line\ \d+|query)
+    |(outside|limit)\ \S+\ (line\ \d+|query)
+    |(axiom|removed)\ \d+|yes(\ empty|(\ \d+)+)|no|bad\ line
+    |(workload|axioms|justifications|repairs)\ \d+""",
+    re.X,
+)
 
 
 class Unread(Exception):
@@ -40,6 +52,14 @@ class SetList:
     is_partial: bool
     sets: list
     axioms: dict
+
+
+@dataclass
+class Audit:
+    """Justifications and repairs as sets of axioms by their numbers, which stand with what shows each of them."""
+
+    justifications: list
+    repairs: list
 
 
 @dataclass
@@ -278,6 +298,30 @@ def refutation(lines):
     return Refutation(lines[0], axioms, concepts, rules)
 
 
+def audit(lines):
+    """An audit, without what shows its sets."""
+    if lines[-1] != "end audit":
+        raise Unread("the audit is not whole")
+    lists, counts, latest = {}, {}, ""
+    for line in lines[1:-1]:
+        head, *rest = line.split(" ")
+        if head in LISTS:
+            latest, lists[head], counts[head] = head, [], number_of(rest[0])
+        elif head == "set":
+            lists[latest].append(list(map(number_of, rest)))
+    if list(lists) != list(LISTS) or counts != {head: len(sets) for head, sets in lists.items()}:
+        raise Unread("the audit is not whole")
+    return Audit(*lists.values())
+
+
+def plain(lines):
+    """An answer of a few words."""
+    for line in lines:
+        if not PLAIN_LINE.fullmatch(line):
+            raise Unread(f"no line of an answer: {line[:60]}")
+    return Plain(lines)
+
+
 def is_list(line):
     words = line.split(" ")
     return len(words) == 2 and words[0] in LISTS or len(words) == 3 and words[0] == "partial" and words[1] in LISTS
@@ -300,7 +344,7 @@ def reader_for(lines):
         return model
     if lines[0] in REFUTATION_VERDICTS and second == "refutation":
         return refutation
-    return Plain
+    return audit if lines[0] == "audit" else plain
 
 
 def answer(text):

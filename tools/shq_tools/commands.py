@@ -119,8 +119,19 @@ READ_OPTIONS = (
     Option("--labels", "FILE", "the ontology, or another file that has the labels"),
     Option("--language", "TAG", "the language of the labels, as en"),
     Option("--query", "AXIOM", "the statement, or the class, that was asked about"),
+    Option("--about", "CLASS", "of a taxonomy only what is above this class, and two levels below it"),
+    Option("--all", "", "of a world also what has nothing to do with the statement"),
     Option("--dot", "", "a picture for Graphviz"),
     Option("--html", "", "one page"),
+    Option("--markdown", "", "text for a pull request or an issue"),
+)
+REPORT_OPTIONS = (
+    Option("-o", "PAGE", "where it is written, in place of standard output"),
+    Option("--markdown", "", "text for a pull request or an issue, in place of a page"),
+    Option("--language", "TAG", "the language of the labels, as en"),
+    Option("--seconds", "N", "how long the hierarchy may take, and all reasons together (60 without it)"),
+    Option("-j", "N", "how many questions are asked at once"),
+    Option("--fail-on", "contradictory", "end with 1 where something is contradictory"),
 )
 
 TOOLS = (
@@ -133,6 +144,8 @@ TOOLS = (
             runner="shq_tools.approximation.command:main", needs_program=False),
     Command("convert", "writes a file of another syntax in functional-style syntax, by the OWL API",
             runner="shq_tools.converting:main", needs_program=False),
+    Command("report", "one page on a whole ontology: what is contradictory and why, the hierarchy, individuals",
+            options=REPORT_OPTIONS, runner="shq_tools.report_command:main"),
     Command("read", "shows an answer for people", options=READ_OPTIONS, runner="shq_tools.reading_answers:main",
             needs_program=False),
 )

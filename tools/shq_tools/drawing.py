@@ -3,8 +3,8 @@ import shutil
 import subprocess
 
 from shq_tools.answers import Model, Refutation, Taxonomy
-from shq_tools.trees_of_classes import group_name
-from shq_tools.worlds import things
+from shq_tools.story import all_steps
+from shq_tools.trees_of_classes import shown_alone
 
 STYLE = [
     'graph [fontname="sans-serif", bgcolor="transparent"];',
@@ -45,29 +45,31 @@ def node(name, text, style=""):
 
 def model_graph(reading):
     """A node for each thing with its classes, and an arrow for each pair of some roles."""
-    shown, called, lines, arrows = reading.exceptions(), reading.called(), [], {}
-    for thing, classes, roles in things(reading.answer, reading.names):
-        style = GREEN if thing in shown else ""
-        lines.append(node(f"thing{thing}", "\n".join([called[thing], *classes]), style))
-        for role, others in roles.items():
+    shown, called, (near, _), lines, arrows = reading.exceptions(), reading.called(), reading.things(), [], {}
+    for thing in near:
+        style = GREEN if thing.number in shown else ""
+        lines.append(node(f"thing{thing.number}", "\n".join([called[thing.number], *thing.classes]), style))
+        for role, others in thing.roles.items():
             for other in others:
-                arrows.setdefault((thing, other), []).append(role)
+                arrows.setdefault((thing.number, other), []).append(role)
     for (one, other), roles in arrows.items():
-        lines.append(f"thing{one} -> thing{other} [label={quoted(chr(10).join(sorted(roles)))}];")
+        lines.append(f"thing{one} -> thing{other} [label={quoted(chr(10).join(roles))}];")
     return graph(lines)
 
 
 def taxonomy_graph(reading):
-    """A node for each group of equal classes, and an arrow to each group directly above."""
-    answer, names = reading.answer, reading.names
+    """A node for each group of equal classes, and an arrow to each group directly above, which stands to the left."""
+    names, answer = reading.names, shown_alone(reading.answer, reading.names)
     numbers = {group.names[0]: at for at, group in enumerate(answer.groups)}
-    lines = ["rankdir=BT;", node("thing", "\n".join(["Thing", *map(names.of, answer.thing)]))]
+    lines = ["rankdir=RL;", node("thing", "\n".join(["Thing", *map(names.of, names.shown(answer.thing))]))]
     for at, group in enumerate(answer.groups):
-        lines.append(node(f"class{at}", wrapped(group_name(group, names))))
+        style = GREEN if reading.about in group.names else ""
+        text = " = ".join(map(names.of, names.shown(group.names)))
+        lines.append(node(f"class{at}", wrapped(text), style))
         above = [f"class{numbers[it]}" if it in numbers else "thing" for it in group.parents or [None]]
         lines += [f"class{at} -> {it};" for it in above]
-    if answer.nothing:
-        lines.append(node("nothing", "\n".join(["contradictory:", *map(names.of, answer.nothing)]), RED))
+    if names.shown(answer.nothing):
+        lines.append(node("nothing", "\n".join(["contradictory:", *map(names.of, names.shown(answer.nothing))]), RED))
     return graph(lines)
 
 
@@ -96,6 +98,16 @@ def graph_of(reading):
     if isinstance(reading.answer, Taxonomy) and reading.answer.is_consistent:
         return taxonomy_graph(reading)
     return None
+
+
+def node_count(reading):
+    """How many things, steps or groups of classes a picture of the answer has."""
+    answer = reading.answer
+    if isinstance(answer, Model):
+        return len(reading.things()[0])
+    if isinstance(answer, Refutation):
+        return sum(1 for _ in all_steps(reading.story().steps))
+    return len(answer.groups)
 
 
 def drawn(text):

@@ -11,9 +11,9 @@ BOUNDS = {"least": "min", "most": "max", "exactly": "exactly"}
 
 def name_text(iri, names):
     """The name of a class, role or individual, in quotation marks where it is not one word."""
-    name = names.of(iri)
-    is_plain = PLAIN_NAME.fullmatch(name) and name not in RESERVED
-    return name if is_plain else "'" + name.replace("'", "\\'") + "'"
+    name = names.bare(iri)
+    is_plain = names.has_own_form(iri) or PLAIN_NAME.fullmatch(name) and name not in RESERVED
+    return names.marked(iri, name if is_plain else "'" + name.replace("'", "\\'") + "'")
 
 
 def class_text(expression, names):

@@ -1,13 +1,17 @@
 """An answer together with what is known of its ontology, for all ways to show it."""
-from dataclasses import dataclass, field
+from dataclasses import dataclass, field, replace
 
-from shq_tools.answers import Model, Refutation
+from shq_tools.answers import ListedAxiom, Model, Refutation, SetList
+from shq_tools.arguments import families, in_order_of_argument
+from shq_tools.caveats import NO_CAVEAT, Caveat
 from shq_tools.manchester import axiom_text, class_text, name_text
 from shq_tools.names import Names
+from shq_tools.ontology_facts import Ontology
 from shq_tools.story import Story, all_told, list_text, story_of
-from shq_tools.terms import BOTTOM, TOP, RoleBox
-from shq_tools.wording import VERDICTS, heading, reason_heading
-from shq_tools.worlds import World, called
+from shq_tools.terms import BOTTOM, TOP, Axiom, RoleBox
+from shq_tools.told import ToldClasses
+from shq_tools.wording import counted, heading, reason_heading
+from shq_tools.worlds import World, called, connected, things
 
 OTHER_AXIOMS = "the axioms of the file for --labels are not those of this refutation, so they are not told"
 
@@ -22,25 +26,97 @@ def is_of_roles(axiom, story, box):
 
 
 @dataclass
+class ReasonFamily:
+    """Reasons that share most axioms: their numbers, what they share, and what each one has besides."""
+
+    numbers: list
+    shared: list
+    rest: list
+
+
+@dataclass
 class Reading:
-    """An answer, the names to use, the ontology's axioms by their numbers where they are known, the statement asked
-    about (two classes, and an individual or None), and the individuals in the order in which they are listed.
+    """An answer, the names to use, its ontology as far as it is known, and the statement that was asked about (two
+    classes, and an individual or None).
+
+    `is_asked` says that the answer is surely to this statement. `file` is the name of the ontology's file, and
+    `about` is the class to whose neighbourhood a taxonomy was cut, or nothing.
+    `originals` has, by line, an axiom of the file as it stands there, where others were made from it: it is shown in
+    their place, once. `caveat` says what the answer is worth for the whole of the file. `shows_all` also shows what of
+    a world has nothing to do with the statement.
     """
 
     answer: object
     names: Names
-    axioms: dict = field(default_factory=dict)
+    ontology: Ontology = field(default_factory=Ontology)
     query: tuple = None
     notes: list = field(default_factory=list)
-    individuals: list = field(default_factory=list)
+    is_asked: bool = False
+    file: str = ""
+    about: str = ""
+    originals: dict = field(default_factory=dict)
+    caveat: Caveat = NO_CAVEAT
+    shows_all: bool = False
+
+    def __post_init__(self):
+        self.axioms = self.ontology.axioms
+        self.individuals = list(self.ontology.individuals)
+        if self.query and self.query[2] is not None and self.query[2] not in self.individuals:
+            self.individuals.append(self.query[2])
+
+    def counts(self):
+        """How much the ontology has of each kind, in words, or nothing where it is not known."""
+        counts = self.ontology.counts()
+        return [counted(number, what) for what, number in counts.items() if number or what in ("axiom", "class")]
+
+    def axiom_text(self, axiom):
+        """What an axiom says, as it stands in the file."""
+        if not axiom.keyword:
+            return "(--labels names no file that has it)"
+        return self.originals.get(axiom.line) or axiom_text(axiom, self.names)
+
+    def place(self, axiom):
+        """Where an axiom stands: its number and its line, or its line where others were made from it."""
+        if not axiom.line:
+            return f"axiom {axiom.number}"
+        return f"line {axiom.line}" if axiom.line in self.originals else f"axiom {axiom.number}, line {axiom.line}"
 
     def axiom_line(self, axiom):
         """An axiom with its number and its line."""
-        return f"axiom {axiom.number}, line {axiom.line}: {axiom_text(axiom, self.names)}"
+        return f"{self.place(axiom)}: {self.axiom_text(axiom)}"
+
+    def one_for_each(self, axioms):
+        """The axioms, and of those that were made from one axiom of the file the first."""
+        found = {}
+        for axiom in axioms:
+            found.setdefault(axiom.line if axiom.line in self.originals else ("axiom", axiom.number), axiom)
+        return list(found.values())
+
+    def argument(self, axioms, query=None):
+        """The axioms of a reason, in the order of the argument."""
+        return self.one_for_each(in_order_of_argument(axioms, query or self.query))
+
+    def families(self):
+        """The reasons of a list, those together that share most axioms."""
+        axioms, found = self.answer.axioms, []
+        for family in families(self.answer.sets):
+            numbers = [place for place, _ in family.members]
+            shared = family.shared if len(numbers) > 1 else frozenset()
+            whole = set().union(*(one for _, one in family.members))
+            ordered = [it.number for it in in_order_of_argument((axioms[it].axiom for it in whole), self.query)]
+            rest = [self.chosen(one - shared, ordered) for _, one in family.members]
+            found.append(ReasonFamily(numbers, self.chosen(shared, ordered), rest))
+        return found
+
+    def chosen(self, numbers, ordered):
+        """The axioms of these numbers, in the order of others."""
+        return self.one_for_each(self.answer.axioms[it].axiom for it in ordered if it in numbers)
 
     def types(self):
         """Each individual of a realization by its name, with the names of its most specific classes."""
-        found = [(self.names.of(one), list(map(self.names.of, classes))) for one, classes in self.answer.types]
+        types = dict(self.answer.types)
+        found = [(self.names.of(one), list(map(self.names.of, self.names.shown(types[one]))))
+                 for one in self.names.shown(types)]
         return [(one, ", ".join(classes) or "in no named class") for one, classes in found]
 
     def reasons(self):
@@ -48,14 +124,24 @@ class Reading:
         told = []
         for one, found in self.answer.instances:
             for number, numbers in enumerate(found.sets, 1):
-                lines = [self.axiom_line(found.axioms[it].axiom) for it in numbers]
-                told.append((reason_heading(self.names.of(one), number, numbers), lines))
+                query = (TOP, self.asked_class() or TOP, one)
+                axioms = self.argument((found.axioms[it].axiom for it in numbers), query)
+                told.append((reason_heading(self.names.of(one), number, numbers), axioms))
         return told
 
+    def asked_class(self):
+        """The class that was asked about, or None."""
+        if self.query is None:
+            return None
+        return self.query[0] if self.query[1] == BOTTOM and self.query[2] is None else self.query[1]
+
     def heading(self):
-        if self.query is None or not isinstance(self.answer, (Model, Refutation)):
-            return heading(self.answer)
-        return f"{VERDICTS[self.answer.verdict]} ({self.query_text()})"
+        said = heading(self.answer, self.names)
+        if self.query is None or not self.is_asked:
+            return said
+        if isinstance(self.answer, (Model, Refutation)):
+            return f"{said} ({self.query_text()})"
+        return f"{self.query_text()}: {said[0].lower()}{said[1:]}"
 
     def query_text(self):
         sub, sup, individual = self.query
@@ -71,7 +157,7 @@ class Reading:
             if story.is_sound:
                 return story
         if self.axioms:
-            self.notes.append(OTHER_AXIOMS)
+            self.notes += [OTHER_AXIOMS] * (OTHER_AXIOMS not in self.notes)
             self.axioms, self.individuals = {}, []
         return Story([], all_told(self.answer, self.names), 0, set(), set(), set(), True)
 
@@ -81,11 +167,11 @@ class Reading:
         left_out = (("not", BOTTOM), TOP)
         found = [class_text(it, self.names) for it in sub_and_not_sup or story.supposed if it not in left_out]
         asked = self.asked(story)
-        called = [name_text(it, self.names) for it in self.individuals[: max(asked) + 1]]
-        named = [called[it] if it < len(called) else f"thing {it}" for it in asked]
+        called_by = [name_text(it, self.names) for it in self.individuals[: max(asked) + 1]]
+        named = [called_by[it] if it < len(called_by) else f"thing {it}" for it in asked]
         if len(asked) > 1:
             return f"Suppose one of {list_text(named)} is {list_text(found)}."
-        if asked[0] < len(called):
+        if asked[0] < len(called_by):
             return f"Suppose {named[0]} is {list_text(found) or 'there'}."
         if not found:
             return f"Suppose there is a {named[0]} for which it fails."
@@ -101,7 +187,8 @@ class Reading:
         """The axioms that a story uses, and those of the roles along which it goes, where they are known."""
         known = [self.axioms[it] for it in self.answer.axioms if it in self.axioms]
         box = RoleBox(known)
-        return [it for it in known if it.number in story.axioms or is_of_roles(it, story, box)]
+        used = [it for it in known if it.number in story.axioms or is_of_roles(it, story, box)]
+        return self.argument(used)
 
     def exceptions(self):
         """The things of a model that show that the statement fails, or none where it is not known."""
@@ -110,3 +197,23 @@ class Reading:
     def called(self):
         """What each thing of a model is called."""
         return called(self.answer, self.names)
+
+    def things(self):
+        """The things of a model that have to do with the statement, and the others, which no role connects with one
+        that shows that it fails.
+        """
+        told = ToldClasses(self.axioms.values())
+        found, shown = things(self.answer, self.names, told if self.axioms else None), self.exceptions()
+        near = connected(self.answer, shown) if shown and not self.shows_all else range(self.answer.size)
+        return [it for it in found if it.number in near], [it for it in found if it.number not in near]
+
+
+def audited(reading):
+    """The two lists of an audit, each as a reading of its own; their axioms are known where the ontology is."""
+    audit, axioms = reading.answer, reading.axioms
+    used = {it for sets in (audit.justifications, audit.repairs) for one in sets for it in one}
+    if not used <= axioms.keys():
+        axioms = {it: Axiom("", (), 0, it) for it in used}
+    listed = {it: ListedAxiom(it, axioms[it].line, axioms[it]) for it in used}
+    lists = (SetList(kind, False, getattr(audit, kind), listed) for kind in ("justifications", "repairs"))
+    return [replace(reading, answer=it) for it in lists]

@@ -1,23 +1,28 @@
 """`./shq read`: an answer of the reasoner for people."""
 import argparse
 import sys
+from dataclasses import dataclass, field
 
-from shq_tools.answers import Unread, answer
-from shq_tools.documents import document, ontology_of
+from shq_tools.answers import Taxonomy, Unread, answer
+from shq_tools.caveats import NO_CAVEAT, Caveat
 from shq_tools.drawing import graph_of
+from shq_tools.fitting import fits
 from shq_tools.input_files import READ_FAULT, data_of, say
-from shq_tools.names import Names, labels_in
+from shq_tools.names import Names, has_language, labels_in, languages
+from shq_tools.ontology_facts import Ontology, ontology_from
 from shq_tools.page import page_of
-from shq_tools.prefixes import Prefixes
 from shq_tools.reading import Reading
 from shq_tools.terms import BOTTOM, TOP
 from shq_tools.text_view import lines_of
 from shq_tools.tokens import Refused, end_line, tokens
 from shq_tools.trees import trees
+from shq_tools.trees_of_classes import around
 from shq_tools.walk import NoLimits, Walk
 
 BAD_WORDS = 2
 BAD_ANSWER = 3
+MISFIT = "the answer is to another statement than that of --query"
+NOT_COMPARED = "whether the answer is to the statement of --query cannot be told"
 
 
 def words_of(words):
@@ -26,11 +31,31 @@ def words_of(words):
     parser.add_argument("--labels", metavar="FILE", help="the ontology, or another file that has the labels")
     parser.add_argument("--language", metavar="TAG", default="", help="the language of the labels, as en")
     parser.add_argument("--query", metavar="AXIOM", help="the statement, or the class, that was asked about")
+    parser.add_argument("--about", metavar="CLASS", help="of a taxonomy only what is above this class and close below")
+    parser.add_argument("--all", action="store_true", help="of a world also what has nothing to do with the statement")
     how = parser.add_mutually_exclusive_group()
     how.add_argument("--dot", action="store_true", help="a picture for Graphviz")
     how.add_argument("--html", action="store_true", help="one page")
+    how.add_argument("--markdown", action="store_true", help="text for a pull request or an issue")
     parser.add_argument("file", nargs="?", metavar="FILE", help="the answer, in place of standard input")
     return parser.parse_args(words)
+
+
+class Unshown(Exception):
+    """A wish that cannot be met for an answer, with what to say."""
+
+
+@dataclass
+class Known:
+    """What is known of the ontology behind an answer: the ontology itself, the names of things, its file, axioms of the
+    file by line that others were made from, and what the answer is worth for the whole file.
+    """
+
+    ontology: Ontology = field(default_factory=Ontology)
+    names: Names = field(default_factory=Names)
+    file: str = ""
+    originals: dict = field(default_factory=dict)
+    caveat: Caveat = NO_CAVEAT
 
 
 def labels_from(data):
@@ -42,14 +67,18 @@ def labels_from(data):
         return {}
 
 
-def ontology_from(data):
-    """The prefixes, the axioms by number, and the individuals of a file that the reasoner reads too, or none."""
-    try:
-        read = document(data)
-        axioms, individuals = ontology_of(read)
-        return read.prefixes, {it.number: it for it in axioms}, individuals
-    except Refused:
-        return Prefixes(), {}, []
+def complain_of_language(labels, language):
+    """Says where no label is in the language that was asked for."""
+    if labels and language and not has_language(labels, language):
+        there = ", ".join(languages(labels)) or "no language at all"
+        say(f"no label is in the language {language}; there are labels in {there}. Names are the ends of IRIs")
+
+
+def known_from(data, language="", file=""):
+    """What a file with labels, which may be the ontology itself, says of things."""
+    ontology, labels = ontology_from(data), labels_from(data) if data else {}
+    complain_of_language(labels, language)
+    return Known(ontology, Names(labels, language, ontology.names), file or "")
 
 
 def query_of(text, prefixes):
@@ -69,22 +98,76 @@ def query_of(text, prefixes):
     raise Refused("bad text", "shape", 1)
 
 
+def class_called(text, known):
+    """The class that a word names: by its label, or as a statement would."""
+    for iri in known.ontology.classes:
+        if known.names.of(iri) == text:
+            return iri
+    sub = query_of(text, known.ontology.prefixes)[0]
+    return sub[1] if sub[0] == "name" else ""
+
+
+def cut_to(reading, text, known):
+    """The reading of a taxonomy with the neighbourhood of a class alone."""
+    if not isinstance(reading.answer, Taxonomy):
+        raise Unshown("--about is for the answer of classify")
+    iri = class_called(text, known)
+    part = around(reading.answer, iri)
+    if part is None:
+        raise Unshown(f"{text} has no place in the hierarchy of this answer")
+    reading.answer, reading.about = part, iri
+    return reading
+
+
+def compared(reading):
+    """The reading, once its statement is compared with its answer."""
+    if reading.query is None:
+        return reading
+    if isinstance(reading.answer, Taxonomy):
+        raise Unshown("--query is not for an answer of this kind, which is to no single statement")
+    fitting = fits(reading)
+    if fitting is False:
+        raise Unshown(MISFIT)
+    reading.is_asked = bool(fitting)
+    reading.notes += [NOT_COMPARED] * (fitting is None)
+    return reading
+
+
 def reading_of(given, text, label_data):
-    """The answer with what is known of its ontology. Raises `Unread` and `Refused`."""
-    found = answer(text)
-    prefixes, axioms, individuals = ontology_from(label_data)
-    names = Names(labels_from(label_data) if label_data else {}, given.language)
-    query = query_of(given.query, prefixes) if given.query else None
-    if query and query[2] is not None and query[2] not in individuals:
-        individuals = [*individuals, query[2]]
-    return Reading(found, names, axioms, query, individuals=individuals)
+    """The answer with what is known of its ontology. Raises `Unread`, `Refused` and `Unshown`."""
+    known = known_from(label_data, given.language, given.labels)
+    query = query_of(given.query, known.ontology.prefixes) if given.query else None
+    reading = Reading(answer(text), known.names, known.ontology, query, file=known.file, shows_all=given.all)
+    reading = compared(reading)
+    return cut_to(reading, given.about, known) if given.about else reading
+
+
+def asked_reading(text, known, statement=None):
+    """The reading of an answer that was surely to this statement, or to no statement."""
+    query = query_of(statement, known.ontology.prefixes) if statement else None
+    how = {"file": known.file, "originals": known.originals, "caveat": known.caveat}
+    return Reading(answer(text), known.names, known.ontology, query, is_asked=query is not None, **how)
+
+
+def markdown_of(reading):
+    """The answer as text for a pull request or an issue: its heading, and the rest as it stands."""
+    first, *rest = lines_of(reading)
+    body = "\n".join(rest).strip("\n")
+    return f"### {first}\n" + (f"\n```text\n{body}\n```\n" if body else "")
 
 
 def shown(given, reading):
-    """What is printed, or None where an answer has no picture."""
-    if given.dot:
-        return graph_of(reading)
-    return page_of(reading) if given.html else "\n".join(lines_of(reading)) + "\n"
+    """What is printed. Raises `Unshown` where an answer has no picture."""
+    if given.html:
+        return page_of(reading)
+    if given.markdown:
+        return markdown_of(reading)
+    if not given.dot:
+        return "\n".join(lines_of(reading)) + "\n"
+    graph = graph_of(reading)
+    if graph is None:
+        raise Unshown("an answer of this kind has no picture")
+    return graph
 
 
 def read(given, text, label_data):
@@ -96,10 +179,10 @@ def read(given, text, label_data):
         say(f"this is no answer of the reasoner: {fault}")
         return BAD_ANSWER
     except Refused as refused:
-        say(f"the statement for --query cannot be read: {refused}")
+        say(f"the statement for --query, or the class for --about, cannot be read: {refused}")
         return BAD_WORDS
-    if output is None:
-        say("an answer of this kind has no picture")
+    except Unshown as unshown:
+        say(unshown)
         return BAD_WORDS
     for note in reading.notes:
         say(note)

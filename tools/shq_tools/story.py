@@ -10,6 +10,7 @@ from dataclasses import dataclass, field
 from shq_tools.answers import Unread, number_of
 from shq_tools.manchester import class_text, name_text
 from shq_tools.normal_forms import complement, facts, normal, row
+from shq_tools.story_domains import with_domains_told
 from shq_tools.terms import BOTTOM, TOP
 
 
@@ -28,6 +29,9 @@ class Step:
     `because` has the steps that it stands on, `supposes` what it needs of one thing that no step adds, `axiom` the
     axiom that it uses, `roles` those along which it goes, and `carried` the one that is transitive. A step that takes
     an intersection apart `is_silent`: it says the same once more.
+
+    `whole` is the class expression that a step takes apart, `things` those that it speaks of, and `other` the one to
+    which a role leads there. A step by the domain of a role has that role as its `domain`.
     """
 
     line: int
@@ -40,6 +44,10 @@ class Step:
     roles: tuple = ()
     carried: tuple = ()
     is_silent: bool = False
+    whole: tuple = None
+    things: tuple = ()
+    other: int = None
+    domain: str = ""
 
 
 @dataclass
@@ -240,6 +248,8 @@ class Teller:
         roles = {it for step in told for it in step.roles}
         carried = {it for step in told for it in step.carried}
         left_out, asked = len(found) - len(told), tuple(sorted(self.asked or ()))
+        at_once = with_domains_told(self, steps)
+        keep(steps, {it for it in all_steps(steps) if it not in at_once})
         return Story(supposed, steps, left_out, axioms, roles, carried, self.is_sound, asked)
 
     def step(self, line, branch, step):
@@ -282,6 +292,7 @@ class Teller:
     def tell_or(self, branch, step, thing, concept):
         whole = self.concept(concept)
         self.need(branch, step, int(thing), whole)
+        step.whole = whole
         cases = [(self.is_text(thing, it), self.puts(int(thing), it, step)) for it in whole[1]]
         return self.splits(branch, step, f"Now {self.is_text(thing, whole)}: {len(cases)} cases.", cases)
 
@@ -289,7 +300,7 @@ class Teller:
         whole = self.concept(concept)
         self.need(branch, step, int(thing), whole)
         self.know(branch, step, int(thing), int(other))
-        step.roles = (whole[1],)
+        step.roles, step.other = (whole[1],), int(other)
         why = f"Since {self.is_text(thing, whole)}, and {self.thing(other)} is one of these"
         return self.adds(branch, step, f"{why}, {self.is_text(other, whole[2])}.", [(int(other), whole[2])])
 
@@ -310,7 +321,10 @@ class Teller:
         step.axiom = int(axiom)
         if step.axiom not in self.axioms:
             return self.unknown_axiom(branch, step, axiom, thing)
-        needed, added = row(self.axioms[step.axiom], int(part), list(map(int, positions)))
+        axiom_used = self.axioms[step.axiom]
+        step.things = (int(thing),)
+        step.domain = axiom_used.items[0] if axiom_used.keyword == "ObjectPropertyDomain" else ""
+        needed, added = row(axiom_used, int(part), list(map(int, positions)))
         self.know(branch, step, int(thing))
         for expression in needed:
             self.need(branch, step, int(thing), expression)

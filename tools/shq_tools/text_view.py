@@ -1,21 +1,63 @@
 """An answer as plain text for people."""
-from shq_tools.answers import Instances, Model, Plain, Realization, Reasons, Refutation, SetList
+from shq_tools.answers import Audit, Instances, Model, Plain, Realization, Reasons, Refutation, SetList, Taxonomy
+from shq_tools.reading import audited
 from shq_tools.trees_of_classes import SHOWN_BEFORE, forest, in_order
-from shq_tools.wording import ending, left_out_text, plain_lines, set_heading
-from shq_tools.worlds import things
+from shq_tools.wording import (
+    AS_A_WHOLE,
+    ONE_EACH,
+    ending,
+    family_heading,
+    left_out_text,
+    plain_lines,
+    rest_heading,
+    set_heading,
+    unrelated_text,
+    verdict,
+)
 
 INDENT = "  "
 
 
+def axiom_lines(reading, axioms):
+    """Axioms as a numbered list."""
+    return [f"{INDENT}{at}. {reading.axiom_line(it)}" for at, it in enumerate(axioms, 1)]
+
+
+def reason_list_lines(reading):
+    """The reasons of a list; those that share most axioms show these once."""
+    lines = []
+    for family in reading.families():
+        if len(family.numbers) == 1:
+            (number,), (axioms,) = family.numbers, family.rest
+            lines += ["", set_heading("justifications", number), *axiom_lines(reading, axioms)] * bool(axioms)
+            continue
+        lines += ["", family_heading(family.numbers), *axiom_lines(reading, family.shared)]
+        for number, axioms in zip(family.numbers, family.rest):
+            lines += ["", rest_heading(number), *axiom_lines(reading, axioms)]
+    return lines
+
+
+def repair_list_lines(reading):
+    """The repairs of a list; where each is one axiom, they are one list."""
+    answer = reading.answer
+    sets = [reading.one_for_each(answer.axioms[it].axiom for it in one) for one in answer.sets if one]
+    if len(sets) > 1 and all(len(it) == 1 for it in sets):
+        return ["", ONE_EACH, *axiom_lines(reading, [it for one in sets for it in one])]
+    lines = []
+    for number, axioms in enumerate(sets, 1):
+        lines += ["", set_heading("repairs", number), *axiom_lines(reading, axioms)]
+    return lines
+
+
 def list_lines(reading):
     """The sets of axioms, each as a numbered list."""
-    lines, answer = [], reading.answer
-    for number, one in enumerate(answer.sets, 1):
-        if not one:
-            continue
-        lines += ["", set_heading(answer, number)]
-        lines += [f"{INDENT}{at}. {reading.axiom_line(answer.axioms[it].axiom)}" for at, it in enumerate(one, 1)]
-    return lines
+    is_reasons = reading.answer.kind == "justifications"
+    return reason_list_lines(reading) if is_reasons else repair_list_lines(reading)
+
+
+def audit_lines(reading):
+    """The reasons of an audit, and then its repairs."""
+    return [line for one in audited(reading) for line in list_lines(one)]
 
 
 def realization_lines(reading):
@@ -25,7 +67,7 @@ def realization_lines(reading):
 
 def instance_lines(reading):
     """The individuals of a class expression."""
-    names = [INDENT + reading.names.of(it) for it in reading.answer.names]
+    names = [INDENT + reading.names.of(it) for it in reading.names.shown(reading.answer.names)]
     return ["", *names] if names else []
 
 
@@ -33,39 +75,44 @@ def reason_lines(reading):
     """Why each individual is in a class expression."""
     lines = []
     for title, axioms in reading.reasons():
-        lines += ["", title, *(f"{INDENT}{at}. {it}" for at, it in enumerate(axioms, 1))]
+        lines += ["", title, *axiom_lines(reading, axioms)]
     return lines
 
 
 def taxonomy_lines(reading):
     """The taxonomy as an indented tree."""
     answer, names = reading.answer, reading.names
-    lines = []
+    lines = [AS_A_WHOLE] * (answer.is_consistent and bool(answer.nothing))
     titles = {"Contradictory, so without any member": answer.nothing, "Everything is in": answer.thing}
     for title, members in titles.items():
-        if members:
-            lines += ["", f"{title}:", *(INDENT + it for it in sorted(map(names.of, members), key=str.casefold))]
+        if names.shown(members):
+            lines += ["", f"{title}:", *(INDENT + names.of(it) for it in names.shown(members))]
     branches = forest(answer, names)
     if branches:
         lines += ["", "Thing"]
     for branch in in_order(branches):
-        lines.append(INDENT * branch.depth + branch.name + (" .." if branch.is_shown_before else ""))
+        lines.append(INDENT * branch.depth + branch.name(names) + (" .." if branch.is_shown_before else ""))
     return lines + ["", SHOWN_BEFORE] * any(it.is_shown_before for it in in_order(branches))
 
 
-def role_lines(roles, called):
-    told = {role: ", ".join(called[it] for it in others) for role, others in sorted(roles.items())}
-    return [f"{INDENT}{INDENT}{role} {others}" for role, others in told.items()]
+def thing_lines(thing, called, mark):
+    """A thing of a world, its classes, and where its roles lead."""
+    above = f", and so {', '.join(thing.classes_above)}" if thing.classes_above else ""
+    classes = ", ".join(thing.classes) or "in no named class"
+    lines = [f"{INDENT}{called[thing.number]}: {classes}{above}{mark}"]
+    for role, others in thing.roles.items():
+        lines.append(f"{INDENT}{INDENT}{role} {', '.join(called[it] for it in others)}")
+    return lines
 
 
 def model_lines(reading):
-    """Each thing of a world, its classes, and where its roles lead."""
+    """The things of a world that have to do with the statement, and how many others there are."""
     lines, shown, called = [ending(reading.answer)], reading.exceptions(), reading.called()
-    for thing, classes, roles in things(reading.answer, reading.names):
-        mark = " (it shows that the statement fails)" if thing in shown else ""
-        lines.append(f"{INDENT}{called[thing]}: {', '.join(classes) or 'in no named class'}{mark}")
-        lines += role_lines(roles, called)
-    return lines
+    near, others = reading.things()
+    for thing in near:
+        mark = " (it shows that the statement fails)" if thing.number in shown else ""
+        lines += thing_lines(thing, called, mark)
+    return lines + [f"({unrelated_text(len(others))}: --all shows them too.)"] * bool(others)
 
 
 def step_lines(steps):
@@ -93,22 +140,22 @@ def refutation_lines(reading):
     return lines + [left_out_text(story)] * bool(story.left_out)
 
 
+TELLS = {
+    SetList: list_lines,
+    Audit: audit_lines,
+    Realization: realization_lines,
+    Instances: instance_lines,
+    Reasons: reason_lines,
+    Taxonomy: taxonomy_lines,
+    Model: model_lines,
+    Refutation: refutation_lines,
+}
+
+
 def lines_of(reading):
-    """The lines of an answer."""
-    answer = reading.answer
+    """The lines of an answer: what it is worth for the whole ontology, what it says, and its parts."""
+    answer, caveat = reading.answer, reading.caveat
+    above = [*caveat.lines, ""] if caveat.lines else []
     if isinstance(answer, Plain):
-        return plain_lines(answer)
-    tells = taxonomy_lines
-    if isinstance(answer, SetList):
-        tells = list_lines
-    elif isinstance(answer, Realization):
-        tells = realization_lines
-    elif isinstance(answer, Instances):
-        tells = instance_lines
-    elif isinstance(answer, Reasons):
-        tells = reason_lines
-    elif isinstance(answer, Model):
-        tells = model_lines
-    elif isinstance(answer, Refutation):
-        tells = refutation_lines
-    return [reading.heading(), *tells(reading)]
+        return above + plain_lines(answer)
+    return [*above, reading.heading(), *caveat.behind(verdict(answer)), *TELLS[type(answer)](reading)]

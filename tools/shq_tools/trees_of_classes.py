@@ -1,21 +1,27 @@
-"""A taxonomy as a tree of names."""
+"""A taxonomy as a tree of classes."""
 from dataclasses import dataclass, field
 
+from shq_tools.answers import Taxonomy
+
 SHOWN_BEFORE = "(A class with .. stands above with what is below it.)"
+# How far below a class its neighbourhood goes.
+LEVELS_BELOW = 2
 
 
 @dataclass
 class Branch:
-    """A group of equal classes in the tree. Where it stood before with what is below it, that is not shown again."""
+    """A group of equal classes in the tree, by its IRIs. Where it stood before with what is below it, that is not shown
+    again.
+    """
 
-    name: str
+    classes: list
     depth: int
     below: list = field(default_factory=list)
     is_shown_before: bool = False
 
-
-def group_name(group, names):
-    return " = ".join(sorted(map(names.of, group.names), key=str.casefold))
+    def name(self, names):
+        """The names of the classes."""
+        return " = ".join(map(names.of, self.classes))
 
 
 def groups_below(taxonomy):
@@ -28,21 +34,22 @@ def groups_below(taxonomy):
 
 
 def forest(taxonomy, names):
-    """The groups directly below `owl:Thing`, each with those below it, in the order of their names."""
-    below, shown = groups_below(taxonomy), set()
-    top = Branch("Thing", 0)
+    """The groups directly below `owl:Thing`, each with those below it, in the order of their names. Classes that lists
+    do not show are left out, and what is below them stands in their place.
+    """
+    below, shown = groups_below(shown_alone(taxonomy, names)), set()
+    members = {group.names[0]: names.shown(group.names) for group in taxonomy.groups}
+    top = Branch([], 0)
     left = [(top, None)]
     while left:
         branch, first = left.pop()
-        children = below.get(first, [])
+        children = sorted(below.get(first, []), key=lambda it: names.order(members[it.names[0]][0]))
         if first in shown:
             branch.is_shown_before = bool(children)
             continue
         shown.add(first)
-        for group in sorted(children, key=lambda it: group_name(it, names).casefold()):
-            branch.below.append(Branch(group_name(group, names), branch.depth + 1))
-        order = sorted(children, key=lambda it: group_name(it, names).casefold())
-        left += [(inner, group.names[0]) for inner, group in zip(reversed(branch.below), reversed(order))]
+        branch.below = [Branch(members[group.names[0]], branch.depth + 1) for group in children]
+        left += reversed([(inner, group.names[0]) for inner, group in zip(branch.below, children)])
     return top.below
 
 
@@ -53,3 +60,57 @@ def in_order(branches):
         branch = left.pop()
         yield branch
         left += reversed(branch.below)
+
+
+def replaced(taxonomy, groups):
+    """The taxonomy with other groups."""
+    return Taxonomy(taxonomy.is_consistent, taxonomy.nothing, taxonomy.thing, groups)
+
+
+def shown_alone(taxonomy, names):
+    """The taxonomy without the groups of which lists show no class; what is below them is directly below those above
+    them.
+    """
+    hidden = {group.names[0]: group.parents for group in taxonomy.groups if not names.shown(group.names)}
+    if not hidden:
+        return taxonomy
+    kept = [it for it in taxonomy.groups if it.names[0] not in hidden]
+    return replaced(taxonomy, [type(it)(it.names, shown_parents(it.parents, hidden)) for it in kept])
+
+
+def shown_parents(parents, hidden):
+    """The parents, and in place of a hidden one those above it. A hidden parent that leads to `owl:Thing` alone adds
+    nothing where there is another one.
+    """
+    found, left = {}, list(reversed(parents))
+    while left:
+        parent = left.pop()
+        if parent in hidden:
+            left += reversed(hidden[parent])
+        elif parent is not None:
+            found[parent] = None
+    return list(found)
+
+
+def above(taxonomy, first):
+    """The first names of all groups above a group."""
+    parents = {group.names[0]: group.parents for group in taxonomy.groups}
+    found, left = set(), [first]
+    while left:
+        new = [it for it in parents.get(left.pop(), []) if it is not None and it not in found]
+        found.update(new)
+        left += new
+    return found
+
+
+def around(taxonomy, iri):
+    """The taxonomy of the classes above a class and some levels below it, or None where it is in no group."""
+    own = next((group for group in taxonomy.groups if iri in group.names), None)
+    if own is None:
+        return None
+    below, level, kept = groups_below(taxonomy), [own], {own.names[0]} | above(taxonomy, own.names[0])
+    for _ in range(LEVELS_BELOW):
+        level = [inner for group in level for inner in below.get(group.names[0], [])]
+        kept.update(it.names[0] for it in level)
+    groups = [it for it in taxonomy.groups if it.names[0] in kept]
+    return replaced(taxonomy, [type(it)(it.names, [up for up in it.parents if up in kept]) for it in groups])

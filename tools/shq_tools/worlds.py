@@ -1,4 +1,5 @@
 """What holds in a model."""
+from dataclasses import dataclass, field
 
 
 class World:
@@ -45,19 +46,51 @@ class World:
 def called(model, names):
     """What each thing of a model is called: its number, and the individuals that it is."""
     found = {it: [] for it in range(model.size)}
-    for individual, thing in model.individuals.items():
-        found[thing].append(names.of(individual))
+    for individual in names.shown(model.individuals):
+        found[model.individuals[individual]].append(names.of(individual))
     return {it: f"thing {it}" + f" ({', '.join(those)})" * bool(those) for it, those in found.items()}
 
 
-def things(model, names):
-    """Each thing of a model with the names of its classes, and where its roles lead: name of the role and things."""
-    classes = {it: [] for it in range(model.size)}
-    roles = {it: {} for it in range(model.size)}
-    for name, members in model.classes.items():
-        for thing in members:
-            classes[thing].append(names.of(name))
-    for role, pairs in model.roles.items():
+@dataclass
+class Thing:
+    """A thing of a model: its classes, those that the others do not lead to first, and where its roles lead."""
+
+    number: int
+    classes: list = field(default_factory=list)
+    classes_above: list = field(default_factory=list)
+    roles: dict = field(default_factory=dict)
+
+
+def things(model, names, told=None):
+    """Each thing of a model, with the names of its classes and roles. Where it is told which classes are above others,
+    these stand apart.
+    """
+    found = [Thing(it) for it in range(model.size)]
+    members = {it: [] for it in range(model.size)}
+    for name, numbers in model.classes.items():
+        for number in numbers:
+            members[number].append(name)
+    for thing in found:
+        own = names.shown(members[thing.number])
+        specific = told.most_specific(own) if told else own
+        thing.classes = list(map(names.of, specific))
+        thing.classes_above = [names.of(it) for it in own if it not in specific]
+    for role in names.shown(model.roles):
+        for one, other in model.roles[role]:
+            found[one].roles.setdefault(names.of(role), []).append(other)
+    return found
+
+
+def connected(model, numbers):
+    """The things that are connected with some things by roles, in either direction, these among them."""
+    beside = {}
+    for pairs in model.roles.values():
         for one, other in pairs:
-            roles[one].setdefault(names.of(role), []).append(other)
-    return [(it, sorted(classes[it], key=str.casefold), roles[it]) for it in range(model.size)]
+            beside.setdefault(one, set()).add(other)
+            beside.setdefault(other, set()).add(one)
+    found, left = set(numbers), list(numbers)
+    while left:
+        new = beside.get(left.pop(), set()) - found
+        found |= new
+        left += new
+    return found

@@ -13,7 +13,8 @@ from shq_tools.manchester import axiom_text, class_text
 from shq_tools.names import Names, labels_in
 from shq_tools.normal_forms import complement, facts, normal, row
 from shq_tools.places import EXAMPLES, TOOLS
-from shq_tools.reading_answers import ontology_from, query_of, read, reading_of, words_of
+from shq_tools.ontology_facts import ontology_from
+from shq_tools.reading_answers import query_of, read, reading_of, words_of
 from shq_tools.terms import TOP, Axiom
 from shq_tools.worlds import World
 from tests.program import needs_program, run_program
@@ -60,8 +61,8 @@ axiom 3 line 5 ClassAssertion(<http://e.org/B> <http://e.org/x>)
 REASONS_TOLD = """2 individuals are in the class:
 
 x, reason 1
-  1. axiom 1, line 3: A SubClassOf B
-  2. axiom 2, line 4: x Type A
+  1. axiom 2, line 4: x Type A
+  2. axiom 1, line 3: A SubClassOf B
 
 x, reason 2
   1. axiom 3, line 5: x Type B
@@ -163,7 +164,7 @@ def shown(text, labels=b"", *words):
 class PageReader(HTMLParser):
     """Checks that every element of a page is closed."""
 
-    EMPTY = {"meta", "br"}
+    EMPTY = {"meta", "br", "input"}
 
     def __init__(self):
         super().__init__()
@@ -178,7 +179,8 @@ class PageReader(HTMLParser):
         assert self.open.pop() == tag, tag
 
     def handle_data(self, data):
-        self.text.append(data)
+        if not {"style", "script"} & set(self.open):
+            self.text.append(data)
 
 
 def page_text(page):
@@ -227,7 +229,7 @@ class Naming(unittest.TestCase):
             b'AnnotationAssertion(:other :A "no") AnnotationAssertion(rdfs:label <http://e.org/B> "bee"^^xsd:string))'
         )
         self.assertEqual(labels, {E + "A": {"en": 'one "a" \\', "de-at": "ein A"}, E + "B": {"": "bee"}})
-        for language, name in (("", 'one "a" \\'), ("de", "ein A"), ("fr", 'one "a" \\'), ("DE-at", "ein A")):
+        for language, name in (("", 'one "a" \\'), ("de", "ein A"), ("fr", "A"), ("DE-at", "ein A")):
             self.assertEqual(Names(labels, language).of(E + "A"), name)
 
     def test_names_without_labels(self):
@@ -237,9 +239,39 @@ class Naming(unittest.TestCase):
             self.assertEqual(names.of(iri), name)
 
     def test_two_things_never_have_one_name(self):
-        names = Names({E + "A": {"": "same"}, E + "B": {"": "same"}, "http://f.org/B": {"": "same"}})
-        found = [names.of(it) for it in (E + "A", E + "B", "http://f.org/B", E + "A")]
-        self.assertEqual(found, ["same", "same (B)", "same (http://f.org/B)", "same"])
+        labels = {it: {"": "same"} for it in (E + "A", E + "B", "http://f.org/B")}
+        found = {E + "A": "same (A)", E + "B": f"same ({E}B)", "http://f.org/B": "same (http://f.org/B)"}
+        for asked in (list(labels), list(reversed(labels))):
+            names = Names(labels)
+            self.assertEqual({it: names.of(it) for it in asked}, found)
+
+    def test_a_name_does_not_depend_on_what_is_asked_first(self):
+        asked, known = ["http://f.org/B", E + "B"], [E + "B", "http://f.org/B"]
+        found = [{it: Names(known=known).of(it) for it in order} for order in (asked, asked[::-1])]
+        self.assertEqual(found[0], found[1])
+        self.assertEqual(found[0][E + "B"], f"B ({E}B)")
+
+    def test_names_are_in_one_language(self):
+        labels = {E + "A": {"de": "ein A", "en": "an A"}, E + "B": {"en": "a B"}, E + "C": {"de": "ein C"}}
+        labels[E + "D"] = {"en": "a D"}
+        self.assertEqual([Names(labels).of(E + it) for it in "ABD"], ["an A", "a B", "a D"])
+        self.assertEqual([Names(labels, "de").of(E + it) for it in "ABC"], ["ein A", "B", "ein C"])
+
+    def test_a_language_that_no_label_has_is_said(self):
+        labels = b'Ontology(AnnotationAssertion(rdfs:label <http://e.org/A> "a"@en))'
+        said, complaint, status = shown(INSTANCES, labels, "--language", "fr")
+        self.assertEqual(status, 0)
+        self.assertIn("no label is in the language fr; there are labels in en", complaint)
+
+    def test_numbers_in_names_are_sorted_by_size(self):
+        names = Names()
+        found = names.shown(E + it for it in ("Error10", "Error2", "error1", "Error", "Error02b"))
+        self.assertEqual([it.removeprefix(E) for it in found], ["Error", "error1", "Error2", "Error02b", "Error10"])
+
+    def test_names_of_their_own_form(self):
+        names = Names(written={E + "N": "{a}"}, left_out=[E + "N"])
+        self.assertEqual(class_text(("some", E + "r", ("name", E + "N")), names), "r some {a}")
+        self.assertEqual(names.shown([E + "N", E + "A"]), [E + "A"])
 
 
 class Manchester(unittest.TestCase):
@@ -364,16 +396,34 @@ class Shown(unittest.TestCase):
     def test_taxonomy(self):
         lines = shown(TAXONOMY)[0].splitlines()
         tree = ["Thing", "  A = B", "    C", "      F", "        G", "    D", "      F .."]
-        self.assertEqual(lines[2:4], ["Contradictory, so without any member:", "  N"])
-        self.assertEqual(lines[5:-2], tree)
+        self.assertEqual(lines[0], "1 of 7 classes is contradictory.")
+        self.assertEqual(lines[3:5], ["Contradictory, so without any member:", "  N"])
+        self.assertEqual(lines[6:-2], tree)
+
+    def test_headings_of_taxonomies(self):
+        cases = {
+            TAXONOMY.replace(" <http://e.org/N>", ""): "The ontology is consistent, and none of its 6 classes is",
+            "consistent\nnothing\nthing\nclass <A> under owl:Thing\n": "The ontology is consistent.",
+            "consistent\nnothing <A> <B>\nthing\n": "2 of 2 classes are contradictory.",
+            "inconsistent\n": "The ontology is contradictory as a whole",
+        }
+        for text, begins in cases.items():
+            self.assertTrue(shown(text)[0].startswith(begins), text)
+
+    def test_the_neighbourhood_of_a_class(self):
+        said, complaint, status = shown(TAXONOMY, b"Prefix(:=<http://e.org/>)\nOntology()", "--about", ":C")
+        self.assertEqual((complaint, status), ("", 0))
+        self.assertEqual(said.splitlines()[7:], ["  A = B", "    C", "      F", "        G"])
+        self.assertIn("no place in the hierarchy", shown(TAXONOMY, b"", "--about", f"<{E}X>")[1])
+        self.assertEqual(shown(LISTS, b"", "--about", f"<{E}A>")[2], 2)
 
     def test_individuals(self):
         cases = {
-            REALIZATION: ("The ontology is consistent.\n\n  x: A, B\n  z: in no named class\n", "<td>A, B</td>"),
+            REALIZATION: ("The ontology is consistent.\n\n  x: A, B\n  z: in no named class\n", f'<td><span title="{E}A">A</span>, <span title="{E}B">B</span></td>'),
             "consistent\n": ("The ontology is consistent.\n", "consistent."),
-            INSTANCES: ("2 individuals are in the class:\n\n  x\n  y\n", "<li>y</li>"),
+            INSTANCES: ("2 individuals are in the class:\n\n  x\n  y\n", f'<span title="{E}y">y</span></li>'),
             "instances 0\n": ("No individual is in the class.\n", "No individual"),
-            REASONS: (REASONS_TOLD, "<h2>x, reason 2</h2>\n<ol>\n<li>axiom 3, line 5: x Type B</li>"),
+            REASONS: (REASONS_TOLD, f'<h2><span title="{E}x">x</span>, reason 2</h2>\n<ol><li><span data-copy>'),
         }
         for text, (said, part) in cases.items():
             with self.subTest(text=text[:30]):
@@ -382,7 +432,9 @@ class Shown(unittest.TestCase):
                 self.assertEqual(shown(text, b"", "--dot")[2], 2)
 
     def test_scripts(self):
-        lines = ["axiom 3", "yes 1 3", "The statement is damaged: a prefix that is not declared.", "bad line", "no"]
+        lines = ["Axiom 3 is in from here on.", "It follows from axioms 1 and 3."]
+        lines += ["The statement is damaged: a prefix that is not declared.", "This is no line of a script."]
+        lines += ["It does not follow."]
         self.assertEqual(shown(SCRIPTED)[0].splitlines(), lines)
 
     def test_long_chains(self):
@@ -416,10 +468,11 @@ class Shown(unittest.TestCase):
         self.assertIn("Suppose there is a thing", shown(FACTS)[0])
 
     def test_individuals_of_a_world(self):
-        model = MODEL.replace("end", f"individual <{E}i> 1\nindividual <{E}j> 1\nend")
+        model = MODEL.replace("satisfiable", "not entailed")
+        model = model.replace("end", f"individual <{E}i> 1\nindividual <{E}j> 1\nend")
         said = shown(model, b"", "--query", f"ClassAssertion(<{E}A> <{E}j>)")[0]
         self.assertIn("  thing 1 (i, j): B (it shows that the statement fails)\n    r thing 1 (i, j)\n", said)
-        self.assertIn("<td>0</td>", shown(model, b"", "--html")[0])
+        self.assertIn("<th scope='row'>0</th>", shown(model, b"", "--html")[0])
 
     def test_two_that_are_one_and_different(self):
         ontology = b"Prefix(:=<http://e.org/>)\nOntology(\nSameIndividual(:i :j :k)\nDifferentIndividuals(:k :i)\n)\n"
@@ -461,12 +514,19 @@ class Shown(unittest.TestCase):
             "accepted entailed": "The certificate is right",
             "rejected axiom 5": "does not meet axiom 5",
             "workload 4": "workload 4",
+            "accepted audit": "The audit is right",
+            "rejected repair 2": "way to stop the statement 2",
         }
         for text, part in cases.items():
             self.assertIn(part, shown(text + "\n")[0])
 
     def test_no_answer(self):
         self.assertEqual(shown("")[2], 3)
+        for text in ("hello\n", "consistently\n", "yes\n", "undecided\nhello\n", "axiom x\n", "bad text thing line 3\n"):
+            with self.subTest(text=text):
+                said, complaint, status = shown(text)
+                self.assertEqual((said, status), ("", 3))
+                self.assertIn("no answer of the reasoner", complaint)
         self.assertEqual(shown(LISTS[:-60])[2], 3)
         self.assertEqual(shown(MODEL, b"", "--query", "SubClassOf(:A :B)")[2], 2)
         self.assertEqual(shown(LISTS, b"", "--dot")[2], 2)
@@ -498,7 +558,7 @@ class Pictures(unittest.TestCase):
     def test_names_are_escaped(self):
         labels = b'Ontology(AnnotationAssertion(rdfs:label <http://e.org/A> "<script>&"))'
         page = shown(TAXONOMY, labels, "--html")[0]
-        self.assertNotIn("<script>", page)
+        self.assertEqual(page.count("<script>"), 1)
         self.assertIn("&lt;script&gt;&amp;", page)
 
 
@@ -543,8 +603,7 @@ class WithProgram(unittest.TestCase):
             said, _ = run_program(["entails", statement], ANATOMY)
             reading = reading_of(words_of(["--query", statement]), said, ANATOMY)
             self.assertTrue(reading.story().is_sound)
-            prefixes, _, _ = ontology_from(ANATOMY)
-            sub, sup, _ = query_of(statement, prefixes)
+            sub, sup, _ = query_of(statement, ontology_from(ANATOMY).prefixes)
             allowed = {normal(sub), complement(sup), *normal(sub)[1:]}
             self.assertLessEqual(set(reading.story().supposed), allowed)
 

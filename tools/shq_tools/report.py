@@ -1,0 +1,213 @@
+"""All that a report says of an ontology, gathered by questions to the program."""
+from dataclasses import dataclass, field
+
+from shq_tools.answers import Plain, Realization, SetList, Taxonomy, answer
+from shq_tools.caveats import NO_CAVEAT, Caveat
+from shq_tools.cut import blanked
+from shq_tools.documents import walked
+from shq_tools.names import Names, labels_of
+from shq_tools.ontology_facts import Ontology, ontology_in
+from shq_tools.profile import counted
+from shq_tools.side_by_side import Deadline, Questions
+from shq_tools.survey import by_keyword, survey
+from shq_tools.terms import BOTTOM, TOP
+from shq_tools.told import links_between
+
+ALL_FALSE = "SubClassOf(owl:Thing owl:Nothing)"
+# One question may take so much of the time that there is for all reasons and repairs.
+MOST_OF_THE_TIME = 0.25
+
+
+@dataclass
+class Given:
+    """An ontology as the program is asked about it: its bytes, the ontology in them, and the names of things; of the
+    file its name, how many axioms it has, and what was left out, as the lines of each construct. The rest is as in a
+    `Reading`.
+    """
+
+    data: bytes
+    ontology: Ontology
+    names: Names
+    file: str = ""
+    axiom_count: int = 0
+    left_out: dict = field(default_factory=dict)
+    left_out_count: int = 0
+    originals: dict = field(default_factory=dict)
+    caveat: Caveat = NO_CAVEAT
+
+
+@dataclass
+class Explained:
+    """A statement with its reasons and its repairs, as far as they were found, or None where they were not asked for;
+    and the links of a contradictory class to others.
+    """
+
+    query: tuple
+    reasons: SetList = None
+    repairs: SetList = None
+    links: list = field(default_factory=list)
+    iri: str = ""
+    is_derived: bool = False
+
+    def used_links(self):
+        """The links that stand in a reason, where all reasons are known, else all of them."""
+        if self.reasons is None or self.reasons.is_partial:
+            return self.links
+        used = {number for one in self.reasons.sets for number in one}
+        return [it for it in self.links if it.axiom.number in used]
+
+
+@dataclass
+class Report:
+    """What was given, the answers to `classify` and `realize` (None where there are no individuals), and what is
+    contradictory: classes, those first whose contradiction comes from no other one, or the ontology as a whole.
+    """
+
+    given: Given
+    taxonomy: object
+    realization: object
+    explained: list
+    seconds: float
+
+    @property
+    def is_undecided(self):
+        return isinstance(self.taxonomy, Plain) and self.taxonomy.lines == ["undecided"]
+
+    @property
+    def refusal(self):
+        """Why the program did not classify the ontology, where that is no want of time, or nothing."""
+        return self.taxonomy.lines[0] if isinstance(self.taxonomy, Plain) and not self.is_undecided else ""
+
+    @property
+    def is_inconsistent(self):
+        return isinstance(self.taxonomy, Taxonomy) and not self.taxonomy.is_consistent
+
+    @property
+    def is_contradictory(self):
+        return bool(self.explained)
+
+    def is_cut_short(self):
+        """Whether some reasons or repairs were not found within the time."""
+        found = [it for one in self.explained for it in (one.reasons, one.repairs)]
+        return any(it is None or it.is_partial for it in found)
+
+
+def left_out_caveat(count, whole):
+    """What answers are worth where some axioms were left out."""
+    lines = (
+        f"{counted(count, 'axiom')} of {whole:,} {'is' if count == 1 else 'are'} outside of the language and "
+        f"{'was' if count == 1 else 'were'} left out.",
+        "What follows from the rest follows from the whole ontology too. What does not follow from the rest may still "
+        "follow from the whole one.",
+    )
+    return Caveat(lines) if count else NO_CAVEAT
+
+
+def given_of(data, file="", language=""):
+    """The ontology of a file, without what is outside of the language. Raises `Refused` where the program would refuse
+    what is left.
+    """
+    read, looked = survey(data)
+    outside = [it for it in looked if it.outside]
+    labels = labels_of(read.axiom_items, read.prefixes)
+    if outside:
+        pieces = [(it.item.start, it.item.end) for it in outside]
+        size = len(read.text[: read.end].encode("utf-8"))
+        data = blanked(read.text[: read.end], pieces).encode("utf-8") + data[size:]
+        ontology = ontology_in(data)
+    else:
+        axioms, listed = walked(read)
+        ontology = Ontology(read.prefixes, {it.number: it for it in axioms}, *map(list, listed.values()))
+    whole, left_out = sum(it.is_axiom for it in looked), sum(it.is_axiom for it in outside)
+    names = Names(labels, language, ontology.names)
+    caveat = left_out_caveat(left_out, whole)
+    return Given(data, ontology, names, file, whole, by_keyword(looked), left_out, caveat=caveat)
+
+
+def answered(text):
+    """The answer of a text, or that it is undecided where there is none."""
+    return answer(text or "undecided\n")
+
+
+def list_of(future):
+    """The list that was asked for, or None where there is none."""
+    found = answered(future.result())
+    return found if isinstance(found, SetList) else None
+
+
+def statement_on(iri):
+    """The statement that a class has no member."""
+    return f"SubClassOf(<{iri}> owl:Nothing)"
+
+
+def whole_first(links):
+    """Some classes by their links to others, those first that come from no other: a class has no link, or its links
+    never lead to one without. The second part are those that do.
+    """
+    back = {it: [] for it in links}
+    for iri, those in links.items():
+        for link in those:
+            back[link.target].append(iri)
+    left = [it for it in links if not links[it]]
+    reached = set(left)
+    derived = set()
+    while left:
+        new = [it for it in back[left.pop()] if it not in reached]
+        reached.update(new)
+        derived.update(new)
+        left += new
+    return [it for it in links if it not in derived], [it for it in links if it in derived]
+
+
+class Reporter:
+    """Gathers a report within some seconds for the taxonomy and the types, and as many for reasons and repairs."""
+
+    def __init__(self, given, questions, seconds):
+        self.given = given
+        self.questions = questions
+        self.seconds = seconds
+
+    def explained(self, statements):
+        """Reasons and repairs of some statements, each with its query, in this order as far as the time goes."""
+        deadline, most = Deadline(self.seconds), self.seconds * MOST_OF_THE_TIME
+        asked = []
+        for statement, _ in statements:
+            jobs = (self.questions.ask((job, statement), deadline, most) for job in ("explain", "repair"))
+            asked.append(tuple(jobs))
+        return [Explained(query, *map(list_of, jobs)) for (_, query), jobs in zip(statements, asked)]
+
+    def contradictory(self, taxonomy):
+        """The contradictory classes, explained, those first whose contradiction comes from no other one."""
+        names = self.given.names
+        links = links_between(self.given.ontology.axioms.values(), names.shown(taxonomy.nothing))
+        first, others = whole_first(links)
+        iris = [*first, *others]
+        found = self.explained([(statement_on(it), (("name", it), BOTTOM, None)) for it in iris])
+        for iri, one in zip(iris, found):
+            one.iri, one.links = iri, links[iri]
+        used = {one.iri: one.used_links() for one in found}
+        derived = set(whole_first(used)[1])
+        for one in found:
+            one.is_derived, one.links = one.iri in derived, used[one.iri]
+        return sorted(found, key=lambda it: it.is_derived)
+
+    def report(self):
+        deadline = Deadline(self.seconds)
+        has_individuals = bool(self.given.ontology.individuals)
+        classified = self.questions.ask(("classify",), deadline)
+        realized = self.questions.ask(("realize",), deadline) if has_individuals else None
+        taxonomy = answered(classified.result())
+        explained = []
+        if isinstance(taxonomy, Taxonomy) and not taxonomy.is_consistent:
+            explained = self.explained([(ALL_FALSE, (TOP, BOTTOM, None))])
+        elif isinstance(taxonomy, Taxonomy):
+            explained = self.contradictory(taxonomy)
+        realization = answered(realized.result()) if realized else None
+        realization = realization if isinstance(realization, (Realization, Plain)) else None
+        return Report(self.given, taxonomy, realization, explained, self.seconds)
+
+
+def report_on(given, seconds, at_once=None):
+    """The report on an ontology, with so many questions at once."""
+    with Questions(given.data, at_once) as questions:
+        return Reporter(given, questions, seconds).report()

@@ -1,0 +1,98 @@
+"""The sentences of a report, for a page and for a pull request."""
+from shq_tools.keywords import ANONYMOUS, NOT_SIMPLE
+from shq_tools.profile import NOTES, lines_text
+from shq_tools.reading import Reading
+from shq_tools.wording import counted, verdict
+
+# Of longer lists the first ones are shown.
+MOST_SETS = 25
+# Classes whose contradiction comes from others are told apart by this rule.
+RULE = (
+    "First come the classes whose contradiction comes from no other one. A class comes from another contradictory class "
+    "where an axiom makes each of its members a member of that class, or leads from it to one, and that axiom stands in "
+    "one of its reasons."
+)
+OUTSIDE_NAMES = {ANONYMOUS: "an individual without a name of its own", NOT_SIMPLE: "a number over a transitive role"}
+NO_CLASS = "No class is contradictory: each can have a member."
+ANY_ONE = "Without any one of these axioms there is no contradiction."
+NOT_ASKED = "There was no time to ask for its reasons."
+
+
+def reading_for(given, answer, query=None):
+    """An answer with all that is known of the ontology."""
+    how = {"file": given.file, "originals": given.originals, "caveat": given.caveat}
+    return Reading(answer, given.names, given.ontology, query, is_asked=query is not None, **how)
+
+
+def seconds_text(report):
+    return f"{report.seconds:g} second{'' if report.seconds == 1 else 's'}"
+
+
+def verdict_of(report):
+    """What a report says in one sentence."""
+    if report.is_undecided:
+        return f"Not decided within {seconds_text(report)}."
+    return reading_for(report.given, report.taxonomy).heading()
+
+
+def title_of(report):
+    """The same with the file, in one line."""
+    said = verdict_of(report).rstrip(".")
+    return f"{report.given.file}: {said[0].lower()}{said[1:]}" if report.given.file else said
+
+
+def facts_of(report):
+    """What there is, as pairs of a word and a number."""
+    counts = report.given.ontology.counts()
+    whole = report.given.axiom_count
+    rows = [("axioms in the file", whole), ("axioms read", counts["axiom"])]
+    rows += [("classes", counts["class"]), ("roles", counts["role"]), ("individuals", counts["individual"])]
+    return rows
+
+
+def left_out_rows(report):
+    """What was left out: the construct, how often, on which lines, and a note where one is needed."""
+    rows = []
+    for what, lines in report.given.left_out.items():
+        note = OUTSIDE_NAMES.get(what) or NOTES.get(what, "")
+        rows.append((what, len(lines), lines_text(lines), note))
+    return rows
+
+
+def caveat_behind(report):
+    """What the verdict on the whole is worth, as sentences."""
+    return report.given.caveat.behind(verdict(report.taxonomy))
+
+
+def is_plain_choice(one):
+    """Whether there is one reason, of which each axiom may go by itself."""
+    if one.reasons is None or one.repairs is None or one.reasons.is_partial or one.repairs.is_partial:
+        return False
+    return len(one.reasons.sets) == 1 and [[it] for it in one.reasons.sets[0]] == one.repairs.sets
+
+
+def command_for(job, report, iri):
+    """The command that prints a whole list."""
+    return f"./shq {job} 'SubClassOf(<{iri}> owl:Nothing)' {report.given.file or 'FILE'}"
+
+
+def cut_short_text(report):
+    """That some lists are not whole, and what to do."""
+    return (
+        f"Some reasons or ways to stop a contradiction were not found within {seconds_text(report)}; the places say "
+        f"so. --seconds allows more."
+    )
+
+
+def found_text(one):
+    """How many reasons and repairs there are, as far as it is known."""
+    parts = []
+    for found, what in ((one.reasons, "reason"), (one.repairs, "way to stop it")):
+        if found is not None:
+            count = counted(len(found.sets), what) if what == "reason" else ways_text(len(found.sets))
+            parts.append(f"{count} so far" if found.is_partial else count)
+    return ", ".join(parts) or "not explained"
+
+
+def ways_text(count):
+    return "1 way to stop it" if count == 1 else f"{count:,} ways to stop it"
