@@ -1,0 +1,91 @@
+package jezundwa.owlapi;
+
+import java.io.File;
+import java.io.IOException;
+import java.nio.file.Files;
+import java.nio.file.Path;
+import java.util.ArrayList;
+import java.util.HashSet;
+import java.util.List;
+import java.util.Set;
+import java.util.concurrent.TimeUnit;
+import org.semanticweb.owlapi.apibinding.OWLManager;
+import org.semanticweb.owlapi.formats.FunctionalSyntaxDocumentFormat;
+import org.semanticweb.owlapi.model.IRI;
+import org.semanticweb.owlapi.model.OWLAxiom;
+import org.semanticweb.owlapi.model.OWLClass;
+import org.semanticweb.owlapi.model.OWLDataFactory;
+import org.semanticweb.owlapi.model.OWLEquivalentClassesAxiom;
+import org.semanticweb.owlapi.model.OWLException;
+import org.semanticweb.owlapi.model.OWLOntology;
+
+/**
+ * Another reasoner, of Debian's package konclude. Each axiom is asked about by a class of its own, defined so that it
+ * can have a member just where the axiom may fail; one classification tells of all of them.
+ */
+final class Konclude {
+    private static final long LONGEST = 60;
+    private static final OWLDataFactory FACTORY = OWLManager.getOWLDataFactory();
+
+    private Konclude() {}
+
+    static boolean isHere() {
+        return new File("/usr/bin/Konclude").canExecute();
+    }
+
+    /** Whether each axiom is entailed; null where the ontology is inconsistent. */
+    static List<Boolean> entailed(OWLOntology ontology, List<OWLAxiom> axioms) {
+        Set<OWLAxiom> all = new HashSet<>(ontology.getAxioms());
+        ontology.getImportsClosure().forEach(imported -> all.addAll(imported.getAxioms()));
+        List<OWLClass> failures = new ArrayList<>();
+        for (int at = 0; at < axioms.size(); at++) {
+            OWLClass failure = FACTORY.getOWLClass(IRI.create("urn:failure#" + at));
+            failures.add(failure);
+            all.add(FACTORY.getOWLEquivalentClassesAxiom(failure, axioms.get(at).accept(new FailureClass(FACTORY, at))));
+        }
+        Set<OWLClass> contradictory = contradictory(Ontologies.of(all));
+        if (contradictory.contains(FACTORY.getOWLThing())) {
+            return null;
+        }
+        return failures.stream().map(contradictory::contains).toList();
+    }
+
+    /** The classes that Konclude calls equal to Nothing; Thing is among them where the ontology is inconsistent. */
+    static Set<OWLClass> contradictory(OWLOntology ontology) {
+        Set<OWLClass> found = new HashSet<>();
+        for (OWLAxiom axiom : classified(ontology).getLogicalAxioms()) {
+            if (axiom instanceof OWLEquivalentClassesAxiom equal && equal.contains(FACTORY.getOWLNothing())) {
+                found.addAll(equal.getNamedClasses());
+                if (equal.contains(FACTORY.getOWLThing())) {
+                    found.add(FACTORY.getOWLThing());
+                }
+            }
+        }
+        return found;
+    }
+
+    /** The hierarchy as Konclude writes it. One worker alone was seen to wait for ever, so there are two. */
+    static OWLOntology classified(OWLOntology ontology) {
+        try {
+            Path folder = Files.createTempDirectory("konclude");
+            Path input = folder.resolve("input.ofn");
+            Path output = folder.resolve("output.owl");
+            ontology.getOWLOntologyManager().saveOntology(ontology, new FunctionalSyntaxDocumentFormat(),
+                IRI.create(input.toUri()));
+            Process process = new ProcessBuilder("/usr/bin/Konclude", "classification", "-w", "2", "-i",
+                input.toString(), "-o", output.toString()).redirectErrorStream(true)
+                .redirectOutput(ProcessBuilder.Redirect.DISCARD).start();
+            if (!process.waitFor(LONGEST, TimeUnit.SECONDS)) {
+                process.destroyForcibly();
+                throw new IllegalStateException("Konclude gave no answer on " + input);
+            }
+            OWLOntology answer = OWLManager.createOWLOntologyManager().loadOntologyFromOntologyDocument(output.toFile());
+            Files.delete(input);
+            Files.delete(output);
+            Files.delete(folder);
+            return answer;
+        } catch (IOException | InterruptedException | OWLException fault) {
+            throw new IllegalStateException(fault);
+        }
+    }
+}
