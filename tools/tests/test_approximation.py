@@ -221,6 +221,90 @@ class Rows(RowsTest):
         self.assert_rows(axioms, [["Transitive: r"], ["A SubClassOf r some B"]], Loss.COUNTED)
 
 
+class FullRowsTest(RowsTest):
+    """Rows of the full form."""
+
+    def assert_full(self, axioms, rows, *losses):
+        self.assert_rows(axioms, rows, *losses, strength=Strength.FULL)
+
+    def test_a_chain_into_another_role(self):
+        axioms = [
+            "SubObjectPropertyOf(ObjectPropertyChain(:s :t) :r)",
+            "SubClassOf(:A ObjectAllValuesFrom(:r :B))",
+            "SubClassOf(ObjectSomeValuesFrom(:r :C) :D)",
+        ]
+        rows = [
+            ["(r only B) SubClassOf s only (t only B)", "s some (t some C) SubClassOf (r some C)"],
+            ["A SubClassOf (r only B)", "(r only B) SubClassOf r only B"],
+            ["(r some C) SubClassOf D", "r some C SubClassOf (r some C)"],
+        ]
+        self.assert_full(axioms, rows)
+
+    def test_a_chain_that_begins_with_its_role(self):
+        axioms = ["SubObjectPropertyOf(ObjectPropertyChain(:r :s) :r)", "SubClassOf(:A ObjectAllValuesFrom(:r :B))"]
+        led_to = "(inverse (r) some (r only B))"
+        rows = [
+            [f"{led_to} SubClassOf s only {led_to}"],
+            ["A SubClassOf (r only B)", f"(r only B) SubClassOf r only {led_to}", f"{led_to} SubClassOf B"],
+        ]
+        self.assert_full(axioms, rows)
+
+    def test_a_chain_that_ends_with_its_role(self):
+        axioms = ["SubObjectPropertyOf(ObjectPropertyChain(:s :r) :r)", "SubClassOf(ObjectSomeValuesFrom(:r :B) :A)"]
+        rows = [
+            ["s some (r some B) SubClassOf (r some B)"],
+            ["(r some B) SubClassOf A", "r some B SubClassOf (r some B)"],
+        ]
+        self.assert_full(axioms, rows)
+
+    def test_a_chain_into_a_role_below(self):
+        axioms = [
+            "SubObjectPropertyOf(:r :u)",
+            "SubObjectPropertyOf(ObjectPropertyChain(:s :t) :r)",
+            "SubClassOf(:A ObjectAllValuesFrom(:u :B))",
+        ]
+        rows = [
+            ["r SubPropertyOf u", "(u only B) SubClassOf (r only B)"],
+            ["(r only B) SubClassOf s only (t only B)"],
+            ["A SubClassOf (u only B)", "(u only B) SubClassOf u only B", "(r only B) SubClassOf r only B"],
+        ]
+        self.assert_full(axioms, rows)
+
+    def test_chains_in_no_regular_order_are_left_out(self):
+        axioms = ["SubObjectPropertyOf(ObjectPropertyChain(:s :r :s) :r)", "SubClassOf(:A ObjectAllValuesFrom(:r :B))"]
+        self.assert_full(axioms, [[], ["A SubClassOf r only B"]], Loss.CHAIN_IN_FULL)
+
+    def test_inverses(self):
+        axioms = [
+            "InverseObjectProperties(:r :s)",
+            "SubClassOf(:A ObjectAllValuesFrom(:r :B))",
+            "SubClassOf(ObjectSomeValuesFrom(:r :C) :D)",
+        ]
+        rows = [
+            ["inverse (r) EquivalentTo s", "r EquivalentTo inverse (s)"],
+            ["A SubClassOf (r only B)", "(r only B) SubClassOf r only B", "inverse (r) some (r only B) SubClassOf B"],
+            ["(r some C) SubClassOf D", "r some C SubClassOf (r some C)", "C SubClassOf inverse (r) only (r some C)"],
+        ]
+        self.assert_full(axioms, rows)
+
+    def test_transitive_roles_with_inverses(self):
+        axioms = ["TransitiveObjectProperty(:r)", "SubClassOf(:A ObjectAllValuesFrom(ObjectInverseOf(:r) :B))"]
+        rows = [
+            [
+                "Transitive: r",
+                "Transitive: inverse (r)",
+                "(inverse (r) only B) SubClassOf inverse (r) only (inverse (r) only B)",
+                "r some (inverse (r) only B) SubClassOf (inverse (r) only B)",
+            ],
+            [
+                "A SubClassOf (inverse (r) only B)",
+                "(inverse (r) only B) SubClassOf inverse (r) only B",
+                "r some (inverse (r) only B) SubClassOf B",
+            ],
+        ]
+        self.assert_full(axioms, rows, Loss.INVERSE_IN_FULL)
+
+
 def integers(facet, number):
     return f'DatatypeRestriction(xsd:integer xsd:{facet} "{number}"^^xsd:integer)'
 

@@ -4,6 +4,7 @@ import random
 import unittest
 
 from shq_tools.approximation.text import approximation
+from shq_tools.approximation.translation import Strength
 from shq_tools.documents import axioms_of, document
 from tests import owl_grammar
 from tests.owl_worlds import chosen_values, worlds_of
@@ -42,17 +43,24 @@ def wrong_rows(found, size, seed):
 
 
 class SmallWorlds(unittest.TestCase):
-    def test_random_ontologies(self):
+    def assert_follow(self, strength, seeds):
+        """Each row follows, in interpretations of up to three elements; and many of these meet the files."""
         met = 0
-        for seed in range(COUNT):
+        for seed in seeds:
             text = owl_grammar.ontology(seed)
-            found = approximation(text.encode("utf-8"))
+            found = approximation(text.encode("utf-8"), strength)
             for size in (1, 2, 3):
                 wrong, meeting = wrong_rows(found, size, seed)
                 met += meeting > 0
                 self.assertEqual(wrong, [], f"seed {seed}, {size} elements\n{text}")
-        # a test of rows that no interpretation can break would say nothing
-        self.assertGreater(met, COUNT)
+        # rows that no interpretation could break would say nothing
+        self.assertGreater(met, len(seeds))
+
+    def test_light_form(self):
+        self.assert_follow(Strength.LIGHT, range(COUNT))
+
+    def test_full_form(self):
+        self.assert_follow(Strength.FULL, range(COUNT, 2 * COUNT))
 
 
 if __name__ == "__main__":

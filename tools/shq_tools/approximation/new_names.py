@@ -1,7 +1,7 @@
 """New names: the IRI of each tells what it means.
 
 A new name is the beginning below and then an OWL 2 expression in functional-style syntax, or an individual without a
-name, in which what may not stand in an IRI is written as a percent sign and two digits. A new class is the class
+name, in which what may not stand in an IRI (RFC 3987) is written as a percent sign and two digits. A new class is the class
 expression; a new role is the inverse of a role; a new individual is one without a name.
 """
 import re
@@ -16,7 +16,7 @@ from shq_tools.trees import trees
 
 BEGINNING = "urn:owl2-as-shq:"
 FORM = re.compile(r"urn:owl2-as-shq(?:-\d+)?:(?P<definition>.*)", re.S)
-NOT_IN_AN_IRI = re.compile(r'[\x00-\x20\x7f<>"%]')
+NOT_IN_AN_IRI = re.compile(r'[\x00-\x20\x7f<>"%\\^`{|}]')
 
 
 def quoted(text):
@@ -64,11 +64,13 @@ class NewNames:
             number += 1
             self.beginning = f"urn:owl2-as-shq-{number}:"
         self.classes = {}
+        self.meanings = {}
 
     def class_name(self, expression):
         """The new class that is a class expression, as an expression."""
         if expression not in self.classes:
             self.classes[expression] = ("name", self.beginning + quoted(class_text(expression)))
+            self.meanings[self.classes[expression]] = expression
         return self.classes[expression]
 
     def inverse(self, role):

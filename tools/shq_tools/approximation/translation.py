@@ -14,11 +14,12 @@ from shq_tools.approximation import (
 )
 from shq_tools.approximation.bounds import Bounds
 from shq_tools.approximation.data_classes import DataClasses
+from shq_tools.approximation.full import FullRows, Roles
 from shq_tools.approximation.inverse_roles import RoleNames, roles_with_inverses
 from shq_tools.approximation.losses import Loss, Losses
 from shq_tools.approximation.new_names import NewNames
 from shq_tools.approximation.nominals import Nominals
-from shq_tools.approximation.owl import UNTRANSLATED, OwlAxiom
+from shq_tools.approximation.owl import UNTRANSLATED, OwlAxiom, inverse
 from shq_tools.approximation.role_axioms import inclusions
 from shq_tools.approximation.selves import Selves
 from shq_tools.keywords import NUMBERED
@@ -46,6 +47,16 @@ CLASS_AXIOMS = {
     "NegativeObjectPropertyAssertion": nominals.of_no_pair,
     "FunctionalObjectProperty": role_axioms.of_functional,
     "InverseFunctionalObjectProperty": role_axioms.of_inverse_functional,
+}
+PLAIN_FEATURES = (PLAIN | {"inverse", "single"}) - NUMBERS
+PLAIN_WITH_INVERSES = {
+    "SubClassOf",
+    "EquivalentClasses",
+    "DisjointClasses",
+    "DisjointUnion",
+    "ObjectPropertyDomain",
+    "ObjectPropertyRange",
+    "InverseObjectProperties",
 }
 ABOUT_LOOPS = [
     "ReflexiveObjectProperty",
@@ -86,8 +97,9 @@ def source_of(axiom, features):
 class Context:
     """What the rows of the translation share: the names, the bounds, what is lost, and the axiom at which they are."""
 
-    def __init__(self, sources, iris):
+    def __init__(self, sources, iris, strength):
         self.sources = sources
+        self.strength = strength
         self.place = 0
         self.names = NewNames(iris)
         self.losses = Losses()
@@ -99,6 +111,8 @@ class Context:
         self.not_simple = set()
 
     def lose(self, loss):
+        if loss == Loss.INVERSE and self.strength == Strength.FULL:
+            loss = Loss.INVERSE_IN_FULL
         self.losses.add(loss, self.sources[self.place].axiom.line)
 
     def define(self, axiom):
@@ -108,6 +122,23 @@ class Context:
     def define_at(self, place, axiom):
         source = self.sources[place]
         source.written.append(replace(axiom, line=source.axiom.line))
+
+    def meaning(self, of):
+        """A class expression of the language without new names: what these mean stands in their places."""
+        if of[0] == "name":
+            return self.names.meanings.get(of, of)
+        return tuple(self.meaning_of_part(it) for it in of)
+
+    def meaning_of_part(self, part):
+        if isinstance(part, str):
+            return self.roles.meaning(part)
+        if not isinstance(part, tuple) or not part:
+            return part
+        return self.meaning(part) if isinstance(part[0], str) else tuple(map(self.meaning, part))
+
+    def roles_back(self, role):
+        """The inverse of a role of the language, as one of OWL 2."""
+        return inverse(self.roles.meaning(role))
 
     def individual(self, name):
         if name.startswith("_:"):
@@ -121,7 +152,7 @@ class Translator:
     def __init__(self, sources, iris, strength=Strength.LIGHT):
         self.sources = sources
         self.strength = strength
-        self.context = Context(sources, iris)
+        self.context = Context(sources, iris, strength)
         self.by_keyword = defaultdict(list)
         # the rows written by steps that are repeated, each with its place
         self.seen = set()
@@ -156,6 +187,8 @@ class Translator:
         self.translate_loops()
         self.translate_individuals()
         self.translate_data()
+        if self.strength == Strength.FULL:
+            self.translate_in_full()
         return self.context
 
     def leave_out(self):
@@ -176,7 +209,8 @@ class Translator:
                 for axiom in source.says or ():
                     spoken_of |= role_axioms.spoken_of(axiom)
         asserted = {it.items[0] for it in self.of("ObjectPropertyAssertion")}
-        context.roles.need(roles_with_inverses(spoken_of, pairs, asserted))
+        chains = [it for it in self.of("SubObjectPropertyOf") if self.strength == Strength.FULL and is_chain(it)]
+        context.roles.need(roles_with_inverses(spoken_of, pairs, asserted, chains))
         for axiom in self.of(*ROLE_AXIOMS):
             if axiom.keyword == "SubObjectPropertyOf" and is_chain(axiom):
                 self.translate_chain(axiom)
@@ -192,7 +226,7 @@ class Translator:
     def translate_chain(self, axiom):
         if role_axioms.is_transitivity(axiom):
             self.write(role_axioms.of_chain(self.context, axiom))
-        else:
+        elif self.strength == Strength.LIGHT:
             self.context.lose(Loss.CHAIN)
 
     def is_plain(self, source):
@@ -292,6 +326,45 @@ class Translator:
         for axiom in self.of("DisjointDataProperties"):
             self.write(data_classes.of_disjoint(context, axiom))
         context.data.split()
+
+    def rows_at(self, place):
+        """The axioms of the language that stand at a place."""
+        source = self.sources[place]
+        own = [Axiom(source.axiom.keyword, source.axiom.items, source.axiom.line)] if source.stays else []
+        return own + source.written
+
+    def translate_in_full(self):
+        """Writes what chains and inverses say of the class expressions that stand there by now."""
+        context = self.context
+        roles = Roles(self)
+        full = FullRows(context, roles)
+        for place, rows in [(it, self.rows_at(it)) for it in range(len(self.sources))]:
+            context.place = place
+            source = self.sources[place]
+            source.written = source.written[len(rows) - source.stays :]
+            found = [full.rewritten(it) for it in rows]
+            changed = source.stays and found[0] is not None
+            source.written = source.written + [
+                row for at, (given, new) in enumerate(zip(rows, found)) for row in self.kept(source, at, given, new)
+            ]
+            source.stays = source.stays and not changed
+        if self.has_plain_inverses():
+            context.losses.lines.pop(Loss.INVERSE_IN_FULL, None)
+        for axiom in self.of("SubObjectPropertyOf"):
+            if is_chain(axiom) and (full.is_cut_off or context.place in roles.irregular):
+                context.lose(Loss.CHAIN_IN_FULL)
+
+    def has_plain_inverses(self):
+        """Whether the file has inverses, and besides nothing but plain axioms on classes. Of such files it is known that
+        the rows on inverses lose nothing (Ding, Haarslev, Wu, "A new mapping from ALCI to ALC", 2007).
+        """
+        return all(it.axiom.keyword in PLAIN_WITH_INVERSES and it.features <= PLAIN_FEATURES for it in self.sources)
+
+    def kept(self, source, at, given, new):
+        """What is written for a row: nothing for the axiom itself where it stays."""
+        if new is not None:
+            return new
+        return [] if at == 0 and source.stays else [given]
 
     def classes_of_inclusions(self):
         for axiom in self.of("SubDataPropertyOf", "EquivalentDataProperties"):
