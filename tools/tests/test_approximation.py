@@ -1,29 +1,33 @@
 """The rows of the translation from OWL 2, each with what was worked out by hand."""
 import unittest
 
-from shq_tools.approximation.display import shown_names
+from shq_tools.approximation.display import shown
 from shq_tools.approximation.losses import Loss
 from shq_tools.approximation.text import approximation
 from shq_tools.approximation.translation import Strength
 from shq_tools.documents import axioms_of, document
 from shq_tools.manchester import axiom_text
+from shq_tools.names import Names
 from tests.owl_grammar import document as ontology
 
 
-class ShownNames:
-    """Names for tests: the end of the IRI, and of new ones what they mean."""
+class ShownNames(Names):
+    """Names for tests: the end of the IRI, and of new ones what they mean; none in quotation marks."""
 
     def of(self, iri):
-        return shown_names([iri], self).get(iri) or iri.rpartition("/")[2]
+        return shown(iri, self) or iri.rpartition("/")[2]
+
+    def has_own_form(self, iri):
+        return True
 
 
 def rows_of(*axioms, strength=Strength.LIGHT):
-    """What each axiom of a document becomes, in Manchester syntax without quotation marks, sorted; and the losses."""
+    """What each axiom of a document becomes, in Manchester syntax, sorted; and the losses."""
     found = approximation(ontology(axioms).encode("utf-8"), strength)
     first_line = ontology(["HERE"]).split("\n").index("HERE") + 1
     rows = [[] for _ in axioms]
     for axiom in axioms_of(document(found.data)):
-        rows[axiom.line - first_line].append(axiom_text(axiom, ShownNames()).replace("'", ""))
+        rows[axiom.line - first_line].append(axiom_text(axiom, ShownNames()))
     return [sorted(it) for it in rows], set(found.losses.lines)
 
 
