@@ -134,6 +134,26 @@ REPORT_OPTIONS = (
     Option("--fail-on", "contradictory", "end with 1 where something is contradictory"),
 )
 
+AT_ONCE = Option("-j", "N", "so many questions at once; as many as there are processors without it")
+EACH_SECONDS = Option("--seconds", "N", "allow so many seconds (60 without it) for each question")
+VERIFY_OPTIONS = (
+    EACH_SECONDS,
+    AT_ONCE,
+    Option("--junit", "REPORT", "write what came of each check to this file too, in the form of JUnit"),
+    Option("--any-names", "", "ask also about names that the file does not have"),
+    LANGUAGE,
+    APPROXIMATE,
+)
+
+DIFF_OPTIONS = (
+    EACH_SECONDS,
+    AT_ONCE,
+    Option("--all", "", "tell also what follows from the rest of what came or went"),
+    Option("--reasons", "N", "tell a reason for the first N statements that came (20 without it)"),
+    LANGUAGE,
+    APPROXIMATE,
+)
+
 TOOLS = (
     Command("profile", "lists all that is outside of the language", runner="shq_tools.profile:main",
             needs_program=False),
@@ -146,6 +166,10 @@ TOOLS = (
             runner="shq_tools.converting:main", needs_program=False),
     Command("report", "one page on a whole ontology: what is contradictory and why, the hierarchy, individuals",
             options=REPORT_OPTIONS, runner="shq_tools.report_command:main"),
+    Command("verify", "asks whether each check of a file holds: what must follow, and what must not", ("FILE", "CHECKS"),
+            files=(), options=VERIFY_OPTIONS, runner="shq_tools.verify:main"),
+    Command("diff", "tells what follows from NEW and not from OLD, and the other way round", ("OLD", "NEW"),
+            files=(), options=DIFF_OPTIONS, runner="shq_tools.diff:main"),
     Command("read", "shows an answer for people", options=READ_OPTIONS, runner="shq_tools.reading_answers:main",
             needs_program=False),
 )

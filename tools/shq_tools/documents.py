@@ -90,12 +90,6 @@ def ontology_of(read):
     return axioms, list(names["individuals"])
 
 
-def names_of(read):
-    """The names of a document by kind, and how many axioms it has. Raises `Refused` where the reasoner refuses it."""
-    axioms, names = walked(read)
-    return names, len(axioms)
-
-
 def axioms_of(read):
     """The numbered axioms of a document. Raises `Refused` where the reasoner refuses it."""
     return ontology_of(read)[0]

@@ -139,13 +139,19 @@ def put_by_people(text, slot, vocabulary):
     return Put(axiom_text(found.asked, vocabulary.written), added, tuple(missing))
 
 
+def put_clearly(text, slot, vocabulary):
+    """A question as the program gets it. Raises `Unclear`, `UnknownName` and `NotAsked`."""
+    found = put_plainly(text, slot, vocabulary) or put_by_people(text, slot, vocabulary)
+    is_long = len(found.text.encode("utf-8", "surrogateescape")) > MOST_WORD
+    return defined(found, slot, vocabulary) if is_long else found
+
+
 def put(text, slot, vocabulary):
-    """A question as the program gets it. Raises `Unprepared` where that is not clear."""
-    found = put_plainly(text, slot, vocabulary)
-    if found:
-        return found
+    """A question as the program gets it: also one that is damaged, for the program to refuse. Raises `Unprepared` where
+    it is not clear which things its names stand for.
+    """
     try:
-        found = put_by_people(text, slot, vocabulary)
+        return put_clearly(text, slot, vocabulary)
     except UnknownName as fault:
         raise Unprepared(str(fault), Status.UNKNOWN_NAME) from fault
     except NotAsked as fault:
@@ -153,7 +159,6 @@ def put(text, slot, vocabulary):
     except Unclear as fault:
         say(f"the question cannot be read: {fault}")
         return Put(text)
-    return found
 
 
 def asked_of_defined(asked, name):
@@ -205,8 +210,6 @@ def prepared(question, source, _):
     found = put(text, slot, vocabulary)
     if is_strict and found.complaints:
         raise Unprepared("\nshq: ".join(found.complaints), Status.UNKNOWN_NAME)
-    if len(found.text.encode("utf-8", "surrogateescape")) > MOST_WORD:
-        found = defined(found, slot, vocabulary)
     tell(found, text)
     if not found.added:
         return replace(plain, words=(plain.words[0], found.text, *plain.words[2:])), source

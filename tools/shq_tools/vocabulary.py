@@ -2,7 +2,7 @@
 import difflib
 from dataclasses import dataclass, field
 
-from shq_tools.documents import document, names_of
+from shq_tools.documents import document, walked
 from shq_tools.keywords import NOTHING, THING
 from shq_tools.names import end_of_iri, label_in
 from shq_tools.prefixes import Prefixes
@@ -17,12 +17,18 @@ def one_line(text):
 
 @dataclass
 class Vocabulary:
-    """The names of an ontology by kind (`classes`, `roles` and `individuals`), their labels, and its prefixes."""
+    """The names of an ontology by kind (`classes`, `roles` and `individuals`), their labels, its prefixes, and its
+    numbered axioms in order.
+    """
 
     prefixes: Prefixes
     names: dict
     labels: dict = field(default_factory=dict)
-    axiom_count: int = 0
+    axioms: list = field(default_factory=list)
+
+    @property
+    def axiom_count(self):
+        return len(self.axioms)
 
     def has(self, kind, iri):
         return iri in self.names[kind] or kind == "classes" and iri in (THING, NOTHING)
@@ -61,7 +67,7 @@ class Vocabulary:
             for name in (end_of_iri(iri), *self.labels_of(iri)):
                 by_name.setdefault(name.casefold(), iri)
         wanted = end_of_iri(one_line(text)).casefold()
-        found = difflib.get_close_matches(wanted, by_name, n=2 * NEAREST, cutoff=0.7)
+        found = difflib.get_close_matches(wanted, by_name, n=2 * NEAREST, cutoff=0.6)
         return list(dict.fromkeys(by_name[it] for it in found))[:NEAREST]
 
     def other_kind(self, kind, iri):
@@ -96,5 +102,5 @@ def labels_among(items, prefixes):
 def vocabulary_of(data):
     """The vocabulary of a document. Raises `Refused` where the reasoner refuses it."""
     read = document(data)
-    names, axiom_count = names_of(read)
-    return Vocabulary(read.prefixes, names, labels_among(read.axiom_items, read.prefixes), axiom_count)
+    axioms, names = walked(read)
+    return Vocabulary(read.prefixes, names, labels_among(read.axiom_items, read.prefixes), axioms)

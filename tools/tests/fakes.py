@@ -46,6 +46,12 @@ def command_of(program, words):
         yield [sys.executable, "-Bc", CALL, str(path), *map(str, words)]
 
 
+def run(command, data=b""):
+    """What a command prints, says besides and ends with."""
+    ran = subprocess.run(list(map(str, command)), input=data, capture_output=True, check=False)
+    return ran.stdout.decode("utf-8"), ran.stderr.decode("utf-8"), ran.returncode
+
+
 def shq(*words, data=b"", program=TOLD, **environment):
     """What ./shq prints, says besides and ends with, over a program with this text."""
     environment = {**os.environ, **{name: str(value) for name, value in environment.items()}}
