@@ -12,10 +12,7 @@ GROWTH = 8
 SECONDS = 60
 # What is known where no run has ended, by job; of the others it is UNDECIDED.
 UNDECIDED = b"undecided\n"
-NOTHING_FOUND = {
-    "explain": b"partial justifications 0\nundecided\n",
-    "repair": b"partial repairs 0\nundecided\n",
-}
+NOTHING_FOUND = {"explain": b"partial justifications 0\nundecided\n", "repair": b"partial repairs 0\nundecided\n"}
 
 
 def budgets():

@@ -76,18 +76,25 @@ def called(place):
 BUDGET = Option("--budget", "STEPS", "allow so many steps of search, from 1 to 4,294,967,295")
 SECONDS = Option("--seconds", "N", "allow so many seconds (60 without it), with budgets that grow; not with --budget")
 
-APPROXIMATE = Option("--approximate", "full", "translate what is outside of the language first, and say what is lost",
-                     may_lack_value=True, prepares="shq_tools.approximation.command:prepared")
+APPROXIMATE = Option(
+    "--approximate",
+    "full",
+    "translate what is outside of the language first, and say what is lost",
+    may_lack_value=True,
+    prepares="shq_tools.approximation.command:prepared",
+)
 STRICT = Option("--strict", "", "end with status 10 where the file does not have a name of the question")
 
 TIMED = (BUDGET, SECONDS)
 JSON = Option("--json", "", "the answer as one object of JSON, of the form of docs/answer.schema.json")
-LANGUAGE = Option("--language", "TAG", "the language of the names in that object, as en")
+LANGUAGE = Option("--language", "TAG", "the language of the names in that object or page, as en")
 FAIL_ON = Option("--fail-on", "contradictory", "end with status 1 where a class, or the whole, is contradictory")
+
+HTML = Option("--html", "", "the answer as a page")
 
 # The options of each job that reads an ontology, of those that check a certificate, of those that ask a question, and
 # of those that ask about the whole ontology.
-JOB_OPTIONS = (APPROXIMATE, JSON, LANGUAGE)
+JOB_OPTIONS = (APPROXIMATE, JSON, HTML, LANGUAGE)
 CHECK_OPTIONS = (STRICT, *JOB_OPTIONS)
 ASK_OPTIONS = (*TIMED, STRICT, *JOB_OPTIONS)
 WHOLE_OPTIONS = (*TIMED, *JOB_OPTIONS)
@@ -96,23 +103,44 @@ JOBS = (
     Command("check", "whether a certificate behind the ontology is right", ("AXIOM",), options=CHECK_OPTIONS),
     Command("audit", "whether an audit behind the ontology is right", ("AXIOM",), options=CHECK_OPTIONS),
     Command("entails", "whether AXIOM follows, with a certificate", ("AXIOM",), options=ASK_OPTIONS, has_budget=True),
-    Command("sat", "whether CLASS can have a member, with a certificate", ("CLASS",), options=ASK_OPTIONS,
-            has_budget=True),
-    Command("classify", "the hierarchy of all classes, and those that are contradictory",
-            options=(*WHOLE_OPTIONS, FAIL_ON),
-            has_budget=True),
+    Command(
+        "sat", "whether CLASS can have a member, with a certificate", ("CLASS",), options=ASK_OPTIONS, has_budget=True
+    ),
+    Command(
+        "classify",
+        "the hierarchy of all classes, and those that are contradictory",
+        options=(*WHOLE_OPTIONS, FAIL_ON),
+        has_budget=True,
+    ),
     Command("realize", "the most specific classes of each individual", options=WHOLE_OPTIONS, has_budget=True),
     Command("instances", "the individuals in CLASS", ("CLASS",), options=ASK_OPTIONS, has_budget=True),
-    Command("why", "the individuals in CLASS, each with every reason", ("CLASS",), options=ASK_OPTIONS,
-            has_budget=True),
+    Command(
+        "why", "the individuals in CLASS, each with every reason", ("CLASS",), options=ASK_OPTIONS, has_budget=True
+    ),
     Command("explain", "every reason why AXIOM follows", ("AXIOM",), options=ASK_OPTIONS, has_budget=True),
     Command("repair", "every way to stop AXIOM from following", ("AXIOM",), options=ASK_OPTIONS, has_budget=True),
-    Command("evidence", "all reasons and repairs as an audit, with what shows each", ("AXIOM",), options=ASK_OPTIONS,
-            has_budget=True),
-    Command("session", "an answer to each line of a script, which stands behind the ontology or in SCRIPT",
-            files=("FILE", "SCRIPT"), options=WHOLE_OPTIONS, has_budget=True),
-    Command("workload", "counts over an ontology that the program makes itself", ("N",), files=(), options=(*TIMED, JSON),
-            has_budget=True),
+    Command(
+        "evidence",
+        "all reasons and repairs as an audit, with what shows each",
+        ("AXIOM",),
+        options=ASK_OPTIONS,
+        has_budget=True,
+    ),
+    Command(
+        "session",
+        "an answer to each line of a script, which stands behind the ontology or in SCRIPT",
+        files=("FILE", "SCRIPT"),
+        options=WHOLE_OPTIONS,
+        has_budget=True,
+    ),
+    Command(
+        "workload",
+        "counts over an ontology that the program makes itself",
+        ("N",),
+        files=(),
+        options=(*TIMED, JSON),
+        has_budget=True,
+    ),
 )
 
 READ_OPTIONS = (
@@ -124,6 +152,7 @@ READ_OPTIONS = (
     Option("--dot", "", "a picture for Graphviz"),
     Option("--html", "", "one page"),
     Option("--markdown", "", "text for a pull request or an issue"),
+    Option("--pipe-status", "", "end with the status that the answer had"),
 )
 REPORT_OPTIONS = (
     Option("-o", "PAGE", "where it is written, in place of standard output"),
@@ -155,23 +184,57 @@ DIFF_OPTIONS = (
 )
 
 TOOLS = (
-    Command("profile", "lists all that is outside of the language", runner="shq_tools.profile:main",
-            needs_program=False),
-    Command("cut", "writes the ontology without what is outside of the language", runner="shq_tools.cut:main",
-            needs_program=False),
-    Command("approximate", "writes the ontology with what is outside of the language translated, as far as it can be said",
-            options=(Option("--full", "", "also what chains and inverses of roles say of each `all r C`"),),
-            runner="shq_tools.approximation.command:main", needs_program=False),
-    Command("convert", "writes a file of another syntax in functional-style syntax, by the OWL API",
-            runner="shq_tools.converting:main", needs_program=False),
-    Command("report", "one page on a whole ontology: what is contradictory and why, the hierarchy, individuals",
-            options=REPORT_OPTIONS, runner="shq_tools.report_command:main"),
-    Command("verify", "asks whether each check of a file holds: what must follow, and what must not", ("FILE", "CHECKS"),
-            files=(), options=VERIFY_OPTIONS, runner="shq_tools.verify:main"),
-    Command("diff", "tells what follows from NEW and not from OLD, and the other way round", ("OLD", "NEW"),
-            files=(), options=DIFF_OPTIONS, runner="shq_tools.diff:main"),
-    Command("read", "shows an answer for people", options=READ_OPTIONS, runner="shq_tools.reading_answers:main",
-            needs_program=False),
+    Command(
+        "profile", "lists all that is outside of the language", runner="shq_tools.profile:main", needs_program=False
+    ),
+    Command(
+        "cut",
+        "writes the ontology without what is outside of the language",
+        runner="shq_tools.cut:main",
+        needs_program=False,
+    ),
+    Command(
+        "approximate",
+        "writes the ontology with what is outside of the language translated, as far as it can be said",
+        options=(Option("--full", "", "also what chains and inverses of roles say of each `all r C`"),),
+        runner="shq_tools.approximation.command:main",
+        needs_program=False,
+    ),
+    Command(
+        "convert",
+        "writes a file of another syntax in functional-style syntax, by the OWL API",
+        runner="shq_tools.converting:main",
+        needs_program=False,
+    ),
+    Command(
+        "report",
+        "one page on a whole ontology: what is contradictory and why, the hierarchy, individuals",
+        options=REPORT_OPTIONS,
+        runner="shq_tools.report_command:main",
+    ),
+    Command(
+        "verify",
+        "asks whether each check of a file holds: what must follow, and what must not",
+        ("FILE", "CHECKS"),
+        files=(),
+        options=VERIFY_OPTIONS,
+        runner="shq_tools.verify:main",
+    ),
+    Command(
+        "diff",
+        "tells what follows from NEW and not from OLD, and the other way round",
+        ("OLD", "NEW"),
+        files=(),
+        options=DIFF_OPTIONS,
+        runner="shq_tools.diff:main",
+    ),
+    Command(
+        "read",
+        "shows an answer for people",
+        options=READ_OPTIONS,
+        runner="shq_tools.reading_answers:main",
+        needs_program=False,
+    ),
 )
 
 GENERAL_OPTIONS = (

@@ -10,9 +10,8 @@ from shq_tools.commands import COMMANDS
 from shq_tools.differences import Said, came, first_ones, said_of
 from shq_tools.manchester import name_text
 from shq_tools.messages import say
-from shq_tools.names import Names
 from shq_tools.preparing import Unprepared, prepared
-from shq_tools.shown_reasons import reason_lines, smallest_reason
+from shq_tools.shown_reasons import names_over, reason_lines, smallest_reason
 from shq_tools.sources import Source, source_of
 from shq_tools.statuses import Status
 from shq_tools.tokens import Refused
@@ -83,12 +82,6 @@ def text_of(statement, names):
     return f"{about} {'Type' if statement.kind == 'type' else 'SubClassOf'} {name_text(statement.other, names)}"
 
 
-def names_of(old, new, language):
-    """The names of things, by the labels of the new file and then by those of the old one."""
-    labels = {**old.vocabulary.labels, **new.vocabulary.labels}
-    return Names(labels, language)
-
-
 def told(sign, statements, names, reasons):
     """Prints statements, each with its reason where it has one."""
     for statement in statements:
@@ -100,11 +93,17 @@ def told(sign, statements, names, reasons):
 
 def reasons_for(asker, side, statements, names, most):
     """A reason for each of the first statements."""
+
     def one(statement):
         return reason_lines(smallest_reason(asker, statement.question(), side.source, 0, 0), names)
 
     first = statements[:most]
     return dict(zip(first, asker.all(one, first)))
+
+
+def without_new_names(statements, names):
+    """The statements but those on what a translation made new."""
+    return [it for it in statements if it.about not in names.left_out and it.other not in names.left_out]
 
 
 def shown(statements, side, is_all):
@@ -126,14 +125,14 @@ def compared(old_name, new_name, options):
     seconds = seconds_in(options["--seconds"]) if "--seconds" in options else SECONDS
     at_once, most = at_once_in(options.get("-j")), most_reasons(options)
     old, new = side_of(old_name, options), side_of(new_name, options)
-    names = names_of(old, new, options.get("--language", ""))
+    names = names_over([new.vocabulary, old.vocabulary], options.get("--language", ""))
     with Asker(seconds, at_once) as asker:
         for side, said in zip((old, new), asker.all(lambda it: what_follows(asker, it), (old, new))):
             side.said = said
         asker.progress.stop()
         if asker.signals.got:
             return Status.UNDECIDED
-        gone, come = came(new.said, old.said), came(old.said, new.said)
+        gone, come = (without_new_names(it, names) for it in (came(new.said, old.said), came(old.said, new.said)))
         is_all = "--all" in options
         (gone_shown, gone_left), (come_shown, come_left) = shown(gone, old, is_all), shown(come, new, is_all)
         told("-", gone_shown, names, {})

@@ -4,8 +4,8 @@ from dataclasses import dataclass, field
 
 @dataclass
 class Said:
-    """What follows from an ontology: whether it is consistent, its contradictory classes, the named superclasses of each
-    other class, itself left out, and the named classes of each individual.
+    """What follows from an ontology: whether it is consistent, its contradictory classes, the named superclasses of
+    each other class, itself left out, and the named classes of each individual.
     """
 
     is_consistent: bool = True

@@ -15,8 +15,12 @@ def steps_in(words):
 def asked_again(question, *more):
     """The words of a command that asks the same, and has these words besides."""
     words = without_budget(list(question.words))
-    rest = [word for name, value in question.options.items() if name not in ("--budget", "--seconds")
-            for word in ([f"{name}={value}"] if value else [name])]
+    rest = [
+        word
+        for name, value in question.options.items()
+        if name not in ("--budget", "--seconds")
+        for word in ([f"{name}={value}"] if value else [name])
+    ]
     file = [it for it in (question.file, question.script) if it is not None]
     text = shlex.join(["./shq", *words, *rest, *more, *file])
     return text if file or not question.command.files else f"{text} < FILE"

@@ -2,17 +2,7 @@
 import json
 import re
 
-from shq_tools.answers import (
-    Instances,
-    Model,
-    Realization,
-    Reasons,
-    Refutation,
-    SetList,
-    Taxonomy,
-    Unread,
-    answer,
-)
+from shq_tools.answers import Instances, Model, Realization, Reasons, Refutation, SetList, Taxonomy, Unread, answer
 from shq_tools.functional import axiom_text
 from shq_tools.names import Names, labels_in
 from shq_tools.statuses import Status, status_name
@@ -29,7 +19,12 @@ def axioms_of(found):
 
 
 def sets_of(found):
-    return {"verdict": found.kind, "complete": not found.is_partial, "sets": found.sets, "axioms": axioms_of(found.axioms)}
+    return {
+        "verdict": found.kind,
+        "complete": not found.is_partial,
+        "sets": found.sets,
+        "axioms": axioms_of(found.axioms),
+    }
 
 
 def groups_of(found):
@@ -39,7 +34,12 @@ def groups_of(found):
 def taxonomy_of(found):
     if not found.is_consistent:
         return {"verdict": "inconsistent"}
-    return {"verdict": "consistent", "contradictory": found.nothing, "everything": found.thing, "groups": groups_of(found)}
+    return {
+        "verdict": "consistent",
+        "contradictory": found.nothing,
+        "everything": found.thing,
+        "groups": groups_of(found),
+    }
 
 
 def reasons_of(found):

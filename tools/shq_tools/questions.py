@@ -29,6 +29,7 @@ MOST_WORD = (1 << 17) - 1
 # In a longer text names are looked for before it is read whole, which takes a second for each such length.
 MOST_READ_AT_ONCE = 500_000
 FILE_SIGN = "@"
+MOST_SHOWN = 1000
 # More than the new names that a reduction uses.
 NAMES_OF_REDUCTIONS = 9
 PREFIX = re.compile(rb"Prefix\s*\(\s*([^\s()=:]*):\s*=\s*<([^<>\s]*)>\s*\)")
@@ -187,7 +188,8 @@ def tell(found, text):
     if found.text != text and len(found.text) < MOST_WORD:
         say(f"asked as {found.text}")
     for axiom in found.added:
-        say(f"the ontology is asked with one axiom more, as its last: {axiom if len(axiom) < 1000 else axiom[:1000] + ' ..'}")
+        shown = axiom if len(axiom) < MOST_SHOWN else f"{axiom[:MOST_SHOWN]} .."
+        say(f"the ontology is asked with one axiom more, as its last: {shown}")
 
 
 def prepared(question, source, _):

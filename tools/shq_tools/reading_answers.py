@@ -12,6 +12,7 @@ from shq_tools.names import Names, has_language, labels_in, languages
 from shq_tools.ontology_facts import Ontology, ontology_from
 from shq_tools.page import page_of
 from shq_tools.reading import Reading
+from shq_tools.statuses import status_of
 from shq_tools.terms import BOTTOM, TOP
 from shq_tools.text_view import lines_of
 from shq_tools.tokens import Refused, end_line, tokens
@@ -33,6 +34,7 @@ def words_of(words):
     parser.add_argument("--query", metavar="AXIOM", help="the statement, or the class, that was asked about")
     parser.add_argument("--about", metavar="CLASS", help="of a taxonomy only what is above this class and close below")
     parser.add_argument("--all", action="store_true", help="of a world also what has nothing to do with the statement")
+    parser.add_argument("--pipe-status", action="store_true", help="end with the status that the answer had")
     how = parser.add_mutually_exclusive_group()
     how.add_argument("--dot", action="store_true", help="a picture for Graphviz")
     how.add_argument("--html", action="store_true", help="one page")
@@ -197,4 +199,6 @@ def main(words):
     data = data_of([given.file] if given.file else [])
     if data is None or label_data is None:
         return READ_FAULT
-    return read(given, data.decode("utf-8", "replace"), label_data)
+    text = data.decode("utf-8", "replace")
+    status = read(given, text, label_data)
+    return status_of(text) if given.pipe_status and status == 0 else status

@@ -6,8 +6,8 @@ What is asked instead follows from an ontology exactly where the statement does.
   any of them.
 - What is said of roles is said of a class N that is new: each r-successor is an s-successor exactly where what has an
   r-successor in N has an s-successor in N, whatever N is.
-- What is said of two individuals is asked with an axiom put into the ontology: that a role leads from a to b, where N is
-  a new class that b is in, is that a has a successor in N; and that it does not lead there, that with this assertion
+- What is said of two individuals is asked with an axiom put into the ontology: that a role leads from a to b is that a
+  has a successor in N, where N is a new class that b is in; and that it does not lead there, that with this assertion
   nothing can be true.
 """
 from dataclasses import dataclass

@@ -16,12 +16,7 @@ from shq_tools.statuses import Status
 
 UNDECIDED = "undecided"
 DONE = ("axiom ", "removed ")
-REFUSALS = {
-    "bad line": Status.FAILED,
-    "bad text ": Status.BAD_TEXT,
-    "outside ": Status.OUTSIDE,
-    "limit ": Status.LIMIT,
-}
+REFUSALS = {"bad line": Status.FAILED, "bad text ": Status.BAD_TEXT, "outside ": Status.OUTSIDE, "limit ": Status.LIMIT}
 
 
 @dataclass
@@ -167,7 +162,6 @@ def known_of(text, lines, seconds, steps, is_beside):
         return Known(Ended(fault.ended.status, told + fault.ended.output), spent)
     output = text_of(lines, is_beside).encode("utf-8")
     return Known(Ended(status_of(lines, is_beside), output), spent, script.signals.got)
-
 
 
 def told_lines(lines):

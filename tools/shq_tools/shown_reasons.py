@@ -1,12 +1,26 @@
 """Reasons and worlds in a few lines, for checks and for differences."""
 from shq_tools.answers import SetList, Unread, answer
+from shq_tools.approximation.display import shown_names
 from shq_tools.manchester import axiom_text
+from shq_tools.names import Names
 from shq_tools.own_answers import own_answer
 from shq_tools.worlds import called, things
 
 # How long one reason is looked for.
 REASON_SECONDS = 10
 MOST_THINGS = 12
+
+
+def names_over(vocabularies, language):
+    """The names of things in some ontologies, by the labels of the first ones first. What a translation made new is
+    shown by what it means, and is left out of lists.
+    """
+    labels, iris = {}, {}
+    for vocabulary in vocabularies:
+        labels = {**vocabulary.labels, **labels}
+        iris.update(dict.fromkeys(it for of_kind in vocabulary.names.values() for it in of_kind))
+    new = shown_names(iris, Names(labels, language, iris))
+    return Names(labels, language, iris, new, new)
 
 
 def smallest_reason(asker, question, source, own, added):
@@ -33,8 +47,9 @@ def world_lines(model, names):
     """A line for each thing of a world, up to some."""
     name = called(model, names)
     lines = []
-    for thing, classes, roles in things(model, names)[:MOST_THINGS]:
-        led = [f"{role} {name[it]}" for role, those in roles.items() for it in those]
-        lines.append(f"{name[thing]}: {', '.join([*classes, *led]) or 'in no named class'}")
+    for thing in things(model, names)[:MOST_THINGS]:
+        led = [f"{role} {name[it]}" for role, those in thing.roles.items() for it in those]
+        said = [*thing.classes, *thing.classes_above, *led]
+        lines.append(f"{name[thing.number]}: {', '.join(said) or 'in no named class'}")
     left = model.size - MOST_THINGS
     return lines + [f"and {left} more"] * (left > 0)

@@ -79,7 +79,8 @@ FUNCTIONAL = {
     "DifferentIndividuals": ("individuals",),
 }
 # The words that are no names.
-WORDS = {"and", "or", "not", "inverse", "value", "Self", *KIND_OF_QUANTIFIER, *KIND_OF_BOUND, *INFIX, *FUNCTIONAL, *CLASSES}
+JOINING = {"and", "or", "not", "inverse", "value", "Self"}
+WORDS = {*JOINING, *KIND_OF_QUANTIFIER, *KIND_OF_BOUND, *INFIX, *FUNCTIONAL, *CLASSES}
 FEWEST = {"classes": 2, "roles": 2, "individuals": 2}
 
 
@@ -256,7 +257,8 @@ class Reader:
         self.expect("(")
         if keyword in CARDINALITIES:
             number, role = self.number(), self.name("role")
-            found = (CARDINALITIES[keyword], number, role, TOP if self.is_next(")") else self.functional_class(depth + 1))
+            filler = TOP if self.is_next(")") else self.functional_class(depth + 1)
+            found = (CARDINALITIES[keyword], number, role, filler)
         elif keyword in ("ObjectSomeValuesFrom", "ObjectAllValuesFrom"):
             kind = "some" if keyword == "ObjectSomeValuesFrom" else "all"
             found = (kind, self.name("role"), self.functional_class(depth + 1))
@@ -310,7 +312,8 @@ class Reader:
         if slot in ("role", "individual"):
             return [self.name(slot)]
         one = {"classes": self.class_expression, "roles": lambda: self.name("role")}.get(
-            slot, lambda: self.name("individual"))
+            slot, lambda: self.name("individual")
+        )
         items = [one()]
         while self.is_next(","):
             self.take()

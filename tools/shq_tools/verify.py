@@ -15,7 +15,7 @@ from shq_tools.messages import say
 from shq_tools.names import Names
 from shq_tools.preparing import Unprepared, prepared
 from shq_tools.questions import with_axioms
-from shq_tools.shown_reasons import reason_lines, smallest_reason, world_lines
+from shq_tools.shown_reasons import names_over, reason_lines, smallest_reason, world_lines
 from shq_tools.sources import Source, source_of
 from shq_tools.statuses import Status, status_of
 from shq_tools.tokens import Refused
@@ -145,7 +145,7 @@ def verified(file, checks, options):
         say(f"{checks}, line {fault.number}: {fault.text}")
     if faults:
         return faults[0].status
-    names = Names(vocabulary.labels, options.get("--language", ""))
+    names = names_over([vocabulary], options.get("--language", ""))
     results = []
     with Asker(seconds, at_once) as asker:
         verifier = Verifier(asker, source, vocabulary, names)
@@ -155,8 +155,10 @@ def verified(file, checks, options):
             results.append(result)
         if any(it.is_failure for it in results):
             verifier.tell_whether_inconsistent()
-    say(f"{len(results):,} checks, {sum(it.is_failure for it in results):,} failed, "
-        f"{sum(not it.is_ok and not it.is_failure for it in results):,} not known")
+    say(
+        f"{len(results):,} checks, {sum(it.is_failure for it in results):,} failed, "
+        f"{sum(not it.is_ok and not it.is_failure for it in results):,} not known"
+    )
     if "--junit" in options and not write_junit(options["--junit"], os.path.basename(question.words[2]), results):
         return Status.WRITE_FAULT
     return status_over(results)

@@ -4,6 +4,7 @@ from shq_tools.answers import Taxonomy, Unread, answer
 from shq_tools.messages import say
 from shq_tools.own_answers import own_answer
 from shq_tools.statuses import Status
+from shq_tools.tokens import Refused
 
 # The jobs that list sets of axioms.
 LISTING_JOBS = ("explain", "repair", "why")
@@ -12,7 +13,7 @@ CONTRADICTORY = "contradictory"
 
 def is_whole_needed(question):
     """Whether an answer has to be there as a whole before any of it is printed."""
-    return bool(question.added) or any(it in question.options for it in ("--json", "--fail-on"))
+    return bool(question.added) or any(it in question.options for it in ("--json", "--html", "--fail-on"))
 
 
 def own_text(question, known):
@@ -28,7 +29,24 @@ def shown(question, source, known, **more):
     text = own_text(question, known)
     if "--json" in question.options:
         return json_view.text_of(json_view.object_of(question, source, text, known.status, **more)).encode("utf-8")
+    if "--html" in question.options and source:
+        return page_shown(question, source, text).encode("utf-8")
     return text.encode("utf-8")
+
+
+def page_shown(question, source, text):
+    """The page of an answer, or the answer itself where it has none."""
+    # what makes pages is read in for pages alone
+    from shq_tools.page import page_of
+    from shq_tools.reading_answers import asked_reading, known_from
+
+    known = known_from(source.data, question.options.get("--language", ""), question.file)
+    has_statement = question.command.operands and not question.added
+    try:
+        return page_of(asked_reading(text, known, question.words[1] if has_statement else None))
+    except (Refused, Unread) as fault:
+        say(f"there is no page of this answer: {fault}")
+        return text
 
 
 def refusal_shown(question, message, status):

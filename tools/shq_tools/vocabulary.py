@@ -4,7 +4,7 @@ from dataclasses import dataclass, field
 
 from shq_tools.documents import document, walked
 from shq_tools.keywords import NOTHING, THING
-from shq_tools.names import end_of_iri, label_in
+from shq_tools.names import end_of_iri, labels_of
 from shq_tools.prefixes import Prefixes
 
 KINDS = {"classes": "class", "roles": "role", "individuals": "individual"}
@@ -89,18 +89,8 @@ def is_plain_end(text):
     return not set(text) & set(' ()<>"=#@^')
 
 
-def labels_among(items, prefixes):
-    """The labels that annotations give, by IRI: the first text in each language."""
-    labels = {}
-    for item in items:
-        label = label_in(item, prefixes)
-        if label:
-            labels.setdefault(label[0], {}).setdefault(label[1], label[2])
-    return labels
-
-
 def vocabulary_of(data):
     """The vocabulary of a document. Raises `Refused` where the reasoner refuses it."""
     read = document(data)
     axioms, names = walked(read)
-    return Vocabulary(read.prefixes, names, labels_among(read.axiom_items, read.prefixes), axioms)
+    return Vocabulary(read.prefixes, names, labels_of(read.axiom_items, read.prefixes), axioms)

@@ -17,13 +17,18 @@ sys.exit(asking.main(sys.argv[2:]))
 """
 HEAD = "#!/bin/sh\n"
 # Prints its words and its input, and ends as it is told.
-TOLD = HEAD + """if [ "$1" = repair ]; then kill -TERM $$; fi
+TOLD = (
+    HEAD
+    + """if [ "$1" = repair ]; then kill -TERM $$; fi
 echo "words: $*"
 cat
 exit "${STATUS:-0}"
 """
+)
 # Needs a budget of ENOUGH steps, and never ends with one of ENDLESS steps, when it makes the file BEGUN.
-GROWING = HEAD + """for last in "$@"; do :; done
+GROWING = (
+    HEAD
+    + """for last in "$@"; do :; done
 if [ "$last" -ge "${ENDLESS:-9999999999}" ]; then
   : > "${BEGUN:-/dev/null}"
   exec sleep 60
@@ -34,6 +39,7 @@ if [ "$last" -ge "${ENOUGH:-9999999999}" ]; then exit 0; fi
 echo undecided
 exit 8
 """
+)
 
 
 @contextlib.contextmanager

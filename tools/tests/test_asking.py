@@ -162,7 +162,8 @@ class StandardOutput(unittest.TestCase):
 
     def ended(self, words, how, program=TOLD):
         with command_of(program, words) as command:
-            ran = subprocess.run(["sh", "-c", how, "sh", *command], cwd=TOOLS, input=b"", capture_output=True, check=False)
+            ended = {"cwd": TOOLS, "input": b"", "capture_output": True, "check": False}
+            ran = subprocess.run(["sh", "-c", how, "sh", *command], **ended)
         return ran.stderr.decode(), ran.returncode
 
     def test_a_full_disk(self):
@@ -257,8 +258,9 @@ class Terminal(unittest.TestCase):
         """What a terminal shows, where a shell runs ./shq in this way."""
         screen, place = pty.openpty()
         with command_of(self.SLOW, words) as command:
-            started = subprocess.Popen(["sh", "-c", how, "sh", *command], cwd=TOOLS, stdin=subprocess.DEVNULL,
-                                       stdout=place, stderr=place)
+            started = subprocess.Popen(
+                ["sh", "-c", how, "sh", *command], cwd=TOOLS, stdin=subprocess.DEVNULL, stdout=place, stderr=place
+            )
             os.close(place)
             seen = []
             while True:

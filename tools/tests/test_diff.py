@@ -49,8 +49,8 @@ class Following(unittest.TestCase):
         return said_of(answer(text), answer(realization) if realization else None)
 
     def test_all_superclasses_and_types(self):
-        text = "consistent\nnothing <N>\nthing <T>\nclass <A> <A2> under <B> <C>\nclass <B> under <D>\nclass <C> under <D>\n" \
-               "class <D> under owl:Thing"
+        groups = ("<A> <A2> under <B> <C>", "<B> under <D>", "<C> under <D>", "<D> under owl:Thing")
+        text = "\n".join(["consistent", "nothing <N>", "thing <T>", *(f"class {it}" for it in groups)])
         said = self.said(text, "consistent\nindividual <i> types <A> <T>\nindividual <j> types owl:Thing")
         self.assertEqual(said.superclasses["A"], {"A2", "B", "C", "D", "T"})
         self.assertEqual(said.superclasses["A2"], {"A", "B", "C", "D", "T"})
@@ -78,7 +78,8 @@ class Following(unittest.TestCase):
     def test_classes_that_become_equal(self):
         old = Said(True, frozenset(), {"A": {"C"}, "B": {"C"}, "C": set()})
         new = Said(True, frozenset(), {"A": {"B", "C"}, "B": {"A", "C"}, "C": set()})
-        self.assertEqual(first_ones(came(old, new), new), [Statement("subclass", "A", "B"), Statement("subclass", "B", "A")])
+        both = [Statement("subclass", "A", "B"), Statement("subclass", "B", "A")]
+        self.assertEqual(first_ones(came(old, new), new), both)
 
     def test_questions(self):
         self.assertEqual(Statement("inconsistent").question(), "SubClassOf(owl:Thing owl:Nothing)")
@@ -98,8 +99,11 @@ class Diff(unittest.TestCase):
         old = document(taxonomy(line("A"), line("B"), line("C", "B")))
         new = document(taxonomy(line("A", "B"), line("B"), line("C")).replace("nothing", f"nothing {named('X')}"))
         said, complaint, status = self.diff(old, new)
-        self.assertEqual(said, "- C SubClassOf B\n+ X is contradictory\n    axiom 1, line 3: A SubClassOf B\n"
-                               "+ A SubClassOf B\n    axiom 1, line 3: A SubClassOf B\n")
+        self.assertEqual(
+            said,
+            "- C SubClassOf B\n+ X is contradictory\n    axiom 1, line 3: A SubClassOf B\n"
+            "+ A SubClassOf B\n    axiom 1, line 3: A SubClassOf B\n",
+        )
         self.assertEqual((complaint, status), ("shq: 2 came, 1 went\n", 1))
 
     def test_nothing(self):
@@ -107,14 +111,15 @@ class Diff(unittest.TestCase):
         self.assertEqual(self.diff(text, text), ("", "shq: nothing came and nothing went\n", 0))
 
     def test_what_follows_from_the_rest(self):
-        old, new = document(taxonomy(line("A"), line("B", "C"), line("C"))), document(taxonomy(line("A", "B"), line("B", "C"), line("C")))
+        old = document(taxonomy(line("A"), line("B", "C"), line("C")))
+        new = document(taxonomy(line("A", "B"), line("B", "C"), line("C")))
         said, complaint, _ = self.diff(old, new, "--reasons", "0")
         self.assertEqual(said, "+ A SubClassOf B\n")
         self.assertIn("2 came, 0 went; 1 that follow from these are left out (--all)", complaint)
         self.assertEqual(self.diff(old, new, "--reasons", "0", "--all")[0], "+ A SubClassOf B\n+ A SubClassOf C\n")
 
     def test_types(self):
-        fact = "ClassAssertion(:A :i)\nAnnotationAssertion(rdfs:label :i \"the one\")\n"
+        fact = 'ClassAssertion(:A :i)\nAnnotationAssertion(rdfs:label :i "the one")\n'
         classes = taxonomy(line("A"), line("B"))
         old = document(classes, f"consistent\nindividual {named('i')} types {named('A')}", fact)
         new = document(classes, f"consistent\nindividual {named('i')} types {named('B')}", fact)
@@ -151,8 +156,11 @@ class WithProgram(unittest.TestCase):
             second = run([sys.executable, TOOLS / "ask", "diff", mended, other])
         self.assertEqual((first[0], first[2]), ("- the ontology is inconsistent\n", 1))
         self.assertEqual(second[2], 1)
-        self.assertEqual(second[0].splitlines(), [
-            "- SyringePump SubClassOf InfusionDevice",
-            "+ SyringePump SubClassOf MrRoom",
-            "    axiom 5, line 8: SyringePump SubClassOf MrRoom",
-        ])
+        self.assertEqual(
+            second[0].splitlines(),
+            [
+                "- SyringePump SubClassOf InfusionDevice",
+                "+ SyringePump SubClassOf MrRoom",
+                "    axiom 5, line 8: SyringePump SubClassOf MrRoom",
+            ],
+        )

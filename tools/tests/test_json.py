@@ -51,7 +51,8 @@ class Forms(unittest.TestCase):
 
     def test_lists(self):
         text = "justifications 2\n1 2\n3\n" + "".join(
-            f"axiom {it} line {it + 2} SubClassOf(<{PUMPS}A> <{PUMPS}B>)\n" for it in (1, 2, 3))
+            f"axiom {it} line {it + 2} SubClassOf(<{PUMPS}A> <{PUMPS}B>)\n" for it in (1, 2, 3)
+        )
         value = self.object(["explain", "SubClassOf(:Pump :Seal)"], text)
         self.assertEqual((value["verdict"], value["sets"], value["complete"]), ("justifications", [[1, 2], [3]], True))
         self.assertEqual(value["axioms"][2], {"number": 3, "line": 5, "text": f"SubClassOf(<{PUMPS}A> <{PUMPS}B>)"})
@@ -71,8 +72,15 @@ class Forms(unittest.TestCase):
     def test_worlds_and_refutations(self):
         model = f"satisfiable\nmodel 2\nclass <{PUMPS}Pump> 0 1\nrole <{PUMPS}hasPart> 0,1\nindividual <x> 1\nend\n"
         value = self.object(["sat", ":Pump"], model)
-        self.assertEqual(value["model"], {"size": 2, "classes": {f"{PUMPS}Pump": [0, 1]},
-                                          "roles": {f"{PUMPS}hasPart": [[0, 1]]}, "individuals": {"x": 1}})
+        self.assertEqual(
+            value["model"],
+            {
+                "size": 2,
+                "classes": {f"{PUMPS}Pump": [0, 1]},
+                "roles": {f"{PUMPS}hasPart": [[0, 1]]},
+                "individuals": {"x": 1},
+            },
+        )
         self.assertEqual(value["certificate"], model)
         value = self.object(["sat", ":Pump"], "unsatisfiable\nrefutation\naxioms 1 2\nconcept 1 top\nstart\nend\n")
         self.assertEqual((value["verdict"], value["used"]), ("unsatisfiable", [1, 2]))
@@ -84,9 +92,12 @@ class Forms(unittest.TestCase):
         self.assertEqual(value["groups"], [{"classes": [f"{PUMPS}A", f"{PUMPS}B"], "below": []}])
         self.assertEqual(self.object(["classify"], "inconsistent\n")["verdict"], "inconsistent")
         value = self.object(["realize"], "consistent\nindividual <a> types <C> <D>\nindividual <b> types owl:Thing\n")
-        self.assertEqual(value["types"], [{"individual": "a", "classes": ["C", "D"]}, {"individual": "b", "classes": []}])
+        self.assertEqual(
+            value["types"], [{"individual": "a", "classes": ["C", "D"]}, {"individual": "b", "classes": []}]
+        )
         self.assertEqual(self.object(["instances", ":Pump"], "instances 1\n<a>\n")["individuals"], ["a"])
-        value = self.object(["why", ":Pump"], "instance <a> justifications 1\n1\naxiom 1 line 3 ClassAssertion(<C> <a>)\n")
+        reason = "instance <a> justifications 1\n1\naxiom 1 line 3 ClassAssertion(<C> <a>)\n"
+        value = self.object(["why", ":Pump"], reason)
         self.assertEqual(value["instances"], [{"individual": "a", "sets": [[1]]}])
         self.assertEqual(self.object(["why", ":Pump"], "")["instances"], [])
 
@@ -98,12 +109,14 @@ class Forms(unittest.TestCase):
         }
         for (text, status), (why, what, where) in cases.items():
             value = self.object(["classify"], text, status)
-            self.assertEqual((value["verdict"], value["refused"]), ("refused", {"why": why, "what": what, "where": where}))
+            self.assertEqual(value["verdict"], "refused")
+            self.assertEqual(value["refused"], {"why": why, "what": what, "where": where})
         for text, what, number in (("rejected line 7\n", "line", 7), ("rejected query\n", "query", None)):
             value = self.object(["check", "SubClassOf(:Pump :Seal)"], text, 1)
             self.assertEqual((value["verdict"], value["rejected"]), ("rejected", {"what": what, "number": number}))
-        self.assertEqual(self.object(["check", "SubClassOf(:Pump :Seal)"], "accepted entailed\n")["verdict"],
-                         "accepted entailed")
+        self.assertEqual(
+            self.object(["check", "SubClassOf(:Pump :Seal)"], "accepted entailed\n")["verdict"], "accepted entailed"
+        )
 
     def test_what_is_not_asked(self):
         value = self.object(["sat", "--strict", ":MagneticPum"], "", 0, ended=10)
@@ -114,17 +127,56 @@ class Forms(unittest.TestCase):
         check_form(value)
         self.assertEqual((value["verdict"], value["status"]["number"], status), ("read fault", 6, 6))
 
+    def test_pages(self):
+        """--html makes the page that `read` makes."""
+        text = f"consistent\nnothing <{PUMPS}MagneticPump>\nthing\nclass <{PUMPS}Pump> under owl:Thing\n"
+        said, complaint, status = shq("classify", "--html", data=CONTRADICTION.read_bytes(), program=printing(text))
+        self.assertEqual((complaint, status), ("", 0))
+        self.assertTrue(said.startswith("<!DOCTYPE html>"))
+        self.assertIn("MagneticPump", said)
+        said, _, status = shq(
+            "explain",
+            "SubClassOf(:Pump :Seal)",
+            "--html",
+            data=CONTRADICTION.read_bytes(),
+            program=printing("partial justifications 0\nundecided\n", 8),
+        )
+        self.assertEqual((said[:15], status), ("<!DOCTYPE html>", 8))
+
+    def test_statuses_through_pipes(self):
+        """`read --pipe-status` ends as the run ended whose answer it reads."""
+        cases = {
+            "undecided\n": 8,
+            "partial justifications 0\nundecided\n": 8,
+            "consistent\nnothing\nthing\n": 0,
+            "outside Import line 3\n": 4,
+            "bad text shape query\n": 3,
+            "limit text\n": 5,
+            "read fault\n": 6,
+            "no memory\n": 9,
+            "bad words\n": 2,
+            "rejected line 3\n": 1,
+        }
+        for text, status in cases.items():
+            with self.subTest(text=text):
+                self.assertEqual(shq("read", "--pipe-status", data=text.encode())[2], status)
+                self.assertEqual(shq("read", data=text.encode())[2], 0)
+
     def test_failing_on_contradictory_classes(self):
         fine = "consistent\nnothing\nthing\n"
-        cases = (("consistent\nnothing <A>\nthing\n", 1, "1 class is contradictory"),
-                 ("consistent\nnothing <A> <B>\nthing\n", 1, "2 classes are contradictory"),
-                 ("inconsistent\n", 1, "the ontology is inconsistent"), (fine, 0, ""))
+        cases = (
+            ("consistent\nnothing <A>\nthing\n", 1, "1 class is contradictory"),
+            ("consistent\nnothing <A> <B>\nthing\n", 1, "2 classes are contradictory"),
+            ("inconsistent\n", 1, "the ontology is inconsistent"),
+            (fine, 0, ""),
+        )
         for text, status, complaint in cases:
             said, told, got = shq("classify", "--fail-on", "contradictory", program=printing(text))
             self.assertEqual((said, got), (text, status))
             self.assertIn(complaint, told)
         self.assertEqual(shq("classify", "--fail-on", "other", program=printing(fine))[2], 2)
-        self.assertEqual(shq("classify", "--fail-on", "contradictory", "budget", "1", program=printing("undecided\n", 8))[2], 8)
+        undecided = printing("undecided\n", 8)
+        self.assertEqual(shq("classify", "--fail-on", "contradictory", "budget", "1", program=undecided)[2], 8)
 
 
 @needs_program
@@ -138,8 +190,11 @@ class WithProgram(unittest.TestCase):
             (["sat", "MagneticPump", CONTRADICTION], "unsatisfiable", lambda it: it["used"] == [1, 2, 3, 4, 5]),
             (["classify", CONTRADICTION], "consistent", lambda it: it["contradictory"] == [PUMPS + "MagneticPump"]),
             (["workload", "1"], "counted", lambda it: it["counts"]["justifications"] == 8),
-            (["session", EXAMPLES / "ward" / "ontology.ofn", EXAMPLES / "ward" / "script.txt"], "answered",
-             lambda it: it["lines"][1] == {"line": 2, "text": "remove 9", "answer": "removed 9"}),
+            (
+                ["session", EXAMPLES / "ward" / "ontology.ofn", EXAMPLES / "ward" / "script.txt"],
+                "answered",
+                lambda it: it["lines"][1] == {"line": 2, "text": "remove 9", "answer": "removed 9"},
+            ),
         )
         for words, verdict, holds in cases:
             with self.subTest(words=words):

@@ -52,12 +52,18 @@ class Statements(unittest.TestCase):
         cases = {
             "'syringe pump' SubClassOf Nothing": ("SubClassOf", (PUMP, ("bottom",))),
             "Spritzenpumpe SubClassOf: owl:Thing": ("SubClassOf", (PUMP, ("top",))),
-            "SyringePump SubClassOf 'has part' some (SyringePump and not Pump2)":
-                ("SubClassOf", (PUMP, ("some", PART, ("and", (PUMP, ("not", ("name", X + "Pump2"))))))),
-            "SyringePump or SyringePump and SyringePump EquivalentTo hasPart only Thing":
-                ("EquivalentClasses", (("or", (PUMP, ("and", (PUMP, PUMP)))), ("all", PART, ("top",)))),
-            "hasPart min 2 SubClassOf hasPart max 3 SyringePump":
-                ("SubClassOf", (("least", 2, PART, ("top",)), ("most", 3, PART, PUMP))),
+            "SyringePump SubClassOf 'has part' some (SyringePump and not Pump2)": (
+                "SubClassOf",
+                (PUMP, ("some", PART, ("and", (PUMP, ("not", ("name", X + "Pump2")))))),
+            ),
+            "SyringePump or SyringePump and SyringePump EquivalentTo hasPart only Thing": (
+                "EquivalentClasses",
+                (("or", (PUMP, ("and", (PUMP, PUMP)))), ("all", PART, ("top",))),
+            ),
+            "hasPart min 2 SubClassOf hasPart max 3 SyringePump": (
+                "SubClassOf",
+                (("least", 2, PART, ("top",)), ("most", 3, PART, PUMP)),
+            ),
             "<http://e.org/o#SyringePump> DisjointWith :SyringePump": ("DisjointClasses", (PUMP, PUMP)),
             "DisjointClasses: SyringePump, Pump2": ("DisjointClasses", (PUMP, ("name", X + "Pump2"))),
             "'has part' Domain SyringePump": ("ObjectPropertyDomain", (PART, PUMP)),
@@ -78,12 +84,18 @@ class Statements(unittest.TestCase):
 
     def test_functional_syntax_with_short_names(self):
         cases = {
-            "SubClassOf('syringe pump' ObjectSomeValuesFrom(hasPart owl:Nothing))":
-                ("SubClassOf", (PUMP, ("some", PART, ("bottom",)))),
-            "EquivalentClasses(SyringePump ObjectMinCardinality(1 :hasPart) ObjectComplementOf(SyringePump))":
-                ("EquivalentClasses", (PUMP, ("least", 1, PART, ("top",)), ("not", PUMP))),
-            "NegativeObjectPropertyAssertion(hasPart pump_4 :drive_1)":
-                ("NegativeObjectPropertyAssertion", (PART, O + "pump_4", O + "drive_1")),
+            "SubClassOf('syringe pump' ObjectSomeValuesFrom(hasPart owl:Nothing))": (
+                "SubClassOf",
+                (PUMP, ("some", PART, ("bottom",))),
+            ),
+            "EquivalentClasses(SyringePump ObjectMinCardinality(1 :hasPart) ObjectComplementOf(SyringePump))": (
+                "EquivalentClasses",
+                (PUMP, ("least", 1, PART, ("top",)), ("not", PUMP)),
+            ),
+            "NegativeObjectPropertyAssertion(hasPart pump_4 :drive_1)": (
+                "NegativeObjectPropertyAssertion",
+                (PART, O + "pump_4", O + "drive_1"),
+            ),
         }
         for text, (keyword, items) in cases.items():
             with self.subTest(text=text):
@@ -92,8 +104,10 @@ class Statements(unittest.TestCase):
     def test_class_expressions(self):
         cases = {
             "SyringePump": PUMP,
-            "not (hasPart exactly 2 SyringePump or Nothing)":
-                ("not", ("or", (("exactly", 2, PART, PUMP), ("bottom",)))),
+            "not (hasPart exactly 2 SyringePump or Nothing)": (
+                "not",
+                ("or", (("exactly", 2, PART, PUMP), ("bottom",))),
+            ),
             "ObjectUnionOf('syringe pump' Pump2)": ("or", (PUMP, ("name", X + "Pump2"))),
         }
         for text, expression in cases.items():
@@ -126,10 +140,22 @@ class Statements(unittest.TestCase):
         self.assertEqual(missing[1], ":hasPart is no class in the file; there it is a role")
 
     def test_what_is_no_statement(self):
-        cases = ("", "SyringePump", "SubClassOf", "SyringePump SubClassOf", "SyringePump SubClassOf (Pump2",
-                 "SubClassOf(SyringePump)", "SubClassOf(SyringePump Pump2", "SyringePump SubClassOf Pump2 )",
-                 "hasPart min x SubClassOf Nothing", "y:A SubClassOf Nothing", "a b", "SyringePump SubClassOf not",
-                 "(" * 100 + "SyringePump" + ")" * 100 + " SubClassOf Nothing", "'SyringePump SubClassOf Nothing")
+        cases = (
+            "",
+            "SyringePump",
+            "SubClassOf",
+            "SyringePump SubClassOf",
+            "SyringePump SubClassOf (Pump2",
+            "SubClassOf(SyringePump)",
+            "SubClassOf(SyringePump Pump2",
+            "SyringePump SubClassOf Pump2 )",
+            "hasPart min x SubClassOf Nothing",
+            "y:A SubClassOf Nothing",
+            "a b",
+            "SyringePump SubClassOf not",
+            "(" * 100 + "SyringePump" + ")" * 100 + " SubClassOf Nothing",
+            "'SyringePump SubClassOf Nothing",
+        )
         for text in cases:
             with self.subTest(text=text[:50]), self.assertRaises(Unclear):
                 self.read(text)
@@ -163,15 +189,14 @@ class Meaning:
             "SubObjectPropertyOf": lambda: self.pairs(items[0]) <= self.pairs(items[1]),
             "EquivalentObjectProperties": lambda: all(self.pairs(it) == self.pairs(items[0]) for it in items),
             "DisjointObjectProperties": lambda: not self.pairs(items[0]) & self.pairs(items[1]),
-            "InverseObjectProperties": lambda: self.pairs(items[0]) == {(b, a) for a, b in self.pairs(items[1])},
+            "InverseObjectProperties": lambda: self.pairs(items[0]) == self.turned(items[1]),
             "ObjectPropertyDomain": lambda: {a for a, _ in self.pairs(items[0])} <= self.members(items[1]),
             "ObjectPropertyRange": lambda: {b for _, b in self.pairs(items[0])} <= self.members(items[1]),
             "FunctionalObjectProperty": lambda: all(self.count(items[0], 0, it) < 2 for it in self.things),
             "InverseFunctionalObjectProperty": lambda: all(self.count(items[0], 1, it) < 2 for it in self.things),
-            "TransitiveObjectProperty": lambda: all(
-                (a, d) in self.pairs(items[0]) for a, b in self.pairs(items[0]) for c, d in self.pairs(items[0]) if b == c),
-            "SymmetricObjectProperty": lambda: all((b, a) in self.pairs(items[0]) for a, b in self.pairs(items[0])),
-            "AsymmetricObjectProperty": lambda: all((b, a) not in self.pairs(items[0]) for a, b in self.pairs(items[0])),
+            "TransitiveObjectProperty": lambda: self.composed(items[0]) <= self.pairs(items[0]),
+            "SymmetricObjectProperty": lambda: self.turned(items[0]) <= self.pairs(items[0]),
+            "AsymmetricObjectProperty": lambda: not self.turned(items[0]) & self.pairs(items[0]),
             "ReflexiveObjectProperty": lambda: all((it, it) in self.pairs(items[0]) for it in self.things),
             "IrreflexiveObjectProperty": lambda: all(a != b for a, b in self.pairs(items[0])),
             "ClassAssertion": lambda: self.thing(items[1]) in self.members(items[0]),
@@ -180,6 +205,12 @@ class Meaning:
             "SameIndividual": lambda: self.thing(items[0]) == self.thing(items[1]),
             "DifferentIndividuals": lambda: self.thing(items[0]) != self.thing(items[1]),
         }[axiom.keyword]()
+
+    def turned(self, role):
+        return {(b, a) for a, b in self.pairs(role)}
+
+    def composed(self, role):
+        return {(a, d) for a, b in self.pairs(role) for c, d in self.pairs(role) if b == c}
 
     def are_apart(self, classes):
         return not any(self.members(one) & self.members(other) for one, other in itertools.combinations(classes, 2))
@@ -210,8 +241,13 @@ def expansions(model, found):
     individuals = [it for it in new if it not in classes]
     for members in itertools.product(subsets(range(model.size)), repeat=len(classes)):
         for things in itertools.product(range(model.size), repeat=len(individuals)):
-            yield Model("", model.size, {**model.classes, **dict(zip(classes, members))}, model.roles,
-                        {**model.individuals, **dict(zip(individuals, things))})
+            yield Model(
+                "",
+                model.size,
+                {**model.classes, **dict(zip(classes, members))},
+                model.roles,
+                {**model.individuals, **dict(zip(individuals, things))},
+            )
 
 
 def flat(items):
@@ -234,8 +270,12 @@ def interpretations():
 A = ("name", "A")
 SOME_R, SOME_S = ("some", "r", A), ("some", "s", ("top",))
 EXAMPLE_ITEMS = {
-    "class": (A, SOME_R), "role": ("r", "s"), "individual": ("a", "b"), "classes": (A, SOME_R, SOME_S),
-    "roles": ("r", "s"), "individuals": ("a", "b"),
+    "class": (A, SOME_R),
+    "role": ("r", "s"),
+    "individual": ("a", "b"),
+    "classes": (A, SOME_R, SOME_S),
+    "roles": ("r", "s"),
+    "individuals": ("a", "b"),
 }
 
 
@@ -264,8 +304,11 @@ class Reductions(unittest.TestCase):
             verdicts = set()
             for model in worlds:
                 holds = Meaning(model).meets(statement)
-                asked = all(Meaning(it).meets(found.asked) for it in expansions(model, found)
-                            if all(map(Meaning(it).meets, found.added)))
+                asked = all(
+                    Meaning(it).meets(found.asked)
+                    for it in expansions(model, found)
+                    if all(map(Meaning(it).meets, found.added))
+                )
                 verdicts.add(holds)
                 self.assertEqual(holds, asked, (keyword, model))
             self.assertEqual(verdicts, {True, False}, keyword)
@@ -283,17 +326,21 @@ class OwnAnswers(unittest.TestCase):
     """Sets over three axioms, with one or two put in behind them."""
 
     def test_justifications(self):
-        answer = "justifications 2\n1 2 4\n3 4\naxiom 1 line 1 X\naxiom 2 line 1 X\naxiom 3 line 1 X\naxiom 4 line 9 Y\n"
-        wanted = "justifications 2\n1 2\n3\naxiom 1 line 1 X\naxiom 2 line 1 X\naxiom 3 line 1 X\n"
+        own = "axiom 1 line 1 X\naxiom 2 line 1 X\naxiom 3 line 1 X\n"
+        answer = f"justifications 2\n1 2 4\n3 4\n{own}axiom 4 line 9 Y\n"
+        wanted = f"justifications 2\n1 2\n3\n{own}"
         self.assertEqual(own_answer(answer, 3, 1), wanted)
         self.assertEqual(own_answer("justifications 1\n4\naxiom 4 line 9 Y\n", 3, 1), "justifications 1\nempty\n")
 
     def test_a_justification_that_contains_another_one(self):
         self.assertEqual(own_answer("justifications 2\n1 2\n1 4\n", 3, 1), "justifications 1\n1\n")
-        self.assertEqual(own_answer("partial justifications 2\n1 2\n1 4\nundecided\n", 3, 1),
-                         "partial justifications 1\n1\nundecided\n")
-        self.assertEqual(own_answer("partial justifications 1\n1 2\nundecided\n", 3, 1),
-                         "partial justifications 0\nundecided\n")
+        self.assertEqual(
+            own_answer("partial justifications 2\n1 2\n1 4\nundecided\n", 3, 1),
+            "partial justifications 1\n1\nundecided\n",
+        )
+        self.assertEqual(
+            own_answer("partial justifications 1\n1 2\nundecided\n", 3, 1), "partial justifications 0\nundecided\n"
+        )
 
     def test_repairs(self):
         self.assertEqual(own_answer("repairs 3\n1\n2 3\n4\n", 3, 1), "repairs 2\n1\n2 3\n")
@@ -344,8 +391,10 @@ class Asked(unittest.TestCase):
         cases = {
             ("sat", "'syringe pump'"): "sat :SyringePump",
             ("explain", "'syringe pump' SubClassOf Nothing"): "explain SubClassOf(:SyringePump owl:Nothing)",
-            ("evidence", "'has part' Domain 'syringe pump'"):
-                "evidence SubClassOf(ObjectSomeValuesFrom(:hasPart owl:Thing) :SyringePump)",
+            (
+                "evidence",
+                "'has part' Domain 'syringe pump'",
+            ): "evidence SubClassOf(ObjectSomeValuesFrom(:hasPart owl:Thing) :SyringePump)",
             ("check", "pump_4 Type 'syringe pump'"): "check ClassAssertion(:SyringePump :pump_4)",
         }
         for given, words in cases.items():
@@ -379,7 +428,8 @@ class Asked(unittest.TestCase):
         with tempfile.TemporaryDirectory() as room:
             path = Path(room) / "question.txt"
             path.write_text("SubClassOf(:SyringePump :Pump)\n", encoding="utf-8")
-            self.assertEqual(self.asked("entails", f"@{path}")[0][0], "words: entails SubClassOf(:SyringePump :Pump) budget 5")
+            wanted = "words: entails SubClassOf(:SyringePump :Pump) budget 5"
+            self.assertEqual(self.asked("entails", f"@{path}")[0][0], wanted)
             (first, _, _), complaint, status = self.asked("entails", f"@{room}/other")
             self.assertEqual((first, status), ("", 6))
             self.assertIn("No such file", complaint)

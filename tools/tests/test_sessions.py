@@ -1,12 +1,11 @@
 """`./shq session`: scripts in files of their own, and lines that one run does not decide."""
-import subprocess
 import sys
 import tempfile
 import unittest
 from pathlib import Path
 
 from shq_tools.places import EXAMPLES, TOOLS
-from tests.fakes import shq
+from tests.fakes import run, shq
 from tests.program import needs_program
 
 # A program that answers scripts: a question whose class is named by a number costs so many steps, and is answered by
@@ -63,12 +62,15 @@ class Scripts(unittest.TestCase):
     def test_answers_stand_beside_their_lines(self):
         script = "# first\n\nask SubClassOf(:c1 :X)\n  remove 2  \nadd SubClassOf(:A :B)\nask c2 SubClassOf X\n"
         said, complaint, status, runs = self.session(script)
-        self.assertEqual(said, [
-            "line 3: ask SubClassOf(:c1 :X) => yes 1 2 3 4 5 6",
-            "line 4: remove 2 => removed 2",
-            "line 5: add SubClassOf(:A :B) => axiom 7",
-            "line 6: ask c2 SubClassOf X => yes 1 3 4 5 6 7",
-        ])
+        self.assertEqual(
+            said,
+            [
+                "line 3: ask SubClassOf(:c1 :X) => yes 1 2 3 4 5 6",
+                "line 4: remove 2 => removed 2",
+                "line 5: add SubClassOf(:A :B) => axiom 7",
+                "line 6: ask c2 SubClassOf X => yes 1 3 4 5 6 7",
+            ],
+        )
         self.assertEqual((complaint, status, runs), ("", 0, ["1000000: 4"]))
 
     def test_lines_that_are_refused_have_a_status(self):
@@ -78,17 +80,22 @@ class Scripts(unittest.TestCase):
             self.assertEqual(status, wanted)
 
     def test_a_line_that_shares_its_budget_is_asked_again(self):
-        script = "ask SubClassOf(:c600000 :X)\nremove 1\nask SubClassOf(:c700000 :X)\nremove 2\nask SubClassOf(:c1 :X)\n"
+        first, second, third = (f"ask SubClassOf(:c{it} :X)\n" for it in (600_000, 700_000, 1))
+        script = f"{first}remove 1\n{second}remove 2\n{third}"
         said, _, status, runs = self.session(script)
-        self.assertEqual([it.partition(" => ")[2] for it in said],
-                         ["yes 1 2 3 4 5 6", "removed 1", "yes 2 3 4 5 6", "removed 2", "yes 3 4 5 6"])
+        self.assertEqual(
+            [it.partition(" => ")[2] for it in said],
+            ["yes 1 2 3 4 5 6", "removed 1", "yes 2 3 4 5 6", "removed 2", "yes 3 4 5 6"],
+        )
         self.assertEqual((status, runs), (0, ["1000000: 5", "1000000: 4"]))
 
     def test_an_undecided_line_does_not_stop_the_next_ones(self):
         script = "remove 1\nask SubClassOf(:c5000000 :X)\nremove 2\nask SubClassOf(:c1 :X)\nremove 3\n"
         said, complaint, status, runs = self.session(script)
-        self.assertEqual([it.partition(" => ")[2] for it in said],
-                         ["removed 1", "yes 2 3 4 5 6", "removed 2", "yes 3 4 5 6", "removed 3"])
+        self.assertEqual(
+            [it.partition(" => ")[2] for it in said],
+            ["removed 1", "yes 2 3 4 5 6", "removed 2", "yes 3 4 5 6", "removed 3"],
+        )
         self.assertEqual((complaint, status), ("", 0))
         self.assertEqual(runs, ["1000000: 5", "1000000: 4", "8000000: 2"])
 
@@ -149,9 +156,8 @@ class WithProgram(unittest.TestCase):
         ontology, script = folder / "ontology.ofn", folder / "script.txt"
         words = [sys.executable, TOOLS / "ask", "session"]
         both = ontology.read_bytes() + script.read_bytes()
-        alone = subprocess.run([*words, "budget", "100000"], input=both, capture_output=True, check=True).stdout.decode()
-        by_seconds = subprocess.run(words, input=both, capture_output=True, check=True).stdout.decode()
-        beside = subprocess.run([*words, ontology, script], capture_output=True, check=True).stdout.decode()
+        alone, by_seconds = run([*words, "budget", "100000"], both)[0], run(words, both)[0]
+        beside = run([*words, ontology, script])[0]
         self.assertEqual(len(alone.splitlines()), 6)
         self.assertEqual(alone, by_seconds)
         self.assertEqual([it.partition(" => ")[2] for it in beside.splitlines()], alone.splitlines())
