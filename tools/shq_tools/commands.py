@@ -143,7 +143,11 @@ JOBS = (
     ),
 )
 
+OF_TRANSLATION = Option("--approximate", "full", "the answer is to the translation of the file for --labels",
+                        may_lack_value=True)
+
 READ_OPTIONS = (
+    OF_TRANSLATION,
     Option("--labels", "FILE", "the ontology, or another file that has the labels"),
     Option("--language", "TAG", "the language of the labels, as en"),
     Option("--query", "AXIOM", "the statement, or the class, that was asked about"),
@@ -155,6 +159,7 @@ READ_OPTIONS = (
     Option("--pipe-status", "", "end with the status that the answer had"),
 )
 REPORT_OPTIONS = (
+    APPROXIMATE,
     Option("-o", "PAGE", "where it is written, in place of standard output"),
     Option("--markdown", "", "text for a pull request or an issue, in place of a page"),
     Option("--language", "TAG", "the language of the labels, as en"),

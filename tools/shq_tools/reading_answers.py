@@ -1,9 +1,11 @@
 """`./shq read`: an answer of the reasoner for people."""
 import argparse
 import sys
-from dataclasses import dataclass, field
+from dataclasses import dataclass, field, replace
 
 from shq_tools.answers import Taxonomy, Unread, answer
+from shq_tools.approximation.command import BadStrength, strength_of, translated, with_value
+from shq_tools.approximation.for_people import caveat_of, names_of, originals_of
 from shq_tools.caveats import NO_CAVEAT, Caveat
 from shq_tools.drawing import graph_of
 from shq_tools.fitting import fits
@@ -32,6 +34,8 @@ def words_of(words):
     parser.add_argument("--labels", metavar="FILE", help="the ontology, or another file that has the labels")
     parser.add_argument("--language", metavar="TAG", default="", help="the language of the labels, as en")
     parser.add_argument("--query", metavar="AXIOM", help="the statement, or the class, that was asked about")
+    parser.add_argument("--approximate", metavar="full", nargs="?", const="",
+                        help="the answer is to the translation of the file for --labels, as --approximate has it")
     parser.add_argument("--about", metavar="CLASS", help="of a taxonomy only what is above this class and close below")
     parser.add_argument("--all", action="store_true", help="of a world also what has nothing to do with the statement")
     parser.add_argument("--pipe-status", action="store_true", help="end with the status that the answer had")
@@ -40,7 +44,7 @@ def words_of(words):
     how.add_argument("--html", action="store_true", help="one page")
     how.add_argument("--markdown", action="store_true", help="text for a pull request or an issue")
     parser.add_argument("file", nargs="?", metavar="FILE", help="the answer, in place of standard input")
-    return parser.parse_args(words)
+    return parser.parse_args(with_value(words))
 
 
 class Unshown(Exception):
@@ -80,7 +84,14 @@ def known_from(data, language="", file=""):
     """What a file with labels, which may be the ontology itself, says of things."""
     ontology, labels = ontology_from(data), labels_from(data) if data else {}
     complain_of_language(labels, language)
-    return Known(ontology, Names(labels, language, ontology.names), file or "")
+    return Known(ontology, names_of(ontology, labels, language), file or "")
+
+
+def known_of_translation(data, strength, language="", file=""):
+    """The same of the translation of a file. Raises `Refused` where the file is damaged."""
+    found = translated(data, strength)
+    known = known_from(found.data, language, file)
+    return replace(known, originals=originals_of(found, known.names), caveat=caveat_of(found))
 
 
 def query_of(text, prefixes):
@@ -137,9 +148,13 @@ def compared(reading):
 
 def reading_of(given, text, label_data):
     """The answer with what is known of its ontology. Raises `Unread`, `Refused` and `Unshown`."""
-    known = known_from(label_data, given.language, given.labels)
+    if given.approximate is None:
+        known = known_from(label_data, given.language, given.labels)
+    else:
+        known = known_of_translation(label_data, strength_of(given.approximate), given.language, given.labels)
     query = query_of(given.query, known.ontology.prefixes) if given.query else None
-    reading = Reading(answer(text), known.names, known.ontology, query, file=known.file, shows_all=given.all)
+    how = {"file": known.file, "originals": known.originals, "caveat": known.caveat, "shows_all": given.all}
+    reading = Reading(answer(text), known.names, known.ontology, query, **how)
     reading = compared(reading)
     return cut_to(reading, given.about, known) if given.about else reading
 
@@ -180,6 +195,9 @@ def read(given, text, label_data):
     except Unread as fault:
         say(f"this is no answer of the reasoner: {fault}")
         return BAD_ANSWER
+    except BadStrength as fault:
+        say(str(fault))
+        return BAD_WORDS
     except Refused as refused:
         say(f"the statement for --query, or the class for --about, cannot be read: {refused}")
         return BAD_WORDS

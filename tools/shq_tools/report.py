@@ -1,11 +1,13 @@
 """All that a report says of an ontology, gathered by questions to the program."""
-from dataclasses import dataclass, field
+from dataclasses import dataclass, field, replace
 
 from shq_tools.answers import Plain, Realization, SetList, Taxonomy, answer
+from shq_tools.approximation.command import translated
+from shq_tools.approximation.for_people import caveat_of, names_of, originals_of
 from shq_tools.caveats import NO_CAVEAT, Caveat
 from shq_tools.cut import blanked
 from shq_tools.documents import walked
-from shq_tools.names import Names, labels_of
+from shq_tools.names import Names, labels_in, labels_of
 from shq_tools.ontology_facts import Ontology, ontology_in
 from shq_tools.profile import counted
 from shq_tools.side_by_side import Deadline, Questions
@@ -122,6 +124,15 @@ def given_of(data, file="", language=""):
     names = Names(labels, language, ontology.names)
     caveat = left_out_caveat(left_out, whole)
     return Given(data, ontology, names, file, whole, by_keyword(looked), left_out, caveat=caveat)
+
+
+def given_of_translation(data, strength, file="", language=""):
+    """The translation of a file. Raises `Refused` where the program would refuse it."""
+    found = translated(data, strength)
+    ontology = ontology_in(found.data)
+    names = names_of(ontology, labels_in(found.data), language)
+    given = Given(found.data, ontology, names, file, len(found.sources))
+    return replace(given, originals=originals_of(found, names), caveat=caveat_of(found))
 
 
 def answered(text):

@@ -3,10 +3,11 @@ import argparse
 import os
 import sys
 
+from shq_tools.approximation.command import BadStrength, strength_of, with_value
 from shq_tools.input_files import READ_FAULT, STATUSES, data_of
 from shq_tools.messages import say
 from shq_tools.names import has_language, languages
-from shq_tools.report import given_of, report_on
+from shq_tools.report import given_of, given_of_translation, report_on
 from shq_tools.report_markdown import markdown_of_report
 from shq_tools.report_page import page_of_report
 from shq_tools.report_words import title_of
@@ -27,11 +28,21 @@ def words_of(words):
                         help=f"how long the hierarchy may take, and all reasons together ({SECONDS} without it)")
     parser.add_argument("-j", "--jobs", metavar="N", type=int, default=None, help="how many questions at once")
     parser.add_argument("--fail-on", choices=["contradictory"], help="end with 1 where something is contradictory")
+    parser.add_argument("--approximate", metavar="full", nargs="?", const="",
+                        help="translate what is outside of the language, and say what is lost")
     parser.add_argument("file", nargs="?", metavar="FILE", help="the ontology, in place of standard input")
-    given = parser.parse_args(words)
+    given = parser.parse_args(with_value(words))
     if given.seconds <= 0 or given.jobs is not None and given.jobs < 1:
         parser.error("--seconds and --jobs need numbers above 0")
     return given
+
+
+def given_by(words, data):
+    """The ontology as the program is asked about it. Raises `Refused` and `BadStrength`."""
+    file = words.file or ""
+    if words.approximate is None:
+        return given_of(data, file, words.language)
+    return given_of_translation(data, strength_of(words.approximate), file, words.language)
 
 
 def refused(text):
@@ -74,7 +85,10 @@ def main(given_words):
         return READ_FAULT
     sys.stdout.reconfigure(encoding="utf-8")
     try:
-        given = given_of(data, words.file or "", words.language)
+        given = given_by(words, data)
+    except BadStrength as fault:
+        say(str(fault))
+        return Status.BAD_WORDS
     except Refused as fault:
         refused(str(fault))
         return STATUSES[fault.sort]

@@ -17,6 +17,22 @@ USAGE = "usage: ./shq approximate [--full] [FILE] > SHQ"
 FULL = "--full"
 
 
+class BadStrength(Exception):
+    """A value of `--approximate` that it does not have."""
+
+
+def strength_of(value):
+    """How much is translated by the value of `--approximate`. Raises `BadStrength`."""
+    if value not in STRENGTHS:
+        raise BadStrength(f"--approximate has the value full, or none, and not {value}")
+    return STRENGTHS[value]
+
+
+def with_value(words):
+    """The words of a command of this folder in which `--approximate` never takes the next word as its value."""
+    return ["--approximate=" if it == "--approximate" else it for it in words]
+
+
 def translated(data, strength):
     """The translation of a file, as fast as it can be had: a great text makes many values, and none in a circle."""
     gc.disable()
@@ -37,10 +53,10 @@ def tell(found):
 
 def prepared(question, source, value):
     """The question as it is, on the translation of what the job reads."""
-    if value not in STRENGTHS:
-        raise Unprepared(f"--approximate has the value full or none, and not {value}", Status.BAD_WORDS)
     try:
-        found = translated(source.data, STRENGTHS[value])
+        found = translated(source.data, strength_of(value))
+    except BadStrength as fault:
+        raise Unprepared(str(fault), Status.BAD_WORDS) from fault
     except Refused:
         # the reasoner refuses it
         return question, source

@@ -1,7 +1,7 @@
 """OWL 2 expressions in Manchester syntax, and how the new names of a translation are shown."""
 from shq_tools.approximation.literals import INTEGERS
 from shq_tools.approximation.new_names import definition_of
-from shq_tools.approximation.owl import STRING, TOP_RANGE, XSD
+from shq_tools.approximation.owl import SHAPES, STRING, TOP_RANGE, XSD
 from shq_tools.manchester import BOUNDS, QUANTIFIERS, name_text
 from shq_tools.names import end_of_iri
 from shq_tools.terms import TOP
@@ -87,6 +87,73 @@ def data_text(of, names):
 def part_text(of, names):
     text = expression_text(of, names)
     return text if of[0] in ("top", "bottom", "name", "one of") else f"({text})"
+
+
+def chain_text(of, names):
+    return " o ".join(role_text(it, names) for it in of[1]) if of[0] == "chain" else role_text(of, names)
+
+
+# How an axiom of OWL 2 reads: its items with their kinds by `owl.SHAPES`, and what stands between them.
+RELATIONS = {
+    "SubClassOf": "{} SubClassOf {}",
+    "ObjectPropertyDomain": "{} Domain {}",
+    "ObjectPropertyRange": "{} Range {}",
+    "DataPropertyDomain": "{} Domain {}",
+    "DataPropertyRange": "{} Range {}",
+    "SubObjectPropertyOf": "{} SubPropertyOf {}",
+    "SubDataPropertyOf": "{} SubPropertyOf {}",
+    "InverseObjectProperties": "{} InverseOf {}",
+    "FunctionalObjectProperty": "Functional: {}",
+    "FunctionalDataProperty": "Functional: {}",
+    "InverseFunctionalObjectProperty": "InverseFunctional: {}",
+    "ReflexiveObjectProperty": "Reflexive: {}",
+    "IrreflexiveObjectProperty": "Irreflexive: {}",
+    "SymmetricObjectProperty": "Symmetric: {}",
+    "AsymmetricObjectProperty": "Asymmetric: {}",
+    "TransitiveObjectProperty": "Transitive: {}",
+    "DatatypeDefinition": "{} EquivalentTo {}",
+    "ClassAssertion": "{1} Type {0}",
+    "ObjectPropertyAssertion": "{1} {0} {2}",
+    "DataPropertyAssertion": "{1} {0} {2}",
+    "NegativeObjectPropertyAssertion": "not ({1} {0} {2})",
+    "NegativeDataPropertyAssertion": "not ({1} {0} {2})",
+}
+PAIRS = {
+    "EquivalentClasses": "EquivalentTo",
+    "EquivalentObjectProperties": "EquivalentTo",
+    "EquivalentDataProperties": "EquivalentTo",
+    "DisjointClasses": "DisjointWith",
+    "DisjointObjectProperties": "DisjointWith",
+    "DisjointDataProperties": "DisjointWith",
+    "SameIndividual": "SameAs",
+    "DifferentIndividuals": "DifferentFrom",
+}
+
+
+def item_text(kind, of, names):
+    if kind == "class":
+        return expression_text(of, names)
+    if kind == "literal":
+        return literal_text(of)
+    if kind == "range":
+        return range_text(of)
+    if kind in ("role", "chain"):
+        return chain_text(of, names)
+    return individual_text(of, names)
+
+
+def owl_axiom_text(axiom, names):
+    """An axiom of OWL 2 in one line."""
+    kinds = [it.rstrip("*") for it in SHAPES.get(axiom.keyword, ())]
+    kinds += kinds[-1:] * (len(axiom.items) - len(kinds))
+    texts = [item_text(kind, of, names) for kind, of in zip(kinds, axiom.items)]
+    if axiom.keyword in RELATIONS:
+        return RELATIONS[axiom.keyword].format(*texts)
+    if axiom.keyword == "DisjointUnion":
+        return f"{texts[0]} DisjointUnionOf {', '.join(texts[1:])}"
+    if axiom.keyword in PAIRS and len(texts) == 2:
+        return f"{texts[0]} {PAIRS[axiom.keyword]} {texts[1]}"
+    return f"{axiom.keyword}: {', '.join(texts)}"
 
 
 def shown(iri, names):
