@@ -24,9 +24,6 @@ public final class TestRunner extends RunListener {
         JUnitCore core = new JUnitCore();
         core.addListener(runner);
         Result result = core.run(tests.toArray(new Class<?>[0]));
-        for (Failure failure : result.getFailures()) {
-            System.out.println("FAILED " + failure.getTestHeader() + "\n" + failure.getTrace());
-        }
         runner.notTried.forEach(text -> System.out.println("not tried: " + text));
         System.out.println(result.getRunCount() + " tests, " + result.getFailureCount() + " failed, "
             + runner.notTried.size() + " not tried, " + result.getRunTime() / 1000 + " s");
@@ -41,6 +38,11 @@ public final class TestRunner extends RunListener {
     @Override
     public void testFinished(Description test) {
         System.out.println(test.getDisplayName() + " " + (System.nanoTime() - started) / 1_000_000 + " ms");
+    }
+
+    @Override
+    public void testFailure(Failure failure) {
+        System.out.println("FAILED " + failure.getTestHeader() + "\n" + failure.getTrimmedTrace());
     }
 
     @Override
