@@ -65,10 +65,10 @@ class Branch:
 
     def add_same(self, one, other):
         """Joins two nodes: what is said of the one of which less is said is said of the other one too."""
-        both = sorted({self.one_for(one), self.one_for(other)}, key=lambda it: sum(len(self.get(at, it)) for at in SAID))
-        if len(both) == 1:
+        ends = self.one_for(one), self.one_for(other)
+        gone, kept = sorted(ends, key=lambda it: sum(len(self.get(at, it)) for at in SAID))
+        if gone == kept:
             return
-        gone, kept = both
         if self.share_line(gone, kept):
             self.add_apart(gone, kept)
         for node in [gone, *self.get("is", gone)]:
