@@ -6,16 +6,17 @@ passed. `commands` has the table of all commands and options.
 """
 import sys
 
-from shq_tools import program
+from shq_tools import program, unproved
 from shq_tools.answering import answered, read_fault
 from shq_tools.commands import COMMANDS, help_text, usage_for
 from shq_tools.messages import say
 from shq_tools.output import guarded, written
-from shq_tools.places import TOOLS, TOP
+from shq_tools.places import TOOLS
 from shq_tools.preparing import Unprepared, prepared
 from shq_tools.running import run_through
 from shq_tools.sources import source_of
 from shq_tools.statuses import Status
+from shq_tools.versions import version_text
 from shq_tools.views import refusal_shown
 from shq_tools.words import BadWords, asked
 
@@ -68,22 +69,15 @@ def print_help(words):
     return Status.DONE if written(text.encode("utf-8")) else Status.WRITE_FAULT
 
 
-def print_version():
-    """Prints the version, and returns 0."""
-    try:
-        version = (TOP / "VERSION").read_text(encoding="utf-8").strip()
-    except OSError:
-        version = "without a version"
-    return Status.DONE if written(f"jezundwa {version}\n".encode("utf-8")) else Status.WRITE_FAULT
-
-
 def main(given):
     """Does what the words of ./shq ask, and returns the exit status."""
     words = list(given)
     if words[:1] == ["help"] or any(it in HELP_WORDS for it in words):
         return print_help(words)
     if words[:1] == ["--version"]:
-        return print_version()
+        return Status.DONE if written(version_text().encode("utf-8")) else Status.WRITE_FAULT
+    if unproved.OPTION in words:
+        return guarded(unproved.main, words)
     command = COMMANDS.get(words[0]) if words else None
     if command is None or command.is_job:
         return ask(words)

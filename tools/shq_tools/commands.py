@@ -244,7 +244,8 @@ TOOLS = (
 
 GENERAL_OPTIONS = (
     Option("--help", "", "what the commands are, or with a command what it is for and its options"),
-    Option("--version", "", "the version"),
+    Option("--version", "", "the version, and by which kit and when the program was proved"),
+    Option("--unproved", "", "with a job: run the sources in a trial, before anything is proved, for a first look"),
 )
 
 COMMANDS = {it.name: it for it in JOBS + TOOLS}
