@@ -1,15 +1,16 @@
 """A question that is asked of the program, and its answer told."""
-from shq_tools import scripts, sessions
 from shq_tools.budgets import SECONDS, Known, known_with, known_within
-from shq_tools.hints import hint_on_budget, hint_on_seconds, steps_in
+from shq_tools.hints import hint_on_budget, hint_on_seconds
 from shq_tools.messages import say
 from shq_tools.output import written
 from shq_tools.running import Ended, end_by, run_through
 from shq_tools.statuses import Status
-from shq_tools.views import CONTRADICTORY, is_whole_needed, shown, status_of
 from shq_tools.words import BadWords
 
 READ_FAULT = b"read fault\n"
+CONTRADICTORY = "contradictory"
+# The options with which an answer has to be there as a whole before any of it is printed.
+WHOLE_OPTIONS = ("--json", "--html", "--fail-on")
 
 
 def seconds_of(question):
@@ -41,15 +42,26 @@ def check_options(question):
         raise BadWords(f"--fail-on can be {CONTRADICTORY}, and not {value}")
 
 
+def is_whole_needed(question):
+    """Whether something else is printed than what the program prints, or the status is another one."""
+    return bool(question.added) or any(it in question.options for it in WHOLE_OPTIONS)
+
+
 def told(question, source, known, hint, **more):
     """Prints what is known, with a hint where that is undecided, and returns the status."""
-    if not written(shown(question, source, known, **more)):
+    output, status = known.ended.output, known.status
+    if is_whole_needed(question):
+        # most answers are printed as they are
+        from shq_tools import views
+
+        output, status = views.shown(question, source, known, **more), views.status_of(question, known)
+    if not written(output):
         return Status.WRITE_FAULT
     if known.status == Status.UNDECIDED:
         say(hint)
     if known.signal:
         end_by(known.signal)
-    return status_of(question, known)
+    return status
 
 
 def hint_for(question, known, seconds):
@@ -63,18 +75,6 @@ def passed_through(question, source):
     if status == Status.UNDECIDED:
         say(hint_on_budget(question))
     return status
-
-
-def script_answered(question, source, seconds):
-    """Asks the lines of a script, and returns the status. Raises `OSError` where the script cannot be read."""
-    found = scripts.given_or_none(question, source)
-    if found is None:
-        return answered_at_once(question, source, None)
-    if seconds is None and not found.is_apart and not is_whole_needed(question):
-        return passed_through(question, source)
-    known = sessions.known_of(found.text, found.lines, seconds, steps_in(question.words), found.is_apart)
-    hint = hint_for(question, known, seconds)
-    return told(question, source, known, hint, **sessions.told_lines(found.lines))
 
 
 def answered_at_once(question, source, seconds):
@@ -91,6 +91,9 @@ def answered(question, source):
     seconds = seconds_of(question)
     if question.words[0] != "session":
         return answered_at_once(question, source, seconds)
+    # what a session needs is read in for sessions alone
+    from shq_tools.session_answering import script_answered
+
     try:
         return script_answered(question, source, seconds)
     except OSError as error:

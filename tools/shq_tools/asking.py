@@ -7,7 +7,7 @@ passed. `commands` has the table of all commands and options.
 import sys
 
 from shq_tools import program, unproved
-from shq_tools.answering import answered, read_fault
+from shq_tools.answering import answered, is_whole_needed, read_fault
 from shq_tools.commands import COMMANDS, help_text, usage_for
 from shq_tools.messages import say
 from shq_tools.output import guarded, written
@@ -17,11 +17,20 @@ from shq_tools.running import run_through
 from shq_tools.sources import source_of
 from shq_tools.statuses import Status
 from shq_tools.versions import version_text
-from shq_tools.views import refusal_shown
 from shq_tools.words import BadWords, asked
 
 HELP_WORDS = ("--help", "-h")
 BAD_WORDS = b"bad words\n"
+
+
+def not_asked(question, fault):
+    """Says why a question is not asked, and returns the status."""
+    say(str(fault))
+    if not is_whole_needed(question):
+        return fault.status
+    from shq_tools.views import refusal_shown
+
+    return fault.status if written(refusal_shown(question, str(fault), fault.status)) else Status.WRITE_FAULT
 
 
 def ask_on_file(question):
@@ -35,8 +44,7 @@ def ask_on_file(question):
     try:
         return answered(*prepared(question, source))
     except Unprepared as fault:
-        say(str(fault))
-        return fault.status if written(refusal_shown(question, str(fault), fault.status)) else Status.WRITE_FAULT
+        return not_asked(question, fault)
 
 
 def ask_without_file(question):

@@ -1,6 +1,9 @@
-"""What is printed of an answer, by the options of its job, and the status that they give it."""
+"""What is printed of an answer, by the options of its job, and the status that they give it. This is read in only where
+an answer is not printed as it is.
+"""
 from shq_tools import json_view
 from shq_tools.answers import Taxonomy, Unread, answer
+from shq_tools.answering import CONTRADICTORY
 from shq_tools.messages import say
 from shq_tools.own_answers import own_answer
 from shq_tools.statuses import Status
@@ -8,12 +11,6 @@ from shq_tools.tokens import Refused
 
 # The jobs that list sets of axioms.
 LISTING_JOBS = ("explain", "repair", "why")
-CONTRADICTORY = "contradictory"
-
-
-def is_whole_needed(question):
-    """Whether an answer has to be there as a whole before any of it is printed."""
-    return bool(question.added) or any(it in question.options for it in ("--json", "--html", "--fail-on"))
 
 
 def own_text(question, known):
