@@ -9,7 +9,7 @@ import sys
 from shq_tools import program, unproved
 from shq_tools.answering import answered, is_whole_needed, read_fault
 from shq_tools.commands import COMMANDS, help_text, usage_for
-from shq_tools.messages import say
+from shq_tools.messages import say, say_plainly
 from shq_tools.output import guarded, written
 from shq_tools.places import TOOLS
 from shq_tools.preparing import Unprepared, prepared
@@ -66,7 +66,7 @@ def ask(given):
         say(str(fault))
         status = Status.BAD_WORDS if written(BAD_WORDS) else Status.WRITE_FAULT
     if status == Status.BAD_WORDS:
-        print(usage_for(given), file=sys.stderr)
+        say_plainly(usage_for(given))
     return status
 
 

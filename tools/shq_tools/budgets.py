@@ -53,6 +53,8 @@ def by_budgets(words, source, seconds, signals, progress):
     """What the program answers within so many seconds, in any thread."""
     known, end = first_known(words), time.monotonic() + seconds
     for steps in budgets():
+        if signals.got:
+            return Known(known.ended, known.budget, signals.got)
         progress.note = f", budget {steps:,}"
         left = max(0.0, end - time.monotonic())
         ended = run_caught((*words, "budget", str(steps)), source, left, signals)

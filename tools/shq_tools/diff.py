@@ -9,7 +9,7 @@ from shq_tools.budgets import SECONDS
 from shq_tools.commands import COMMANDS
 from shq_tools.differences import Said, came, first_ones, said_of
 from shq_tools.manchester import name_text
-from shq_tools.messages import say
+from shq_tools.messages import say, say_plainly
 from shq_tools.preparing import Unprepared, prepared
 from shq_tools.shown_reasons import names_over, reason_lines, smallest_reason
 from shq_tools.sources import Source, source_of
@@ -159,7 +159,7 @@ def main(given):
         return compared(*words, options)
     except BadWords as fault:
         say(str(fault))
-        print(command.usage(), file=sys.stderr)
+        say_plainly(command.usage())
         return Status.BAD_WORDS
     except (Unprepared, Unanswered) as fault:
         say(str(fault))

@@ -4,7 +4,15 @@ import sys
 
 def say(text):
     """Says something, unless nobody can hear it."""
+    say_plainly(f"shq: {text}")
+
+
+def say_plainly(text):
+    """Says something without the name of the command in front."""
+    # without a stream `print` would take standard output
+    if sys.stderr is None:
+        return
     try:
-        print(f"shq: {text}", file=sys.stderr, flush=True)
-    except (AttributeError, OSError, ValueError):
+        print(text, file=sys.stderr, flush=True)
+    except (OSError, ValueError):
         pass

@@ -11,7 +11,7 @@ from shq_tools.budgets import SECONDS
 from shq_tools.checks import Check, checks_in
 from shq_tools.commands import COMMANDS
 from shq_tools.junit import junit_of
-from shq_tools.messages import say
+from shq_tools.messages import say, say_plainly
 from shq_tools.names import Names
 from shq_tools.preparing import Unprepared, prepared
 from shq_tools.questions import with_axioms
@@ -175,7 +175,7 @@ def main(given):
         return verified(*words, options)
     except BadWords as fault:
         say(str(fault))
-        print(command.usage(), file=sys.stderr)
+        say_plainly(command.usage())
         return Status.BAD_WORDS
     except Unprepared as fault:
         say(str(fault))
