@@ -57,10 +57,11 @@ def told(question, source, known, hint, **more):
         output, status = views.shown(question, source, known, **more), views.status_of(question, known)
     if not written(output):
         return Status.WRITE_FAULT
+    if known.signal:
+        say(f"ended by signal {known.signal}; this is what was known then")
+        end_by(known.signal)
     if known.status == Status.UNDECIDED:
         say(hint)
-    if known.signal:
-        end_by(known.signal)
     return status
 
 

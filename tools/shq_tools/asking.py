@@ -8,7 +8,7 @@ import sys
 
 from shq_tools import program, unproved
 from shq_tools.answering import answered, is_whole_needed, read_fault
-from shq_tools.commands import COMMANDS, help_text, usage_for
+from shq_tools.commands import COMMANDS, command_in, complaints_on, help_text, usage_for
 from shq_tools.messages import say, say_plainly
 from shq_tools.output import guarded, written
 from shq_tools.places import TOOLS
@@ -66,13 +66,15 @@ def ask(given):
         say(str(fault))
         status = Status.BAD_WORDS if written(BAD_WORDS) else Status.WRITE_FAULT
     if status == Status.BAD_WORDS:
+        for complaint in complaints_on(given):
+            say(complaint)
         say_plainly(usage_for(given))
     return status
 
 
 def print_help(words):
     """Prints what a command is for, or what all are, and returns 0."""
-    command = next((COMMANDS[it] for it in words if it in COMMANDS), None)
+    command = command_in(words)
     text = help_text(command) if command else (TOOLS / "usage.txt").read_text(encoding="utf-8")
     return Status.DONE if written(text.encode("utf-8")) else Status.WRITE_FAULT
 

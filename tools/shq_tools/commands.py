@@ -10,6 +10,7 @@ command's name, and its answer is the exit status. A row without one is a job of
 An option with `prepares`, as `shq_tools.approximating:prepared`, changes what a job reads before the program is asked:
 see `preparing` for what that call gets and answers.
 """
+import difflib
 import importlib
 from dataclasses import dataclass
 
@@ -252,9 +253,31 @@ COMMANDS = {it.name: it for it in JOBS + TOOLS}
 USAGE = f"usage: ./shq {'|'.join(COMMANDS)} ..  (./shq --help says more)"
 
 
+def command_in(words):
+    """The first word that names a command, as the command, or None."""
+    return next((COMMANDS[it] for it in words if it in COMMANDS), None)
+
+
+def nearest(text, names):
+    """A question whether the nearest of some names was meant, or nothing."""
+    near = difflib.get_close_matches(text, names, n=1)
+    return f"; is it {near[0]} that is meant?" if near else ""
+
+
+def complaints_on(words):
+    """What to say of words that name no command, or no option of theirs."""
+    command = command_in(words)
+    options = [it.partition("=")[0] for it in words if it.startswith("--")]
+    if command is not None:
+        names = [it.name for it in command.options]
+        return [f"{command.name} has no option {it}{nearest(it, names)}" for it in options if it not in names]
+    plain = [it for it in words if not it.startswith("-")]
+    return [f"there is no command {it}{nearest(it, list(COMMANDS))}" for it in plain[:1]]
+
+
 def usage_for(words):
     """The usage line that fits the words best."""
-    command = COMMANDS.get(words[0]) if words else None
+    command = command_in(words)
     return command.usage() if command else USAGE
 
 

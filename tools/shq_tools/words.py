@@ -1,7 +1,7 @@
 """The words of a command, taken apart."""
 from dataclasses import dataclass, field
 
-from shq_tools.commands import COMMANDS
+from shq_tools.commands import COMMANDS, command_in
 
 
 class BadWords(Exception):
@@ -37,11 +37,6 @@ class Asked:
         if command is None or not command.is_job or not command.files:
             return False
         return len(without_budget(self.words)) == 1 + len(command.operands)
-
-
-def command_in(words):
-    """The first word that names a command, as the command, or None."""
-    return next((COMMANDS[it] for it in words if it in COMMANDS), None)
 
 
 def one_option(option, words, at):

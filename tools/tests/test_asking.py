@@ -133,6 +133,19 @@ class Runs(unittest.TestCase):
                 self.assertIn(complaint, told)
                 self.assertIn("usage: ./shq classify", told)
 
+    def test_words_that_are_mistyped(self):
+        cases = {
+            "clasify f.ofn": "there is no command clasify; is it classify that is meant?",
+            "classify --sconds 5": "classify has no option --sconds; is it --seconds that is meant?",
+            "--strict=x sat": "usage: ./shq sat",
+            "zzz": "there is no command zzz\n",
+        }
+        for words, complaint in cases.items():
+            with self.subTest(words=words):
+                _, told, status = shq(*words.split(), STATUS=2)
+                self.assertEqual(status, 2)
+                self.assertIn(complaint, told)
+
     def test_a_signal_ends_it_as_it_ended_the_program(self):
         self.assertEqual(shq("repair", "X", "budget", "5")[2], -15)
 
