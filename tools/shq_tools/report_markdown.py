@@ -3,6 +3,7 @@ from dataclasses import replace
 
 from shq_tools.report_words import (
     ANY_ONE,
+    CHECKED_APART,
     MOST_SETS,
     NO_CLASS,
     NOT_ASKED,
@@ -92,4 +93,5 @@ def markdown_of_report(report):
     if not report.is_undecided:
         lines += ["### Contradictory classes" if not report.is_inconsistent else "### Why", ""]
         lines += contradictory_lines(report)
+    lines += [CHECKED_APART, ""] * bool(report.explained)
     return "\n".join([*lines, f"Made by `./shq report`, {made_at()}.", ""])

@@ -8,6 +8,7 @@ from shq_tools.ontology_facts import made_at
 from shq_tools.page import linked, list_parts, tree_parts
 from shq_tools.report_words import (
     ANY_ONE,
+    CHECKED_APART,
     MOST_SETS,
     NO_CLASS,
     NOT_ASKED,
@@ -173,7 +174,8 @@ class ReportPage:
         return [*parts, note_box(self.given.caveat.lines), *self.read_box()]
 
     def read_box(self):
-        return [details(element("h2", "What was read"), "".join(self.facts()))]
+        facts = [*self.facts(), element("p", CHECKED_APART, "quiet")]
+        return [details(element("h2", "What was read"), "".join(facts))]
 
     def page(self):
         title, sections, parts = title_of(self.report), self.sections(), []

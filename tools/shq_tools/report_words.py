@@ -71,6 +71,12 @@ def is_plain_choice(one):
     return len(one.reasons.sets) == 1 and [[it] for it in one.reasons.sets[0]] == one.repairs.sets
 
 
+CHECKED_APART = (
+    "To have both lists of a class checked by a second, small program: "
+    "./shq evidence STATEMENT FILE > AUDIT, and then second/audit FILE AUDIT STATEMENT."
+)
+
+
 def command_for(job, report, iri):
     """The command that prints a whole list."""
     return f"./shq {job} 'SubClassOf(<{iri}> owl:Nothing)' {report.given.file or 'FILE'}"
