@@ -188,6 +188,7 @@ class Driver(unittest.TestCase):
         status, said, calls = self.build()
         self.assertEqual((status, calls), (0, ["lib low --jobs 1", "lib high --jobs 1", "run"]))
         self.assertIn("shq: crate 2 of 3: high\n", said)
+        self.assertIn("./shq --unproved JOB ..", said.splitlines()[0])
 
     def test_says_where_it_failed(self):
         status, said, calls = self.build(PROVES="1")
