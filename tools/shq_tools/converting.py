@@ -98,6 +98,23 @@ def in_functional_syntax(data):
     return converted(data, syntax.ending), notes
 
 
+def ontology_data_of(words):
+    """The bytes of the ontology that the words name, or of standard input, in functional-style syntax; or None where they
+    cannot be had.
+    """
+    data = data_of(words)
+    if data is None:
+        return None
+    try:
+        data, notes = in_functional_syntax(data)
+    except (Unopened, Unconverted) as fault:
+        say(str(fault))
+        return None
+    for note in notes:
+        say(note)
+    return data
+
+
 def prepared(question, source, _):
     """The question as it is, on a file in functional-style syntax."""
     try:

@@ -1,8 +1,9 @@
 """`./shq cut`: an ontology without what is outside of the language."""
 import sys
 
+from shq_tools.converting import ontology_data_of
 from shq_tools.documents import refusal
-from shq_tools.input_files import READ_FAULT, STATUSES, data_of, say
+from shq_tools.input_files import READ_FAULT, STATUSES, say
 from shq_tools.profile import counted, table
 from shq_tools.survey import by_keyword, survey
 from shq_tools.tokens import Refused
@@ -51,7 +52,7 @@ def main(words):
     if len(words) > 1 or words[:1] == ["--help"]:
         print(USAGE, file=sys.stderr)
         return 2
-    data = data_of(words)
+    data = ontology_data_of(words)
     if data is None:
         return READ_FAULT
     try:

@@ -7,6 +7,7 @@ from shq_tools.answers import Taxonomy, Unread, answer
 from shq_tools.approximation.command import BadStrength, strength_of, translated, with_value
 from shq_tools.approximation.for_people import caveat_of, names_of, originals_of
 from shq_tools.caveats import NO_CAVEAT, Caveat
+from shq_tools.converting import ontology_data_of
 from shq_tools.drawing import graph_of
 from shq_tools.fitting import fits
 from shq_tools.input_files import READ_FAULT, data_of, say
@@ -87,11 +88,15 @@ def known_from(data, language="", file=""):
     return Known(ontology, names_of(ontology, labels, language), file or "")
 
 
-def known_of_translation(data, strength, language="", file=""):
-    """The same of the translation of a file. Raises `Refused` where the file is damaged."""
-    found = translated(data, strength)
-    known = known_from(found.data, language, file)
+def with_translation(known, found):
+    """The same, with what is known of the file of which the ontology is the translation."""
     return replace(known, originals=originals_of(found, known.names), caveat=caveat_of(found))
+
+
+def known_of_translation(data, strength, language="", file=""):
+    """What is known of the translation of a file. Raises `Refused` where the file is damaged."""
+    found = translated(data, strength)
+    return with_translation(known_from(found.data, language, file), found)
 
 
 def query_of(text, prefixes):
@@ -213,7 +218,7 @@ def read(given, text, label_data):
 def main(words):
     given = words_of(words)
     sys.stdout.reconfigure(encoding="utf-8")
-    label_data = data_of([given.labels]) if given.labels else b""
+    label_data = ontology_data_of([given.labels]) if given.labels else b""
     data = data_of([given.file] if given.file else [])
     if data is None or label_data is None:
         return READ_FAULT

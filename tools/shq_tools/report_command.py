@@ -4,7 +4,8 @@ import os
 import sys
 
 from shq_tools.approximation.command import BadStrength, strength_of, with_value
-from shq_tools.input_files import READ_FAULT, STATUSES, data_of
+from shq_tools.converting import ontology_data_of
+from shq_tools.input_files import READ_FAULT, STATUSES
 from shq_tools.messages import say
 from shq_tools.names import has_language, languages
 from shq_tools.report import given_of, given_of_translation, report_on
@@ -80,7 +81,7 @@ def status_behind(words, report):
 def main(given_words):
     """Writes the report, and returns 0; with `--fail-on contradictory` 1 where something is contradictory."""
     words = words_of(given_words)
-    data = data_of([words.file] if words.file else [])
+    data = ontology_data_of([words.file] if words.file else [])
     if data is None:
         return READ_FAULT
     sys.stdout.reconfigure(encoding="utf-8")

@@ -11,11 +11,13 @@ from shq_tools.documents import MOST_BYTES
 class Source:
     """The bytes that a job reads, and the name of the file that they are from, or None for standard input.
 
-    Of a longer text than the program reads, one byte more than that is kept, so that the program refuses it.
+    Of a longer text than the program reads, one byte more than that is kept, so that the program refuses it. Where the
+    bytes are a translation, `translation` is what `approximation.text` says of it.
     """
 
     name: str
     data: bytes
+    translation: object = None
 
     def opened(self):
         """A file with these bytes, for the program to read. It has no name, and is gone once it is closed."""

@@ -35,9 +35,10 @@ def page_shown(question, source, text):
     """The page of an answer, or the answer itself where it has none."""
     # what makes pages is read in for pages alone
     from shq_tools.page import page_of
-    from shq_tools.reading_answers import asked_reading, known_from
+    from shq_tools.reading_answers import asked_reading, known_from, with_translation
 
     known = known_from(source.data, question.options.get("--language", ""), question.file)
+    known = with_translation(known, source.translation) if source.translation else known
     has_statement = question.command.operands and not question.added
     try:
         return page_of(asked_reading(text, known, question.words[1] if has_statement else None))

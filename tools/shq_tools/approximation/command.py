@@ -6,7 +6,9 @@ from dataclasses import replace
 from shq_tools.approximation.summary import lines_of
 from shq_tools.approximation.text import approximation
 from shq_tools.approximation.translation import Strength
-from shq_tools.input_files import READ_FAULT, STATUSES, data_of
+from shq_tools.converting import ontology_data_of
+from shq_tools.documents import MOST_BYTES
+from shq_tools.input_files import READ_FAULT, STATUSES
 from shq_tools.messages import say
 from shq_tools.preparing import Unprepared
 from shq_tools.statuses import Status
@@ -45,23 +47,31 @@ def translated(data, strength):
 def tell(found):
     """Says on standard error what became of the file."""
     for line in lines_of(found):
-        if line.startswith("  "):
-            print(line, file=sys.stderr)
-        else:
-            say(line)
+        say(line)
+
+
+def whole(source):
+    """All that the file of a source has, where it was cut off, since the translation may be shorter than the file."""
+    if source.name is None or len(source.data) != MOST_BYTES + 1:
+        return source.data
+    try:
+        with open(source.name, "rb") as file:
+            return file.read()
+    except OSError:
+        return source.data
 
 
 def prepared(question, source, value):
     """The question as it is, on the translation of what the job reads."""
     try:
-        found = translated(source.data, strength_of(value))
+        found = translated(whole(source), strength_of(value))
     except BadStrength as fault:
         raise Unprepared(str(fault), Status.BAD_WORDS) from fault
     except Refused:
         # the reasoner refuses it
         return question, source
     tell(found)
-    return question, replace(source, data=found.data)
+    return question, replace(source, data=found.data, translation=found)
 
 
 def main(words):
@@ -71,7 +81,7 @@ def main(words):
     if len(files) > 1 or any(it.startswith("-") for it in files):
         print(USAGE, file=sys.stderr)
         return Status.BAD_WORDS
-    data = data_of(files)
+    data = ontology_data_of(files)
     if data is None:
         return READ_FAULT
     try:

@@ -26,6 +26,8 @@ class DataClasses:
         self.context = context
         self.made = {}
         self.places = {}
+        # classes that are made, or met, only to be apart from each other
+        self.auxiliary, self.separated = set(), set()
         # of each property the counts and ranges of its classes; those of a single value apart
         self.values, self.others = {}, {}
 
@@ -68,26 +70,42 @@ class DataClasses:
         if key not in self.made:
             self.made[key] = self.context.names.class_name(expression(number, name, inner))
             self.places[key] = self.context.place
-            self.relate(number, name, inner)
             is_value = number == 1 and inner[0] == "values"
             (self.values if is_value else self.others).setdefault(name, []).append((number, inner))
         return self.made[key]
 
-    def relate(self, number, name, inner):
-        """Writes how a class stands to those that were made of the same property.
+    def complement_of(self, name, inner):
+        """The class *at least 1 in the complement of a range*, where it is made for nothing but to be another one."""
+        key = (name, 1, ranges.negated(inner))
+        if key not in self.made:
+            self.auxiliary |= {key, (name, 1, inner)}
+        return self.least(1, name, ("not", inner))
 
-        *At least n in D* is below *at least m in E* where n is no less than m and D is a part of E. Where D is a part of
-        the complement of E, *at least 1 in D* is below *at least 1 in the complement*, so apart from *all in E*.
+    def relate(self):
+        """Writes how the classes of each property stand to each other, behind all else."""
+        for name in [*self.others]:
+            self.relate_classes(name)
+        self.split()
+
+    def relate_classes(self, name):
+        """Writes which classes of a property are below which: *at least n in D* is below *at least m in E* where n is no
+        less than m and D is a part of E. Those that follow from two others are left out.
         """
-        is_value = number == 1 and inner[0] == "values"
-        others = self.others.get(name, []) + ([] if is_value else self.values.get(name, []))
-        for other in others:
-            for below, above in (((number, inner), other), (other, (number, inner))):
-                if below[0] >= above[0] and ranges.is_part(below[1], above[1]):
-                    self.include(name, below, above)
+        values = self.values.get(name, [])
+        atoms = [*self.others[name], *values]
+        above = []
+        for number, inner in atoms:
+            # no value has another one above it but itself
+            wide = [number >= least and ranges.is_part(inner, of) for least, of in self.others[name]]
+            above.append(sum(1 << at for at, holds in enumerate(wide) if holds))
+        for at in range(len(values)):
+            above[len(self.others[name]) + at] |= 1 << (len(self.others[name]) + at)
+        for one, other in covers(above):
+            self.include(name, atoms[one], atoms[other])
 
     def include(self, name, below, above):
-        self.context.define(Axiom("SubClassOf", (self.made[name, *below], self.made[name, *above]), 0))
+        place = max(self.places[name, *below], self.places[name, *above])
+        self.context.define_at(place, Axiom("SubClassOf", (self.made[name, *below], self.made[name, *above]), 0))
 
     def made_of(self, name, inner):
         """The class expression *at least 1 in a range*, where all of its classes were made, or None."""
@@ -103,6 +121,8 @@ class DataClasses:
         """Writes that each value of a property is in a range or in its complement, behind all else."""
         seen = set()
         for (name, number, inner), place in self.places.items():
+            if (name, number, inner) in self.auxiliary:
+                continue
             whole = self.made.get((name, 1, TOP_RANGE))
             other = self.made_of(name, ranges.negated(inner)) if number == 1 and whole else None
             if other is not None and (name, ranges.negated(inner)) not in seen:
@@ -177,12 +197,12 @@ def of_functional(context, axiom):
     name = axiom.items[0]
     yield Axiom("SubClassOf", (context.data.least(2, name, TOP_RANGE), BOTTOM), axiom.line)
     made = context.data.made
+    for number, inner in list(context.data.others.get(name, [])):
+        if number == 1 and inner != TOP_RANGE and (name, 1, ranges.negated(inner)) not in context.data.separated:
+            context.data.separated.add((name, 1, inner))
+            sup = negated(context.data.complement_of(name, inner))
+            yield Axiom("SubClassOf", (made[name, 1, inner], sup), axiom.line)
     values = [inner for _, inner in context.data.values.get(name, [])]
-    others = [inner for number, inner in context.data.others.get(name, []) if number == 1]
-    for at, one in enumerate(others):
-        apart = [made[name, 1, it] for it in values + others[:at] if ranges.are_apart(one, it)]
-        if apart:
-            yield Axiom("SubClassOf", (made[name, 1, one], negated(joined("or", apart))), axiom.line)
     if len(values) > MOST_VALUES:
         context.lose(Loss.MANY_VALUES)
         return
@@ -213,3 +233,30 @@ def of_datatype(context, axiom):
         if given == ("not", ("datatype", datatype)):
             same = context.data.least(number, name, ("not", inner))
             yield Axiom("EquivalentClasses", (context.data.made[name, number, given], same), axiom.line)
+
+
+def covers(above):
+    """The pairs of numbers of which the second is directly above the first. `above` has of each number, as bits, those
+    that are above it or equal to it; of equal ones each is directly above the one before, and the first above the last.
+    """
+    groups = {}
+    for at, bits in enumerate(above):
+        groups.setdefault(bits, []).append(at)
+    own = {bits: sum(1 << at for at in group) for bits, group in groups.items()}
+    found = []
+    for bits, group in groups.items():
+        if len(group) > 1:
+            found += zip(group, group[1:] + group[:1])
+        strict = bits & ~own[bits]
+        farther = 0
+        for other in members(strict):
+            farther |= above[other] & ~own[above[other]]
+        found += [(group[0], other) for other in members(strict & ~farther) if other == groups[above[other]][0]]
+    return found
+
+
+def members(bits):
+    while bits:
+        lowest = bits & -bits
+        yield lowest.bit_length() - 1
+        bits ^= lowest

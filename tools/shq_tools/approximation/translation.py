@@ -325,7 +325,7 @@ class Translator:
             self.write(data_classes.of_functional(context, axiom))
         for axiom in self.of("DisjointDataProperties"):
             self.write(data_classes.of_disjoint(context, axiom))
-        context.data.split()
+        context.data.relate()
 
     def rows_at(self, place):
         """The axioms of the language that stand at a place."""
