@@ -73,11 +73,17 @@ def known_within(words, source, seconds):
         return by_budgets(words, source, seconds, Signals(), progress)
 
 
-def known_with(words, source):
-    """What the program answers to words that say how many steps it may make, or to words that it refuses."""
+def known_with(words, source, seconds=None):
+    """What the program answers to words that say how many steps it may make, or to words that it refuses. Answers None
+    where it has to be ended after so many seconds.
+    """
     signals = Signals()
     with Progress():
-        ended = run_caught(words, source, None, signals)
+        ended = run_caught(words, source, seconds, signals)
+    if ended is None and not signals.got:
+        return None
+    if ended is None:
+        return Known(first_known(words).ended, 0, signals.got)
     if ended.status < 0:
         return Known(first_known(words).ended, 0, -ended.status)
     return Known(ended, budget_in(words))

@@ -26,8 +26,8 @@ ASKED_OF = ("AXIOM", "CLASS")
 PLAIN = ("SubClassOf", "ClassAssertion")
 # A longer question is handed over inside of the ontology, since no system hands over a longer word.
 MOST_WORD = (1 << 17) - 1
-# In a longer text names are looked for before it is read whole, which takes a second for each such length.
-MOST_READ_AT_ONCE = 500_000
+# In a longer text names are looked for before it is read whole, which takes seconds.
+MOST_READ_AT_ONCE = 200_000
 FILE_SIGN = "@"
 MOST_SHOWN = 1000
 # More than the new names that a reduction uses.

@@ -36,12 +36,17 @@ def waits_on_standard_input():
     return sys.stdin is not None and not sys.stdin.isatty()
 
 
+def may_stand_apart(question):
+    """Whether a script may come from standard input, where none stands behind the ontology."""
+    return question.file is not None and waits_on_standard_input()
+
+
 def name_of_script(question, behind):
     """The name of the file that has the script, `-` for standard input, or None where it stands behind the ontology."""
     if question.script is not None:
         return question.script
     is_alone = first_stray(behind.decode("latin-1"), 0) is None
-    return STANDARD_INPUT if question.file is not None and is_alone and waits_on_standard_input() else None
+    return STANDARD_INPUT if is_alone and may_stand_apart(question) else None
 
 
 def put_line(line, vocabulary, added):

@@ -121,6 +121,21 @@ class Scripts(unittest.TestCase):
         self.assertEqual((said, status), ([], 10))
         self.assertIn("line 1 of the script: the file has no class c3", complaint)
 
+    def test_a_script_behind_the_ontology_is_one_run_where_that_suffices(self):
+        with tempfile.TemporaryDirectory() as room:
+            runs = Path(room) / "runs"
+            script = "ask SubClassOf(:c600000 :X)\nfoo\n"
+            said, complaint, status = shq("session", data=(DOCUMENT + script).encode(), program=ANSWERING, RUNS=runs)
+            self.assertEqual((said, complaint, status), ("yes 1 2 3 4 5 6\nbad line\n", "", 0))
+            self.assertEqual(runs.read_text(), "1000000: 2\n")
+            script = "ask SubClassOf(:c600000 :X)\nask SubClassOf(:c5000000 :X)\nremove 1\n"
+            said, complaint, status = shq("session", data=(DOCUMENT + script).encode(), program=ANSWERING, RUNS=runs)
+            self.assertEqual((said, complaint, status), ("yes 1 2 3 4 5 6\n" * 2 + "removed 1\n", "", 0))
+            said, complaint, status = shq(
+                "session", "budget", "1000000", data=(DOCUMENT + script).encode(), program=ANSWERING, RUNS=runs
+            )
+            self.assertEqual((said, status), ("yes 1 2 3 4 5 6\nundecided\n", 8))
+
     def test_a_damaged_ontology(self):
         said, _, status, _ = self.session("ask SubClassOf(:c1 :X)\n", document="DAMAGED")
         self.assertEqual((said, status), (["bad text shape line 1"], 3))
