@@ -3,6 +3,8 @@ import json
 import re
 
 from shq_tools.answers import Instances, Model, Realization, Reasons, Refutation, SetList, Taxonomy, Unread, answer
+from shq_tools.approximation.display import shown_names
+from shq_tools.approximation.summary import lines_of
 from shq_tools.functional import axiom_text
 from shq_tools.names import Names, labels_in
 from shq_tools.statuses import Status, status_name
@@ -131,16 +133,26 @@ def bare_iris(told):
     return [*found, *model.get("classes", ()), *model.get("roles", ()), *model.get("individuals", ())]
 
 
-def names_of(told, data, language):
-    """The labels of the things in a told answer, where the ontology has any."""
-    if b"label" not in data:
-        return {}
+def labels_of(data):
+    """The labels of an ontology, or none where it is damaged or has none."""
     try:
-        labels = labels_in(data)
+        return labels_in(data) if b"label" in data else {}
     except Refused:
         return {}
+
+
+def names_of(told, source, language):
+    """The labels of the things in a told answer, where there are any, and what new names of a translation mean."""
+    labels, iris = labels_of(source.data), sorted(iris_in(told))
     names = Names(labels, language)
-    return {iri: names.of(iri) for iri in sorted(iris_in(told)) if iri in labels}
+    found = {iri: names.of(iri) for iri in iris if iri in labels}
+    return {**found, **shown_names(iris, names)} if source.translation else found
+
+
+def translation_of(source):
+    """What was made of the file before it was asked about, or None."""
+    found = source.translation if source else None
+    return {"exact": found.losses.is_exact, "notes": lines_of(found)} if found else None
 
 
 def head_of(question, status):
@@ -164,8 +176,10 @@ def object_of(question, source, output, status, **more):
         told = read(head["job"], output)
     except Unread as fault:
         told = {"verdict": "unread", "message": str(fault)}
-    names = names_of(told, source.data, question.options.get("--language", "")) if source else {}
-    return {**head, "complete": status not in (Status.UNDECIDED, Status.NO_MEMORY), **told, "names": names, **more}
+    names = names_of(told, source, question.options.get("--language", "")) if source else {}
+    complete = status not in (Status.UNDECIDED, Status.NO_MEMORY)
+    translation = translation_of(source)
+    return {**head, "translation": translation, "complete": complete, **told, "names": names, **more}
 
 
 def text_of(value):

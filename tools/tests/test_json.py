@@ -127,6 +127,25 @@ class Forms(unittest.TestCase):
         check_form(value)
         self.assertEqual((value["verdict"], value["status"]["number"], status), ("read fault", 6, 6))
 
+    def test_translations(self):
+        """The object says what was lost, and what new names mean."""
+        data = b"""Prefix(:=<http://e.org/>)
+Ontology(
+SubClassOf(:A ObjectHasValue(:r :a))
+InverseObjectProperties(:r :s)
+)
+"""
+        said, _, _ = shq("classify", "--json", data=data, program=printing("consistent\nnothing\nthing\n"))
+        self.assertIsNone(json.loads(said)["translation"])
+        new = "urn:owl2-as-shq:ObjectOneOf(%3Chttp://e.org/a%3E)"
+        text = f"consistent\nnothing <{new}>\nthing\n"
+        said, _, status = shq("classify", "--json", "--approximate", data=data, program=printing(text))
+        value = json.loads(said)
+        check_form(value)
+        self.assertEqual((value["translation"]["exact"], status), (False, 0))
+        self.assertIn("inverse roles", " ".join(value["translation"]["notes"]))
+        self.assertEqual(value["names"], {new: "{a}"})
+
     def test_pages(self):
         """--html makes the page that `read` makes."""
         text = f"consistent\nnothing <{PUMPS}MagneticPump>\nthing\nclass <{PUMPS}Pump> under owl:Thing\n"
