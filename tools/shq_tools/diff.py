@@ -11,7 +11,7 @@ from shq_tools.differences import Said, came, first_ones, said_of
 from shq_tools.manchester import name_text
 from shq_tools.messages import say, say_plainly
 from shq_tools.preparing import Unprepared, prepared
-from shq_tools.shown_reasons import names_over, reason_lines, smallest_reason
+from shq_tools.shown_reasons import names_over, originals_in, reason_lines, smallest_reason
 from shq_tools.sources import Source, source_of
 from shq_tools.statuses import Status
 from shq_tools.tokens import Refused
@@ -95,8 +95,9 @@ def reasons_for(asker, side, statements, names, most):
     """A reason for each of the first statements."""
 
     def one(statement):
-        return reason_lines(smallest_reason(asker, statement.question(), side.source, 0, 0), names)
+        return reason_lines(smallest_reason(asker, statement.question(), side.source, 0, 0), names, originals)
 
+    originals = originals_in(side.source, names)
     first = statements[:most]
     return dict(zip(first, asker.all(one, first)))
 

@@ -1,6 +1,7 @@
 """Reasons and worlds in a few lines, for checks and for differences."""
 from shq_tools.answers import SetList, Unread, answer
 from shq_tools.approximation.display import shown_names
+from shq_tools.approximation.for_people import originals_of
 from shq_tools.manchester import axiom_text
 from shq_tools.names import Names
 from shq_tools.own_answers import own_answer
@@ -36,11 +37,18 @@ def smallest_reason(asker, question, source, own, added):
     return [found.axioms[it].axiom for it in min(found.sets, key=len)]
 
 
-def reason_lines(axioms, names):
-    """A line for each axiom of a reason."""
+def originals_in(source, names):
+    """By line, the axioms of the file in place of which a translation has others."""
+    return originals_of(source.translation, names) if source.translation else {}
+
+
+def reason_lines(axioms, names, originals):
+    """A line for each axiom of a reason, once for those that stand for one axiom of the file."""
     if not axioms:
         return ["by no axiom at all"] if axioms is not None else []
-    return [f"axiom {it.number}, line {it.line}: {axiom_text(it, names)}" for it in axioms]
+    own = (f"axiom {it.number}, line {it.line}: {axiom_text(it, names)}" for it in axioms)
+    lines = (f"line {it.line}: {originals[it.line]}" if it.line in originals else text for it, text in zip(axioms, own))
+    return list(dict.fromkeys(lines))
 
 
 def world_lines(model, names):

@@ -15,7 +15,7 @@ from shq_tools.messages import say, say_plainly
 from shq_tools.names import Names
 from shq_tools.preparing import Unprepared, prepared
 from shq_tools.questions import with_axioms
-from shq_tools.shown_reasons import names_over, reason_lines, smallest_reason, world_lines
+from shq_tools.shown_reasons import names_over, originals_in, reason_lines, smallest_reason, world_lines
 from shq_tools.sources import Source, source_of
 from shq_tools.statuses import Status, status_of
 from shq_tools.tokens import Refused
@@ -70,6 +70,7 @@ class Verifier:
     source: Source
     vocabulary: Vocabulary
     names: Names
+    originals: dict
 
     def asked_on(self, put):
         """What the program reads for a question."""
@@ -103,11 +104,11 @@ class Verifier:
         question = f"SubClassOf({put.text} owl:Nothing)" if check.slot == "CLASS" else put.text
         reason = smallest_reason(self.asker, question, source, self.vocabulary.axiom_count, len(put.added))
         if reason is not None:
-            return reason_lines(reason, self.names)
+            return reason_lines(reason, self.names, self.originals)
         # no reason was found in time, but the certificate names axioms that suffice
         used = [it for it in found.axioms if it <= self.vocabulary.axiom_count]
         head = f"by {len(used)} axioms, of which some may not be needed:"
-        return [head, *reason_lines([self.vocabulary.axioms[it - 1] for it in used], self.names)]
+        return [head, *reason_lines([self.vocabulary.axioms[it - 1] for it in used], self.names, self.originals)]
 
 
 def status_over(results):
@@ -148,7 +149,7 @@ def verified(file, checks, options):
     names = names_over([vocabulary], options.get("--language", ""))
     results = []
     with Asker(seconds, at_once) as asker:
-        verifier = Verifier(asker, source, vocabulary, names)
+        verifier = Verifier(asker, source, vocabulary, names, originals_in(source, names))
         for result in asker.all(verifier.result, pairs):
             asker.progress.stop()
             print("\n".join(result.lines()), flush=True)

@@ -9,7 +9,8 @@ from shq_tools.answers import Model
 from shq_tools.checks import check_in, lines_in
 from shq_tools.names import Names
 from shq_tools.places import EXAMPLES, TOOLS
-from shq_tools.shown_reasons import world_lines
+from shq_tools.shown_reasons import reason_lines, world_lines
+from shq_tools.terms import Axiom
 from tests.fakes import run, shq
 from tests.program import needs_program
 
@@ -64,6 +65,14 @@ class Lines(unittest.TestCase):
 
     def test_lines_that_are_passed_over(self):
         self.assertEqual(lines_in("# a\n\n  A must follow \n#b"), [(3, "A must follow")])
+
+    def test_a_reason_has_an_axiom_of_the_file_once(self):
+        axioms = [
+            Axiom("FunctionalObjectProperty", (f"http://e.org/{it}",), line, number)
+            for it, line, number in (("r", 3, 1), ("s", 3, 2), ("t", 4, 3))
+        ]
+        lines = reason_lines(axioms, Names(), {3: "r InverseOf s"})
+        self.assertEqual(lines, ["line 3: r InverseOf s", "axiom 3, line 4: Functional: t"])
 
     def test_a_great_world_is_told_in_part(self):
         lines = world_lines(Model("", 20, {}, {}), Names())
