@@ -10,7 +10,7 @@ from shq_tools.words import BadWords
 READ_FAULT = b"read fault\n"
 CONTRADICTORY = "contradictory"
 # The options with which an answer has to be there as a whole before any of it is printed.
-WHOLE_OPTIONS = ("--json", "--html", "--fail-on")
+WHOLE_OPTIONS = ("--json", "--html", "--markdown", "--fail-on")
 
 
 def seconds_of(question):

@@ -11,6 +11,8 @@ from shq_tools.walk import NoLimits, Walk
 LISTS = ("justifications", "repairs")
 MODEL_VERDICTS = ("not entailed", "satisfiable")
 REFUTATION_VERDICTS = ("entailed", "unsatisfiable")
+# The verdicts on a class, in place of a statement.
+OF_CLASSES = ("satisfiable", "unsatisfiable")
 # The lines of answers that are a few words.
 PLAIN_LINE = re.compile(
     r"""undecided|no\ memory|bad\ words|read\ fault|limit\ text(\ query)?

@@ -11,8 +11,8 @@ class Caveat:
 
     Hand one to `Reading(.., caveat=..)`, or to `Report(.., caveat=..)`: texts and pages show its `lines` at the top, and
     where a verdict is one of `qualifies` they put `says` directly behind it. Verdicts are `entailed`, `not entailed`,
-    `satisfiable`, `unsatisfiable`, `consistent`, `inconsistent`, `no contradictory class`, `justifications`,
-    `repairs` and `instances`.
+    `satisfiable`, `unsatisfiable`, `consistent`, `inconsistent`, `contradictory classes`, `no contradictory class`,
+    `justifications`, `repairs` and `instances`.
     """
 
     lines: tuple

@@ -92,10 +92,11 @@ LANGUAGE = Option("--language", "TAG", "the language of the names in that object
 FAIL_ON = Option("--fail-on", "contradictory", "end with status 1 where a class, or the whole, is contradictory")
 
 HTML = Option("--html", "", "the answer as a page")
+MARKDOWN = Option("--markdown", "", "the answer as text for a pull request or an issue")
 
 # The options of each job that reads an ontology, of those that check a certificate, of those that ask a question, and
 # of those that ask about the whole ontology.
-JOB_OPTIONS = (APPROXIMATE, JSON, HTML, LANGUAGE)
+JOB_OPTIONS = (APPROXIMATE, JSON, HTML, MARKDOWN, LANGUAGE)
 CHECK_OPTIONS = (STRICT, *JOB_OPTIONS)
 ASK_OPTIONS = (*TIMED, STRICT, *JOB_OPTIONS)
 WHOLE_OPTIONS = (*TIMED, *JOB_OPTIONS)
@@ -139,7 +140,7 @@ JOBS = (
         "counts over an ontology that the program makes itself",
         ("N",),
         files=(),
-        options=(*TIMED, JSON),
+        options=(*TIMED, JSON, HTML, MARKDOWN),
         has_budget=True,
     ),
 )

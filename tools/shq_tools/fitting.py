@@ -1,10 +1,8 @@
 """Whether an answer can be to a statement: an answer has no statement in it, so one that is named must fit."""
-from shq_tools.answers import Model, Reasons, Refutation, SetList
+from shq_tools.answers import OF_CLASSES, Model, Reasons, Refutation, SetList
 from shq_tools.locality import module
 from shq_tools.normal_forms import complement, normal
 from shq_tools.terms import BOTTOM, TOP
-
-OF_CLASSES = ("satisfiable", "unsatisfiable")
 
 
 def is_of_class(query):

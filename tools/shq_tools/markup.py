@@ -1,4 +1,5 @@
 """HTML: elements, names that are links or have their IRI with them, and what every page has around its content."""
+import re
 from html import escape
 from pathlib import Path
 
@@ -42,6 +43,8 @@ class LinkedNames:
     def marked(self, iri, text):
         """A text that stands for a thing."""
         text = escape(text, quote=False)
+        if self.has_own_form(iri):
+            return f"<span>{text}</span>"
         if iri in self.places:
             return f'<a href="#{self.places[iri]}" title="{escape(iri)}">{text}</a>'
         return f'<span title="{escape(iri)}">{text}</span>'
@@ -96,9 +99,16 @@ def bar(links, searched=""):
 
 
 def note_box(lines):
-    """A note that stands at the top of a page."""
-    texts = "".join(element("p", it) for it in lines)
-    return f'<div class="note" role="note">{texts}</div>' if lines else ""
+    """A note that stands at the top of a page. Lines that are indented are the rows of a list."""
+    parts, rows = [], []
+    for line in lines:
+        if line.startswith("  "):
+            rows.append(element("li", " · ".join(re.split(r"\s{2,}", line.strip()))))
+            continue
+        parts += [wrapped("ul", "".join(rows))] * bool(rows) + [element("p", f"{line[0].upper()}{line[1:]}")]
+        rows = []
+    parts += [wrapped("ul", "".join(rows))] * bool(rows)
+    return f'<div class="note" role="note">{"".join(parts)}</div>' if parts else ""
 
 
 def whole_page(title, head, parts, navigation=""):

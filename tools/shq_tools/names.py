@@ -112,7 +112,7 @@ class Names:
         self.written = dict(written or {})
         self.left_out = frozenset(left_out)
         self.owners = {}
-        self.given = {}
+        self.given = dict(self.written)
         for iri in (*self.labels, *known, *self.written):
             self.own(iri)
 
@@ -156,6 +156,12 @@ class Names:
     def shown(self, iris):
         """The things that a list shows, in the order of their names."""
         return sorted((it for it in iris if it not in self.left_out), key=self.order)
+
+    def add_forms(self, written):
+        """Gives some things a form of their own, by their IRIs, and leaves them out of lists."""
+        self.written.update(written)
+        self.left_out |= frozenset(written)
+        self.given.update(written)
 
     def has_own_form(self, iri):
         """Whether a thing is written in a way of its own, without quotation marks."""

@@ -24,14 +24,11 @@ class Ontology:
     def names(self):
         return [*self.classes, *self.roles, *self.individuals]
 
-    def counts(self):
-        """How much of each kind there is, by its word in the singular."""
-        return {
-            "axiom": len(self.axioms),
-            "class": len(self.classes),
-            "role": len(self.roles),
-            "individual": len(self.individuals),
-        }
+    def counts(self, names):
+        """How much of each kind there is, by its word in the singular, without what has a form of its own."""
+        kinds = {"class": self.classes, "role": self.roles, "individual": self.individuals}
+        found = {what: sum(not names.has_own_form(it) for it in those) for what, those in kinds.items()}
+        return {"axiom": len(self.axioms), **found}
 
 
 def ontology_in(data):

@@ -13,6 +13,7 @@ from shq_tools.wording import (
     AS_A_WHOLE,
     ONE_EACH,
     ending,
+    exceptions_text,
     family_heading,
     left_out_text,
     plain_lines,
@@ -145,7 +146,8 @@ def class_list(names, iris):
 
 def taxonomy_body(reading):
     answer, names, parts = reading.answer, reading.names, []
-    parts += [element("p", AS_A_WHOLE)] * (answer.is_consistent and bool(answer.nothing))
+    if answer.is_consistent and answer.nothing:
+        parts.append(element("p", " ".join([AS_A_WHOLE, *reading.caveat.behind("consistent")])))
     titles = {"Contradictory classes": answer.nothing, "Classes that hold everything": answer.thing}
     for title, members in titles.items():
         if names.shown(members):
@@ -185,7 +187,7 @@ def model_body(reading, plain):
     shown, (near, others) = reading.exceptions(), reading.things()
     parts = [element("p", ending(reading.answer)), *picture(reading, plain, "A picture of the world")]
     if shown:
-        parts.append(element("p", f"The statement fails for thing {', '.join(map(str, shown))}.", "good"))
+        parts.append(element("p", exceptions_text(reading.answer, shown), "good"))
     parts += [element("h2", "The world"), thing_table(reading, near)]
     return parts + [details(unrelated_text(len(others)), thing_table(reading, others))] * bool(others)
 
@@ -245,8 +247,13 @@ def head_parts(reading, heading):
     """What stands above the parts of the page."""
     parts = [wrapped("h1", heading)]
     parts += [element("p", it) for it in reading.caveat.behind(verdict(reading.answer))]
+    parts += [element("p", f"Asked: {reading.written}")] * bool(reading.written)
     parts.append(element("p", facts_line(reading), "quiet"))
-    return [*parts, note_box(reading.caveat.lines)]
+    return [*parts, note_box([*reading.caveat.lines, *map(sentence, reading.notes)])]
+
+
+def sentence(note):
+    return f"{note[0].upper()}{note[1:]}."
 
 
 def page_of(reading: Reading):

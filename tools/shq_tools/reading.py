@@ -1,7 +1,7 @@
 """An answer together with what is known of its ontology, for all ways to show it."""
 from dataclasses import dataclass, field, replace
 
-from shq_tools.answers import ListedAxiom, Model, Refutation, SetList
+from shq_tools.answers import OF_CLASSES, Instances, ListedAxiom, Model, Plain, Reasons, Refutation, SetList
 from shq_tools.arguments import families, in_order_of_argument
 from shq_tools.caveats import NO_CAVEAT, Caveat
 from shq_tools.manchester import axiom_text, class_text, name_text
@@ -43,7 +43,8 @@ class Reading:
     `about` is the class to whose neighbourhood a taxonomy was cut, or nothing.
     `originals` has, by line, an axiom of the file as it stands there, where others were made from it: it is shown in
     their place, once. `caveat` says what the answer is worth for the whole of the file. `shows_all` also shows what of
-    a world has nothing to do with the statement.
+    a world has nothing to do with the statement. `written` is the question as a person wrote it, where it was put in
+    another way.
     """
 
     answer: object
@@ -57,6 +58,7 @@ class Reading:
     originals: dict = field(default_factory=dict)
     caveat: Caveat = NO_CAVEAT
     shows_all: bool = False
+    written: str = ""
 
     def __post_init__(self):
         self.axioms = self.ontology.axioms
@@ -66,7 +68,7 @@ class Reading:
 
     def counts(self):
         """How much the ontology has of each kind, in words, or nothing where it is not known."""
-        counts = self.ontology.counts()
+        counts = self.ontology.counts(self.names)
         return [counted(number, what) for what, number in counts.items() if number or what in ("axiom", "class")]
 
     def axiom_text(self, axiom):
@@ -137,14 +139,17 @@ class Reading:
 
     def heading(self):
         said = heading(self.answer, self.names)
-        if self.query is None or not self.is_asked:
+        if self.query is None or not self.is_asked or isinstance(self.answer, Plain):
             return said
         if isinstance(self.answer, (Model, Refutation)):
             return f"{said} ({self.query_text()})"
         return f"{self.query_text()}: {said[0].lower()}{said[1:]}"
 
     def query_text(self):
+        """The statement that was asked about, or the class."""
         sub, sup, individual = self.query
+        if isinstance(self.answer, (Instances, Reasons)) or getattr(self.answer, "verdict", "") in OF_CLASSES:
+            return class_text(self.asked_class(), self.names)
         if individual is not None:
             return f"{name_text(individual, self.names)} Type {class_text(sup, self.names)}"
         return f"{class_text(sub, self.names)} SubClassOf {class_text(sup, self.names)}"

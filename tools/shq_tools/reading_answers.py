@@ -3,9 +3,9 @@ import argparse
 import sys
 from dataclasses import dataclass, field, replace
 
-from shq_tools.answers import Taxonomy, Unread, answer
+from shq_tools.answers import Plain, Reasons, Taxonomy, Unread, answer
 from shq_tools.approximation.command import BadStrength, strength_of, translated, with_value
-from shq_tools.approximation.for_people import caveat_of, names_of, originals_of
+from shq_tools.approximation.for_people import caveat_of, names_of, new_forms, originals_of
 from shq_tools.caveats import NO_CAVEAT, Caveat
 from shq_tools.converting import ontology_data_of
 from shq_tools.drawing import graph_of
@@ -17,7 +17,7 @@ from shq_tools.page import page_of
 from shq_tools.reading import Reading
 from shq_tools.statuses import status_of
 from shq_tools.terms import BOTTOM, TOP
-from shq_tools.text_view import lines_of
+from shq_tools.text_view import heading_of, lines_above, lines_below, lines_of
 from shq_tools.tokens import Refused, end_line, tokens
 from shq_tools.trees import trees
 from shq_tools.trees_of_classes import around
@@ -26,6 +26,8 @@ from shq_tools.walk import NoLimits, Walk
 BAD_WORDS = 2
 BAD_ANSWER = 3
 MISFIT = "the answer is to another statement than that of --query"
+NO_LINES = "The script has no lines."
+NOT_WHOLE = "The answer is not whole."
 NOT_COMPARED = "whether the answer is to the statement of --query cannot be told"
 
 
@@ -65,12 +67,13 @@ class Known:
     caveat: Caveat = NO_CAVEAT
 
 
-def labels_from(data):
-    """The labels of a file, or none where it is damaged."""
+def labels_from(data, is_named=True):
+    """The labels of a file, or none where it is damaged, which is said of a file that is named for its labels."""
     try:
         return labels_in(data)
     except Refused as refused:
-        say(f"the file for --labels cannot be read, so names are the ends of IRIs: {refused}")
+        if is_named:
+            say(f"the file for --labels cannot be read, so names are the ends of IRIs: {refused}")
         return {}
 
 
@@ -81,9 +84,9 @@ def complain_of_language(labels, language):
         say(f"no label is in the language {language}; there are labels in {there}. Names are the ends of IRIs")
 
 
-def known_from(data, language="", file=""):
+def known_from(data, language="", file="", is_named=True):
     """What a file with labels, which may be the ontology itself, says of things."""
-    ontology, labels = ontology_from(data), labels_from(data) if data else {}
+    ontology, labels = ontology_from(data), labels_from(data, is_named) if data else {}
     complain_of_language(labels, language)
     return Known(ontology, names_of(ontology, labels, language), file or "")
 
@@ -158,24 +161,60 @@ def reading_of(given, text, label_data):
     else:
         known = known_of_translation(label_data, strength_of(given.approximate), given.language, given.labels)
     query = query_of(given.query, known.ontology.prefixes) if given.query else None
+    known.names.add_forms(new_forms(text, known.names))
     how = {"file": known.file, "originals": known.originals, "caveat": known.caveat, "shows_all": given.all}
     reading = Reading(answer(text), known.names, known.ontology, query, **how)
     reading = compared(reading)
     return cut_to(reading, given.about, known) if given.about else reading
 
 
-def asked_reading(text, known, statement=None):
-    """The reading of an answer that was surely to this statement, or to no statement."""
-    query = query_of(statement, known.ontology.prefixes) if statement else None
-    how = {"file": known.file, "originals": known.originals, "caveat": known.caveat}
-    return Reading(answer(text), known.names, known.ontology, query, is_asked=query is not None, **how)
+def known_for(question, source):
+    """What is known of the ontology that a job read, which may be a translation of its file."""
+    if source is None:
+        return Known()
+    known = known_from(source.data, question.options.get("--language", ""), source.name, is_named=False)
+    return with_translation(known, source.translation) if source.translation else known
+
+
+def statement_of(question):
+    """The statement or class that the program was asked about, or nothing where there is none or it has names that
+    were made for it.
+    """
+    command = question.command
+    return question.words[1] if command and command.operands and command.files and not question.added else None
+
+
+def answer_of(job, text):
+    """The answer of a job, where no line at all may be one too, and one that is cut off is shown as such."""
+    if not text:
+        return Reasons([]) if job == "why" else Plain([NO_LINES if job == "session" else NOT_WHOLE])
+    try:
+        return answer(text)
+    except Unread:
+        return Plain([NOT_WHOLE])
+
+
+def asked_reading(text, known, statement=None, job="", written=""):
+    """The reading of an answer that is surely to this statement, or to no statement."""
+    try:
+        query = query_of(statement, known.ontology.prefixes) if statement else None
+    except Refused:
+        query = None
+    how = {"file": known.file, "originals": known.originals, "caveat": known.caveat, "written": written}
+    return Reading(answer_of(job, text), known.names, known.ontology, query, is_asked=query is not None, **how)
+
+
+def reading_for(question, source, text):
+    """The answer of a job, with the question as it was written where that was put in another way."""
+    written = question.written if question.written not in question.words else ""
+    return asked_reading(text, known_for(question, source), statement_of(question), question.words[0], written or "")
 
 
 def markdown_of(reading):
     """The answer as text for a pull request or an issue: its heading, and the rest as it stands."""
-    first, *rest = lines_of(reading)
-    body = "\n".join(rest).strip("\n")
-    return f"### {first}\n" + (f"\n```text\n{body}\n```\n" if body else "")
+    lines = [f"### {heading_of(reading)}", "", *(f"> {it}" for it in lines_above(reading) if it)]
+    body = "\n".join(lines_below(reading)).strip("\n")
+    return "\n".join([*lines, *["", "```text", body, "```"] * bool(body), ""])
 
 
 def shown(given, reading):

@@ -1,5 +1,5 @@
 """All that a report says of an ontology, gathered by questions to the program."""
-from dataclasses import dataclass, field, replace
+from dataclasses import dataclass, field
 
 from shq_tools.answers import Plain, Realization, SetList, Taxonomy, answer
 from shq_tools.approximation.command import translated
@@ -9,7 +9,7 @@ from shq_tools.cut import blanked
 from shq_tools.documents import walked
 from shq_tools.names import Names, labels_in, labels_of
 from shq_tools.ontology_facts import Ontology, ontology_in
-from shq_tools.profile import counted
+from shq_tools.profile import NOTES, counted, lines_text
 from shq_tools.side_by_side import Deadline, Questions
 from shq_tools.survey import by_keyword, survey
 from shq_tools.terms import BOTTOM, TOP
@@ -23,8 +23,8 @@ MOST_OF_THE_TIME = 0.25
 @dataclass
 class Given:
     """An ontology as the program is asked about it: its bytes, the ontology in them, and the names of things; of the
-    file its name, how many axioms it has, and what was left out, as the lines of each construct. The rest is as in a
-    `Reading`.
+    file its name, how many axioms it has, and what of it is not said: rows with the construct, how often it stands
+    there, where, and a note. The rest is as in a `Reading`.
     """
 
     data: bytes
@@ -32,8 +32,7 @@ class Given:
     names: Names
     file: str = ""
     axiom_count: int = 0
-    left_out: dict = field(default_factory=dict)
-    left_out_count: int = 0
+    not_said: list = field(default_factory=list)
     originals: dict = field(default_factory=dict)
     caveat: Caveat = NO_CAVEAT
 
@@ -105,6 +104,11 @@ def left_out_caveat(count, whole):
     return Caveat(lines) if count else NO_CAVEAT
 
 
+def left_out_rows(looked):
+    """What was left out: the construct, how often, where, and a note where one is needed."""
+    return [(what, len(lines), lines_text(lines), NOTES.get(what, "")) for what, lines in by_keyword(looked).items()]
+
+
 def given_of(data, file="", language=""):
     """The ontology of a file, without what is outside of the language. Raises `Refused` where the program would refuse
     what is left.
@@ -123,7 +127,7 @@ def given_of(data, file="", language=""):
     whole, left_out = sum(it.is_axiom for it in looked), sum(it.is_axiom for it in outside)
     names = Names(labels, language, ontology.names)
     caveat = left_out_caveat(left_out, whole)
-    return Given(data, ontology, names, file, whole, by_keyword(looked), left_out, caveat=caveat)
+    return Given(data, ontology, names, file, whole, left_out_rows(looked), caveat=caveat)
 
 
 def given_of_translation(data, strength, file="", language=""):
@@ -131,8 +135,8 @@ def given_of_translation(data, strength, file="", language=""):
     found = translated(data, strength)
     ontology = ontology_in(found.data)
     names = names_of(ontology, labels_in(found.data), language)
-    given = Given(found.data, ontology, names, file, len(found.sources))
-    return replace(given, originals=originals_of(found, names), caveat=caveat_of(found))
+    told = {"originals": originals_of(found, names), "caveat": caveat_of(found)}
+    return Given(found.data, ontology, names, file, len(found.sources), **told)
 
 
 def answered(text):

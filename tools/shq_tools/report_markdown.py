@@ -13,7 +13,6 @@ from shq_tools.report_words import (
     facts_of,
     found_text,
     is_plain_choice,
-    left_out_rows,
     reading_for,
     title_of,
 )
@@ -33,10 +32,10 @@ def plain(text):
 def facts_lines(report):
     """What was read, and what was left out."""
     lines = ["| | |", "|---|---:|", *(f"| {what} | {number:,} |" for what, number in facts_of(report))]
-    left_out = left_out_rows(report)
-    if left_out:
-        lines += ["", "| left out | times | where |", "|---|---:|---|"]
-        lines += [f"| {plain(what)} | {count:,} | {where} |" for what, count, where, _ in left_out]
+    if report.given.not_said:
+        lines += ["", "| not said, or not all | times | where | note |", "|---|---:|---|---|"]
+        rows = report.given.not_said
+        lines += [f"| {plain(what)} | {count:,} | {where} | {plain(note)} |" for what, count, where, note in rows]
     return lines
 
 

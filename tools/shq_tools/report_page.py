@@ -19,7 +19,6 @@ from shq_tools.report_words import (
     facts_of,
     found_text,
     is_plain_choice,
-    left_out_rows,
     reading_for,
     title_of,
     verdict_of,
@@ -65,11 +64,11 @@ class ReportPage:
         rows = [f"<tr><th scope='row'>{what}</th><td class='number'>{number:,}</td></tr>"
                 for what, number in facts_of(self.report)]
         parts = [table([], rows, "How much there is", is_narrow=True)]
-        left_out = [self.left_out_row(*it) for it in left_out_rows(self.report)]
-        heads = ["left out", "times", "where", "that is"]
-        return parts + [table(heads, left_out, "What was left out", is_narrow=True)] * bool(left_out)
+        not_said = [self.not_said_row(*it) for it in self.given.not_said]
+        heads = ["not said, or not all", "times", "where", "note"]
+        return parts + [table(heads, not_said, "What of the file is not said", is_narrow=True)] * bool(not_said)
 
-    def left_out_row(self, what, count, lines, note):
+    def not_said_row(self, what, count, lines, note):
         return f"<tr><th scope='row'>{escape(what)}</th><td class='number'>{count:,}</td><td>{escape(lines)}</td>" \
                f"<td>{escape(note)}</td></tr>"
 
@@ -167,7 +166,7 @@ class ReportPage:
         """What stands above the parts."""
         parts = [element("h1", verdict_of(self.report))]
         parts += [element("p", it) for it in caveat_behind(self.report)]
-        counts = self.given.ontology.counts()
+        counts = self.given.ontology.counts(self.names)
         shown = [f"file {self.given.file}"] * bool(self.given.file)
         shown += [counted(number, what) for what, number in counts.items() if number]
         parts.append(element("p", " · ".join([*shown, f"made {made_at()}"]), "quiet"))

@@ -1,6 +1,4 @@
 """The sentences of a report, for a page and for a pull request."""
-from shq_tools.keywords import ANONYMOUS, NOT_SIMPLE
-from shq_tools.profile import NOTES, lines_text
 from shq_tools.reading import Reading
 from shq_tools.wording import counted, verdict
 
@@ -12,7 +10,6 @@ RULE = (
     "where an axiom makes each of its members a member of that class, or leads from it to one, and that axiom stands in "
     "one of its reasons."
 )
-OUTSIDE_NAMES = {ANONYMOUS: "an individual without a name of its own", NOT_SIMPLE: "a number over a transitive role"}
 NO_CLASS = "No class is contradictory: each can have a member."
 ANY_ONE = "Without any one of these axioms there is no contradiction."
 NOT_ASKED = "There was no time to ask for its reasons."
@@ -43,19 +40,10 @@ def title_of(report):
 
 def facts_of(report):
     """What there is, as pairs of a word and a number."""
-    counts = report.given.ontology.counts()
+    counts = report.given.ontology.counts(report.given.names)
     whole = report.given.axiom_count
-    rows = [("axioms in the file", whole), ("axioms read", counts["axiom"])]
+    rows = [("axioms in the file", whole), ("axioms that the reasoner read", counts["axiom"])]
     rows += [("classes", counts["class"]), ("roles", counts["role"]), ("individuals", counts["individual"])]
-    return rows
-
-
-def left_out_rows(report):
-    """What was left out: the construct, how often, on which lines, and a note where one is needed."""
-    rows = []
-    for what, lines in report.given.left_out.items():
-        note = OUTSIDE_NAMES.get(what) or NOTES.get(what, "")
-        rows.append((what, len(lines), lines_text(lines), note))
     return rows
 
 

@@ -11,6 +11,7 @@ from shq_tools.wording import (
     plain_lines,
     rest_heading,
     set_heading,
+    shown_mark,
     unrelated_text,
     verdict,
 )
@@ -82,7 +83,7 @@ def reason_lines(reading):
 def taxonomy_lines(reading):
     """The taxonomy as an indented tree."""
     answer, names = reading.answer, reading.names
-    lines = [AS_A_WHOLE] * (answer.is_consistent and bool(answer.nothing))
+    lines = [AS_A_WHOLE, *reading.caveat.behind("consistent")] if answer.is_consistent and answer.nothing else []
     titles = {"Contradictory, so without any member": answer.nothing, "Everything is in": answer.thing}
     for title, members in titles.items():
         if names.shown(members):
@@ -110,7 +111,7 @@ def model_lines(reading):
     lines, shown, called = [ending(reading.answer)], reading.exceptions(), reading.called()
     near, others = reading.things()
     for thing in near:
-        mark = " (it shows that the statement fails)" if thing.number in shown else ""
+        mark = f" ({shown_mark(reading.answer)})" if thing.number in shown else ""
         lines += thing_lines(thing, called, mark)
     return lines + [f"({unrelated_text(len(others))}: --all shows them too.)"] * bool(others)
 
@@ -152,10 +153,25 @@ TELLS = {
 }
 
 
-def lines_of(reading):
-    """The lines of an answer: what it is worth for the whole ontology, what it says, and its parts."""
-    answer, caveat = reading.answer, reading.caveat
-    above = [*caveat.lines, ""] if caveat.lines else []
+def lines_above(reading):
+    """What stands above an answer: what it is worth for the whole ontology, and the question as it was written."""
+    above = [*reading.caveat.lines, ""] if reading.caveat.lines else []
+    return above + [f"Asked: {reading.written}", ""] * bool(reading.written)
+
+
+def heading_of(reading):
+    """The line that an answer begins with."""
+    return plain_lines(reading.answer)[0] if isinstance(reading.answer, Plain) else reading.heading()
+
+
+def lines_below(reading):
+    """What an answer says behind its heading."""
+    answer = reading.answer
     if isinstance(answer, Plain):
-        return above + plain_lines(answer)
-    return [*above, reading.heading(), *caveat.behind(verdict(answer)), *TELLS[type(answer)](reading)]
+        return plain_lines(answer)[1:]
+    return [*reading.caveat.behind(verdict(answer)), *TELLS[type(answer)](reading)]
+
+
+def lines_of(reading):
+    """The lines of an answer."""
+    return [*lines_above(reading), heading_of(reading), *lines_below(reading)]

@@ -7,10 +7,11 @@ from shq_tools.answering import CONTRADICTORY
 from shq_tools.messages import say
 from shq_tools.own_answers import own_answer
 from shq_tools.statuses import Status
-from shq_tools.tokens import Refused
 
 # The jobs that list sets of axioms.
 LISTING_JOBS = ("explain", "repair", "why")
+# The options by which an answer is told for people.
+FOR_PEOPLE = ("--html", "--markdown")
 
 
 def own_text(question, known):
@@ -26,25 +27,19 @@ def shown(question, source, known, **more):
     text = own_text(question, known)
     if "--json" in question.options:
         return json_view.text_of(json_view.object_of(question, source, text, known.status, **more)).encode("utf-8")
-    if "--html" in question.options and source:
-        return page_shown(question, source, text).encode("utf-8")
+    if any(it in question.options for it in FOR_PEOPLE):
+        return told_for_people(question, source, text).encode("utf-8")
     return text.encode("utf-8")
 
 
-def page_shown(question, source, text):
-    """The page of an answer, or the answer itself where it has none."""
+def told_for_people(question, source, text):
+    """An answer as a page, or as text for a pull request."""
     # what makes pages is read in for pages alone
     from shq_tools.page import page_of
-    from shq_tools.reading_answers import asked_reading, known_from, with_translation
+    from shq_tools.reading_answers import markdown_of, reading_for
 
-    known = known_from(source.data, question.options.get("--language", ""), question.file)
-    known = with_translation(known, source.translation) if source.translation else known
-    has_statement = question.command.operands and not question.added
-    try:
-        return page_of(asked_reading(text, known, question.words[1] if has_statement else None))
-    except (Refused, Unread) as fault:
-        say(f"there is no page of this answer: {fault}")
-        return text
+    shows = page_of if "--html" in question.options else markdown_of
+    return shows(reading_for(question, source, text))
 
 
 def refusal_shown(question, message, status):

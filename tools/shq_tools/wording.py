@@ -148,6 +148,19 @@ def rest_heading(number):
     return f"Reason {number}: these, and besides"
 
 
+def shown_mark(answer):
+    """What is said of a thing of a world for whose sake it is shown."""
+    return "a member of the class" if answer.verdict == "satisfiable" else "it shows that the statement fails"
+
+
+def exceptions_text(answer, numbers):
+    """The same of some things, in a sentence."""
+    things = f"thing {', '.join(map(str, numbers))}"
+    if answer.verdict == "satisfiable":
+        return f"In the class: {things}."
+    return f"The statement fails for {things}."
+
+
 def unrelated_text(count):
     """What is said of the things of a world that have nothing to do with the statement."""
     return f"{counted(count, 'other thing')} that no role connects with {'it' if count == 1 else 'them'}"
@@ -183,7 +196,7 @@ def verdict(answer):
     if isinstance(answer, Taxonomy):
         if not answer.is_consistent:
             return "inconsistent"
-        return "consistent" if answer.nothing else "no contradictory class"
+        return "contradictory classes" if answer.nothing else "no contradictory class"
     if isinstance(answer, Realization):
         return "consistent"
     if isinstance(answer, (Instances, Reasons)):

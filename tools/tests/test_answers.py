@@ -445,7 +445,7 @@ class Shown(unittest.TestCase):
 
     def test_model(self):
         said, _, _ = shown(MODEL, b"", "--query", "<http://e.org/A>")
-        self.assertIn("thing 0: A, B (it shows that the statement fails)\n    r thing 1\n", said)
+        self.assertIn("thing 0: A, B (a member of the class)\n    r thing 1\n", said)
 
     def test_refutation_over_its_ontology(self):
         said, complaint, status = shown(HEART, ANATOMY, "--query", "SubClassOf(:Heart :Organ)")

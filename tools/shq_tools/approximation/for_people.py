@@ -1,5 +1,6 @@
 """A translation as people read it: its new names, the axioms of the file behind its own, and what its answers are worth.
 """
+import re
 from collections import Counter
 
 from shq_tools.approximation.display import owl_axiom_text, shown_names
@@ -17,6 +18,11 @@ def names_of(ontology, labels, language=""):
     plain = Names(labels, language, [it for it in ontology.names if not is_new(it)])
     shown = shown_names(new, plain)
     return Names(labels, language, ontology.names, shown, shown) if shown else plain
+
+
+def new_forms(text, names):
+    """What the new names mean that stand in an answer, by their IRIs."""
+    return shown_names(set(filter(is_new, re.findall(r"<([^<>\s]*)>", text))), names)
 
 
 def caveat_of(found):
