@@ -1,8 +1,10 @@
 package jezundwa.owlapi;
 
 import java.util.Collection;
+import java.util.HashMap;
 import java.util.HashSet;
 import java.util.List;
+import java.util.Map;
 import java.util.Set;
 import java.util.function.Function;
 import org.semanticweb.owlapi.model.OWLAxiom;
@@ -20,6 +22,7 @@ final class ClassAnswers {
     private final Hierarchy<OWLClass> hierarchy;
     private final Placement placement;
     private final OWLDataFactory factory;
+    private final Map<OWLClassExpression, Set<Node<OWLClass>>> nodesAbove = new HashMap<>();
 
     ClassAnswers(Snapshot snapshot) {
         this.snapshot = snapshot;
@@ -115,8 +118,8 @@ final class ClassAnswers {
     }
 
     private Set<Node<OWLClass>> above(OWLClassExpression type) {
-        return placement.above(nodes -> follow(nodes, node -> Question.of(
-            factory.getOWLSubClassOfAxiom(type, node.getRepresentativeElement()))));
+        return nodesAbove.computeIfAbsent(type, unplaced -> placement.above(nodes -> follow(nodes,
+            node -> Question.of(factory.getOWLSubClassOfAxiom(type, node.getRepresentativeElement())))));
     }
 
     private Set<Node<OWLClass>> below(OWLClassExpression type, Set<Node<OWLClass>> above) {

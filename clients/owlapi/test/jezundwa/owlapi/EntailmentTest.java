@@ -187,7 +187,12 @@ public class EntailmentTest {
             Ontologies.Maker maker = new Ontologies.Maker(seed, seed % 2 == 1);
             OWLOntology ontology = maker.ontology();
             List<OWLAxiom> questions = maker.questions();
-            List<Boolean> expected = Konclude.entailed(ontology, questions);
+            List<Boolean> expected;
+            try {
+                expected = Konclude.entailed(ontology, questions);
+            } catch (Konclude.NoAnswer crash) {
+                continue;
+            }
             JezundwaReasoner reasoner = Called.reasoner(ontology);
             assertEquals("seed " + seed, expected != null, reasoner.isConsistent());
             if (expected == null) {

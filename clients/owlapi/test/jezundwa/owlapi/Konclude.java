@@ -27,6 +27,15 @@ final class Konclude {
     private static final long LONGEST = 60;
     private static final OWLDataFactory FACTORY = OWLManager.getOWLDataFactory();
 
+    /** Konclude ended without an answer: it was seen to crash on some ontologies. Such a case is passed over. */
+    static final class NoAnswer extends RuntimeException {
+        private static final long serialVersionUID = 1L;
+
+        NoAnswer(String message) {
+            super(message);
+        }
+    }
+
     private Konclude() {}
 
     static boolean isHere() {
@@ -75,15 +84,18 @@ final class Konclude {
             Process process = new ProcessBuilder("/usr/bin/Konclude", "classification", "-w", "2", "-i",
                 input.toString(), "-o", output.toString()).redirectErrorStream(true)
                 .redirectOutput(ProcessBuilder.Redirect.DISCARD).start();
-            if (!process.waitFor(LONGEST, TimeUnit.SECONDS)) {
-                process.destroyForcibly();
-                throw new IllegalStateException("Konclude gave no answer on " + input);
+            boolean hasEnded = process.waitFor(LONGEST, TimeUnit.SECONDS);
+            process.destroyForcibly().waitFor();
+            try {
+                if (!hasEnded || process.exitValue() != 0 || !Files.exists(output)) {
+                    throw new NoAnswer(hasEnded ? "status " + process.exitValue() : "no answer in time");
+                }
+                return OWLManager.createOWLOntologyManager().loadOntologyFromOntologyDocument(output.toFile());
+            } finally {
+                Files.delete(input);
+                Files.deleteIfExists(output);
+                Files.delete(folder);
             }
-            OWLOntology answer = OWLManager.createOWLOntologyManager().loadOntologyFromOntologyDocument(output.toFile());
-            Files.delete(input);
-            Files.delete(output);
-            Files.delete(folder);
-            return answer;
         } catch (IOException | InterruptedException | OWLException fault) {
             throw new IllegalStateException(fault);
         }

@@ -4,6 +4,7 @@ import java.util.ArrayList;
 import java.util.List;
 import org.junit.runner.Description;
 import org.junit.runner.JUnitCore;
+import org.junit.runner.Request;
 import org.junit.runner.Result;
 import org.junit.runner.notification.Failure;
 import org.junit.runner.notification.RunListener;
@@ -15,19 +16,25 @@ public final class TestRunner extends RunListener {
 
     private TestRunner() {}
 
+    /** Words are classes, or single tests as {@code NamesTest.oneNameOfSeveralKinds}. */
     public static void main(String[] names) throws ClassNotFoundException {
-        List<Class<?>> tests = new ArrayList<>();
-        for (String name : names) {
-            tests.add(Class.forName("jezundwa.owlapi." + name));
-        }
         TestRunner runner = new TestRunner();
         JUnitCore core = new JUnitCore();
         core.addListener(runner);
-        Result result = core.run(tests.toArray(new Class<?>[0]));
+        long start = System.nanoTime();
+        int tests = 0;
+        int failed = 0;
+        for (String name : names) {
+            String[] parts = name.split("\\.");
+            Class<?> test = Class.forName("jezundwa.owlapi." + parts[0]);
+            Result result = core.run(parts.length == 1 ? Request.aClass(test) : Request.method(test, parts[1]));
+            tests += result.getRunCount();
+            failed += result.getFailureCount();
+        }
         runner.notTried.forEach(text -> System.out.println("not tried: " + text));
-        System.out.println(result.getRunCount() + " tests, " + result.getFailureCount() + " failed, "
-            + runner.notTried.size() + " not tried, " + result.getRunTime() / 1000 + " s");
-        System.exit(result.wasSuccessful() ? 0 : 1);
+        System.out.println(tests + " tests, " + failed + " failed, " + runner.notTried.size() + " not tried, "
+            + (System.nanoTime() - start) / 1_000_000_000 + " s");
+        System.exit(failed == 0 && tests > 0 ? 0 : 1);
     }
 
     @Override
