@@ -18,7 +18,7 @@ from pathlib import Path
 from shq_tools import program
 from shq_tools.completions import bash_completion, zsh_completion
 from shq_tools.gate_record import NAME as RECORD_NAME
-from shq_tools.gate_record import NOT_COMMITTED, NoRecord, record_of, said, sum_of_sources
+from shq_tools.gate_record import NOT_COMMITTED, NoRecord, record_of, said, sum_of, sum_of_sources
 from shq_tools.manual import manual
 from shq_tools.places import BUILT_PROGRAM, PROGRAM_CRATE, TOP
 from shq_tools.versions import NAME, version
@@ -27,6 +27,7 @@ from shq_tools.versions import NAME, version
 PACKAGED = re.compile(r"shq|VERSION|[A-Z]+\.md|(tools|second|clients|examples|docs)/.*")
 LEFT_OUT = re.compile(r"(tools|second|clients)/(.*/)?(tests?/.*|test)|(.*/)?\.[^/]*|second/agree|CONTRIBUTING\.md")
 DOCUMENTS = re.compile(r"[A-Z]+\.md|PROOFS\.txt|SHA256SUMS|(examples|docs)/.*")
+SUMS_NAME = "SHA256SUMS"
 MAINTAINER = "Jezundwa maintainers <maintainers@users.noreply.jezundwa.example>"
 NO_LICENCE = "The licence is left to the owner of Jezundwa: none is given with this version.\n"
 SUMMARY = "Proved reasoner for OWL ontologies, with every reason"
@@ -116,7 +117,7 @@ def entries(record):
 def with_sums(found):
     """The files with a list of their sums."""
     lines = [f"{hashlib.sha256(it.data).hexdigest()}  {name}\n" for name, it in sorted(found.items()) if not it.link]
-    return {**found, "SHA256SUMS": Entry("".join(lines).encode("utf-8"))}
+    return {**found, SUMS_NAME: Entry("".join(lines).encode("utf-8"))}
 
 
 def compressed(data):
@@ -202,7 +203,7 @@ def debian_package(found, target, seconds):
 
 
 def package(folder):
-    """Makes the archives in a folder, and returns their paths."""
+    """Makes the archives in a folder, with a list of their sums, and returns their paths."""
     record = proved_record()
     found = with_sums(entries(record))
     folder.mkdir(parents=True, exist_ok=True)
@@ -210,4 +211,6 @@ def package(folder):
     archive = folder / f"{name}.tar.gz"
     archive.write_bytes(tar_archive({**found, "bin/shq": Entry(link="../shq")}, name, record.seconds))
     debian = folder / f"{NAME}_{version()}_amd64.deb"
-    return [archive, *[debian] * debian_package(found, debian, record.seconds)]
+    made = [archive, *[debian] * debian_package(found, debian, record.seconds)]
+    (folder / SUMS_NAME).write_text("".join(f"{sum_of(it)}  {it.name}\n" for it in made), encoding="utf-8")
+    return made

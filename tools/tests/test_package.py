@@ -91,10 +91,11 @@ class Refusals(unittest.TestCase):
         self.source = self.room.top / "crates" / "ontology_cli" / "src" / "main.rt"
 
     def assert_refused(self, why):
-        ran = self.room.package()
+        folder = self.room.top.parent / "made"
+        ran = self.room.package(folder)
         self.assertEqual((ran.returncode, ran.stdout), (1, b""))
         self.assertIn(why.encode(), ran.stderr)
-        self.assertFalse((self.room.top / "dist").exists())
+        self.assertFalse(folder.exists())
 
     def test_what_is_not_packaged(self):
         self.assert_refused("the program is not built")
@@ -103,9 +104,11 @@ class Refusals(unittest.TestCase):
         self.assert_refused("there is no record that rt ci passed")
         failed = self.room.gate(FAILED="1")
         self.assertEqual((failed.returncode, failed.stdout.splitlines()[-1]), (1, b"3 passed, 1 failed"))
+        self.assertFalse((self.room.top / "dist").exists())
         self.assert_refused("there is no record that rt ci passed")
         passed = self.room.gate()
         self.assertEqual((passed.returncode, passed.stdout.splitlines()[-1]), (0, b"3 passed, 0 failed"))
+        self.assertEqual(len([*(self.room.top / "dist").glob("jezundwa*")]), 1 + bool(shutil.which("dpkg-deb")))
         with self.subTest("a source was touched"):
             os.utime(self.source)
             self.assert_refused("a source is newer than the program")
@@ -180,6 +183,8 @@ class Archives(unittest.TestCase):
         for path in (self.tar, self.debian):
             again = self.folder / "second" / path.name
             self.assertEqual(path.read_bytes(), again.read_bytes(), path.name)
+        sums = run(["sha256sum", "--check", "--quiet", "SHA256SUMS"], cwd=self.tar.parent)
+        self.assertEqual((sums.returncode, sums.stdout), (0, b""))
 
     def test_sums(self):
         lines = (self.top / "SHA256SUMS").read_text(encoding="utf-8").splitlines()
