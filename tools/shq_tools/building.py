@@ -152,7 +152,7 @@ def main():
         say("the program is not built, and the toolchain's command rt is not on the path")
         say("a release has the program and needs no toolchain: README.md, 'Installed in a minute'")
         return NOT_BUILT
-    say("the program is not built yet; ./shq --unproved JOB .. gives a first look in a minute, without proofs")
+    say("the program is not built yet; ./shq --unproved JOB .. gives a first look in a minute or two, without proofs")
     begun = time.monotonic()
     with tempfile.NamedTemporaryFile("w+", encoding="utf-8", prefix="shq-build-", delete=False) as log:
         is_built = prove(log) and make(log)

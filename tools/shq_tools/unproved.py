@@ -1,7 +1,7 @@
 """A quick look before all is proved: `./shq --unproved JOB ..` runs a job by the toolchain's trial run, `rt try`.
 
-That builds the program's sources in about a minute, without a proof, and checks each step while it runs, which is slow.
-It is for looking at the examples alone, and each answer begins with a line that says so.
+That builds the program's sources in a minute or two, without a proof, and checks each step while it runs, which is
+slow. It is for looking at the examples alone, and each answer begins with a line that says so.
 """
 import re
 import shutil
@@ -45,7 +45,7 @@ def answered(question):
     except Unprepared as fault:
         say(str(fault))
         return fault.status
-    say("building the sources for a trial run, which takes about a minute")
+    say("building the sources for a trial run, which takes a minute or two")
     return trial(question.words, source) if written(NOTE) else Status.WRITE_FAULT
 
 

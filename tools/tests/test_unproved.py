@@ -41,7 +41,7 @@ class Unproved(unittest.TestCase):
         said, complaint, status = unproved("--unproved", "classify", str(FILE))
         self.assertEqual((said, status), (NOTE + b"words: try -- classify\n" + FILE.read_bytes(), 0))
         self.assertTrue(said.startswith(b"not proved: "))
-        self.assertIn("takes about a minute", complaint)
+        self.assertIn("takes a minute or two", complaint)
 
     def test_words_are_read_as_for_the_program(self):
         said, _, _ = unproved("sat", "MagneticPump", str(FILE), "--unproved", "--budget", "7")
