@@ -10,7 +10,7 @@ BAD_TEXT = {
     "clash": "a prefix that is declared twice, with two IRIs",
 }
 PLAIN = {
-    "undecided": "Not decided: the steps that were allowed are spent.",
+    "undecided": "Not decided: the time or the steps that were allowed are spent.",
     "accepted entailed": "The certificate is right: the statement follows.",
     "accepted not entailed": "The certificate is right: the statement does not follow.",
     "rejected query": "The certificate is wrong: in its world the statement holds.",
@@ -98,7 +98,8 @@ def list_heading(answer):
     count, is_reasons = len(answer.sets), answer.kind == "justifications"
     if answer.is_partial:
         what = "reason" if is_reasons else "repair"
-        return f"The steps that were allowed are spent. {counted(count, what)} found so far; there may be more."
+        found = f"{counted(count, what)} found so far; there may be more."
+        return f"The time or the steps that were allowed are spent. {found}"
     if answer.sets == [[]]:
         return "It follows from no axiom at all." if is_reasons else "It does not follow, so nothing has to be removed."
     if not count and is_reasons:

@@ -71,7 +71,7 @@ y, by no axiom at all
 """
 INSTANCES = "instances 2\n<http://e.org/x>\n<http://e.org/y>\n"
 SCRIPTED = "axiom 3\nyes 1 3\nbad text prefix query\nbad line\nno\n"
-SPENT = "The steps that were allowed are spent. 0 reasons found so far; there may be more."
+SPENT = "The time or the steps that were allowed are spent. 0 reasons found so far; there may be more."
 # A refutation with cases: axioms 1 to 3 of CASES_ONTOLOGY say that A is B or C, that B is D, and that C is D.
 CASES_ONTOLOGY = b"""Prefix(:=<http://e.org/>)
 Ontology(
