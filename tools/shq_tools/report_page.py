@@ -29,6 +29,8 @@ from shq_tools.wording import counted
 
 # Of so many contradictory classes the reasons are open at first.
 OPEN_AT_FIRST = 3
+# Up to so many individuals are open at first.
+OPEN_ROWS = 50
 
 
 def places_in(report):
@@ -146,7 +148,8 @@ class ReportPage:
         for one in self.names.shown(types):
             classes = ", ".join(map(self.names.of, self.names.shown(types[one]))) or "in no named class"
             rows.append(f"<tr data-entry><th scope='row'>{self.names.placed(one)}</th><td>{classes}</td></tr>")
-        return [table(["individual", "most specific classes"], rows, "Individuals")]
+        shown = table(["individual", "most specific classes"], rows, "Individuals")
+        return [details(counted(len(rows), "individual"), shown, len(rows) <= OPEN_ROWS)]
 
     def sections(self):
         """The parts of the page, each with its place and its heading."""

@@ -133,14 +133,16 @@ def family_heading(numbers):
 
 
 def reason_numbers(numbers):
-    """Reasons by their numbers, those in a row by the first and the last."""
+    """Reasons by their numbers, three or more in a row by the first and the last."""
     runs = []
     for number in numbers:
         if runs and runs[-1][1] == number - 1:
             runs[-1][1] = number
         else:
             runs.append([number, number])
-    texts = [str(one) if one == other else f"{one} to {other}" for one, other in runs]
+    texts = []
+    for one, other in runs:
+        texts += [f"{one} to {other}"] if other - one > 1 else [str(it) for it in range(one, other + 1)]
     return "reasons " + (f"{', '.join(texts[:-1])} and {texts[-1]}" if len(texts) > 1 else texts[0])
 
 

@@ -7,6 +7,7 @@ from shq_tools.ontology_facts import ontology_in
 from shq_tools.places import EXAMPLES
 from shq_tools.reading_answers import query_of
 from shq_tools.told import ToldClasses, links_between
+from shq_tools.wording import reason_numbers
 from tests.program import needs_program, run_program
 from tests.test_answers import E, LISTS, TAXONOMY, shown
 
@@ -120,11 +121,16 @@ class Families(unittest.TestCase):
         names = [f"axiom {at} line {at + 3} SubClassOf(<{E}A{at}> <{E}A{at + 1}>)" for at in range(1, 6)]
         said = shown("justifications 2\n1 2 3 4\n1 2 3 5\n" + "\n".join(names) + "\n")[0]
         self.assertEqual(said.count("A1 SubClassOf A2"), 1)
-        wanted = ["Shared by reasons 1 to 2", "Reason 1: these, and besides", "  1. axiom 4, line 7: A4 SubClassOf A5"]
+        wanted = ["Shared by reasons 1 and 2", "Reason 1: these, and besides", "  1. axiom 4, line 7: A4 SubClassOf A5"]
         for line in (*wanted, "Reason 2: these, and besides", "  1. axiom 5, line 8: A5 SubClassOf A6"):
             self.assertIn(line, said.splitlines())
         page = shown("justifications 2\n1 2 3 4\n1 2 3 5\n" + "\n".join(names) + "\n", b"", "--html")[0]
         self.assertEqual(page.count("line 4</span>"), 1)
+
+    def test_reasons_are_named_by_their_numbers(self):
+        cases = {(1, 2): "1 and 2", (1, 2, 3): "1 to 3", (1, 3, 4, 5, 9): "1, 3 to 5 and 9", (2, 5, 6): "2, 5 and 6"}
+        for numbers, text in cases.items():
+            self.assertEqual(reason_numbers(numbers), f"reasons {text}")
 
     def test_long_lists_take_no_time_that_grows_with_their_square(self):
         found = families([[at, at + 1] for at in range(0, 40_000, 2)])
