@@ -1,4 +1,5 @@
 """The archives of a release: made in a small checkout behind a gate, and used in empty folders without it."""
+import contextlib
 import gzip
 import hashlib
 import os
@@ -46,9 +47,11 @@ def checkout(top):
     """A small checkout with everything of this one but most crates and the tests, under git."""
     words = ["git", "ls-files", "-z", "--cached", "--others", "--exclude-standard"]
     for name in filter(None, run(words, cwd=TOP).stdout.decode().split("\0")):
-        if (not NOT_COPIED.fullmatch(name) or name in SOURCES) and (TOP / name).exists():
+        if not NOT_COPIED.fullmatch(name) or name in SOURCES:
             (top / name).parent.mkdir(parents=True, exist_ok=True)
-            shutil.copy2(TOP / name, top / name)
+            # what another test made is perhaps gone again
+            with contextlib.suppress(FileNotFoundError):
+                shutil.copy2(TOP / name, top / name)
     who = {f"GIT_{one}_{it}": "tests" for one in ("AUTHOR", "COMMITTER") for it in ("NAME", "EMAIL")}
     for words in (["init", "-q"], ["add", "-A"], ["commit", "-qm", "all"]):
         ran = run(["git", *words], cwd=top, env={**os.environ, **who})
