@@ -35,6 +35,7 @@ class Text(unittest.TestCase):
         lines = [it for file in FILES for it in file.read_text("utf-8").splitlines() if it.strip()]
         self.assertLessEqual(len(lines), MOST_LINES)
 
+    @unittest.skipUnless(hasattr(sys, "stdlib_module_names"), "this Python does not tell its modules")
     def test_it_stands_on_the_standard_library_alone(self):
         for file in FILES:
             for name in re.findall(r"(?m)^\s*(?:from|import) ([a-z_]+)", file.read_text("utf-8")):
