@@ -75,8 +75,7 @@ def converted(data, ending=""):
     with tempfile.NamedTemporaryFile(suffix=ending) as file:
         file.write(data)
         file.flush()
-        words = ["java", "-Dorg.slf4j.simpleLogger.defaultLogLevel=off", "-cp", f"{folder}:{JARS}/*", "Convert", file.name]
-        found = ran(words)
+        found = ran(["java", "-cp", f"{folder}:{JARS}/*", "Convert", file.name])
     if found.returncode:
         lines = found.stderr.decode("utf-8", "replace").strip().splitlines() or ["it says nothing"]
         raise Unconverted(f"the OWL API cannot read the file: {lines[-1]}")
@@ -93,14 +92,14 @@ def in_functional_syntax(data):
         return data, notes
     if not is_there():
         raise Unconverted(f"the file is in {syntax.name}. Convert it first: {BY_OTHERS}; {BY_PACKAGES}")
-    notes.append(f"the file is in {syntax.name}, and was converted by the OWL API: lines are those of the converted text,")
-    notes.append("which ./shq convert writes")
+    notes.append(f"the file is in {syntax.name}, and was converted by the OWL API")
+    notes.append("lines are those of the converted text, which ./shq convert writes")
     return converted(data, syntax.ending), notes
 
 
 def ontology_data_of(words):
-    """The bytes of the ontology that the words name, or of standard input, in functional-style syntax; or None where they
-    cannot be had.
+    """The bytes of the ontology that the words name, or of standard input, in functional-style syntax; or None where
+    they cannot be had.
     """
     data = data_of(words)
     if data is None:

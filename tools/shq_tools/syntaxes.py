@@ -33,18 +33,24 @@ XML_DECLARATION = r"<\?[^>]*\?>"
 XML_COMMENT = r"<!--(?:(?!-->).)*-->"
 XML_DOCTYPE = r"<!DOCTYPE[^\[>]*(?:\[[^\]]*\]\s*)?>"
 XML_GAP = rf"(?:\xef\xbb\xbf)?\s*(?:(?:{XML_DECLARATION}|{XML_COMMENT}|{XML_DOCTYPE})\s*)*"
+OBO_GAP = r"(?:\xef\xbb\xbf)?\s*(?:![^\n]*\n\s*)*"
 FUNCTIONAL = begins(GAP + r"(?:Prefix\s*\(|Ontology\s*\()")
 SYNTAXES = (
     Syntax("OWL/XML", begins(XML_GAP + r"<(?:\w+:)?Ontology[\s>]"), ".owx"),
     Syntax("RDF/XML", begins(XML_GAP + r"<(?:\w+:)?RDF[\s>]"), ".rdf"),
     Syntax("JSON-LD", begins(r"(?:\xef\xbb\xbf)?\s*[\[{]"), ".jsonld"),
-    Syntax("OBO", begins(r"(?:\xef\xbb\xbf)?\s*(?:![^\n]*\n\s*)*(?:format-version|ontology|data-version)\s*:\s"), ".obo"),
+    Syntax("OBO", begins(OBO_GAP + r"(?:format-version|ontology|data-version)\s*:\s"), ".obo"),
     Syntax("Manchester syntax", begins(GAP + r"(?:Prefix|Ontology|Namespace)\s*:\s"), ".omn"),
     Syntax("Turtle", begins(GAP + r"(?:@(?:prefix|base)\s|(?:prefix|base)\s+[\w-]*:?\s*<)"), ".ttl"),
     Syntax("N-Triples", begins(GAP + r"(?:<[^<>\s]*>|_:\S+)\s+<[^<>\s]*>\s+[<\"_]"), ".nt"),
 )
 # The first bytes of files that hold others, with what opens them.
-PACKED = {b"PK\x03\x04": ("ZIP", "unzip"), b"BZh": ("bzip2", "bunzip2"), b"\xfd7zXZ": ("xz", "unxz"), b"\x28\xb5\x2f\xfd": ("zstd", "unzstd")}
+PACKED = {
+    b"PK\x03\x04": ("ZIP", "unzip"),
+    b"BZh": ("bzip2", "bunzip2"),
+    b"\xfd7zXZ": ("xz", "unxz"),
+    b"\x28\xb5\x2f\xfd": ("zstd", "unzstd"),
+}
 
 
 class Unopened(Exception):

@@ -170,7 +170,13 @@ GRAMMAR = {
     ],
     "numbers": ["xsd:integer", "xsd:integer", "xsd:decimal", "xsd:nonNegativeInteger", "owl:real"],
     "facet": ["xsd:minInclusive", "xsd:maxInclusive", "xsd:minExclusive", "xsd:maxExclusive"],
-    "number literal": ['"1"^^xsd:integer', '"2"^^xsd:integer', '"1.5"^^xsd:decimal', '"-3"^^xsd:integer', '"0"^^xsd:int'],
+    "number literal": [
+        '"1"^^xsd:integer',
+        '"2"^^xsd:integer',
+        '"1.5"^^xsd:decimal',
+        '"-3"^^xsd:integer',
+        '"0"^^xsd:int',
+    ],
     "literal": [
         "<number literal>",
         "<number literal>",

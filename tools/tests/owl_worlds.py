@@ -404,8 +404,8 @@ def chosen_values(axioms, chooser):
 
 
 def worlds_of(size, values, seed, ask, most_facts=12, count=2048):
-    """All interpretations of a size where there are not too many ways, else so many random ones. `ask` asks for all that
-    will be asked for.
+    """All interpretations of a size where there are not too many ways, else so many random ones. `ask` asks for all
+    that will be asked for.
     """
     worlds = Worlds(size, values, random.Random(seed), 1)
     ask(worlds)

@@ -1,13 +1,18 @@
 """The rows of the translation from OWL 2, each with what was worked out by hand."""
 import unittest
 
+from shq_tools.approximation import ranges
 from shq_tools.approximation.display import shown
 from shq_tools.approximation.losses import Loss
+from shq_tools.approximation.owl import OwlReader
 from shq_tools.approximation.text import approximation
 from shq_tools.approximation.translation import Strength
 from shq_tools.documents import axioms_of, document
 from shq_tools.manchester import axiom_text
 from shq_tools.names import Names
+from shq_tools.prefixes import Prefixes
+from shq_tools.tokens import tokens
+from shq_tools.trees import trees
 from tests.owl_grammar import document as ontology
 
 
@@ -110,7 +115,7 @@ class Rows(RowsTest):
         self.assert_rows(axioms, rows, Loss.INVERSE_FUNCTIONAL)
 
     def test_chains(self):
-        axioms = ["SubObjectPropertyOf(ObjectPropertyChain(:r :r) :r)", "SubObjectPropertyOf(ObjectPropertyChain(:s) :t)"]
+        axioms = [f"SubObjectPropertyOf(ObjectPropertyChain({it})" for it in (":r :r) :r", ":s) :t")]
         self.assert_rows(axioms, [["Transitive: r"], ["s SubPropertyOf t"]])
         self.assert_rows(["SubObjectPropertyOf(ObjectPropertyChain(:r :s) :r)"], [[]], Loss.CHAIN)
 
@@ -144,6 +149,35 @@ class Rows(RowsTest):
         ]
         rows = [["A SubClassOf r min 100 B"], ["r max 100 B SubClassOf A"], [], []]
         self.assert_rows(axioms, rows, Loss.BEYOND_LIMITS)
+
+    def test_bounds_turn_in_complements_and_under_most(self):
+        axioms = [
+            "TransitiveObjectProperty(:r)",
+            "SubClassOf(:A ObjectComplementOf(ObjectMinCardinality(2 :r :B)))",
+            "SubClassOf(ObjectComplementOf(ObjectMinCardinality(2 :r :B)) :A)",
+            "SubClassOf(:A ObjectMaxCardinality(1 :s ObjectMinCardinality(2 :r :B)))",
+            "SubClassOf(ObjectMaxCardinality(1 :s ObjectMinCardinality(2 :r :B)) :A)",
+        ]
+        rows = [
+            ["Transitive: r"],
+            [],
+            ["not (r some B) SubClassOf A"],
+            ["A SubClassOf s max 1 Nothing"],
+            ["s max 1 (r some B) SubClassOf A"],
+        ]
+        self.assert_rows(axioms, rows, Loss.COUNTED)
+
+    def test_a_chain_of_one_role_in_another(self):
+        self.assert_rows(["SubObjectPropertyOf(ObjectPropertyChain(:r :r) :s)"], [[]], Loss.CHAIN)
+
+    def test_assertions_on_special_roles(self):
+        axioms = [
+            "ObjectPropertyAssertion(owl:topObjectProperty :a :b)",
+            "NegativeObjectPropertyAssertion(owl:topObjectProperty :a :b)",
+            "ObjectPropertyAssertion(owl:bottomObjectProperty :a :b)",
+            "NegativeObjectPropertyAssertion(owl:bottomObjectProperty :a :b)",
+        ]
+        self.assert_rows(axioms, [[], ["a Type Nothing"], ["a Type Nothing"], []])
 
     def test_loops(self):
         axioms = [
@@ -199,6 +233,8 @@ class Rows(RowsTest):
         axioms = [
             "SubClassOf(:A ObjectAllValuesFrom(owl:topObjectProperty :B))",
             "SubClassOf(ObjectSomeValuesFrom(owl:topObjectProperty :B) :A)",
+            "SubClassOf(:A ObjectSomeValuesFrom(owl:topObjectProperty :B))",
+            "SubClassOf(ObjectAllValuesFrom(owl:topObjectProperty :B) :A)",
             "SubClassOf(:A ObjectSomeValuesFrom(owl:bottomObjectProperty :B))",
             "SubObjectPropertyOf(:r owl:topObjectProperty)",
             "SubObjectPropertyOf(:r owl:bottomObjectProperty)",
@@ -208,6 +244,8 @@ class Rows(RowsTest):
         rows = [
             ["A SubClassOf B"],
             ["B SubClassOf A"],
+            [],
+            [],
             ["A SubClassOf Nothing"],
             [],
             ["r some Thing SubClassOf Nothing"],
@@ -260,6 +298,18 @@ class FullRowsTest(RowsTest):
             ["(r some B) SubClassOf A", "r some B SubClassOf (r some B)"],
         ]
         self.assert_full(axioms, rows)
+
+    def test_a_chain_that_ends_with_its_role_and_all(self):
+        axioms = ["SubObjectPropertyOf(ObjectPropertyChain(:s :r) :r)", "SubClassOf(:A ObjectAllValuesFrom(:r :B))"]
+        rows = [
+            ["(r only B) SubClassOf s only (r only B)"],
+            ["A SubClassOf (r only B)", "(r only B) SubClassOf r only B"],
+        ]
+        self.assert_full(axioms, rows)
+
+    def test_a_role_at_the_end_of_a_chain_is_counted(self):
+        axioms = ["SubObjectPropertyOf(ObjectPropertyChain(:s :t) :r)", "SubClassOf(:A ObjectMaxCardinality(1 :r))"]
+        self.assert_full(axioms, [[], ["A SubClassOf r max 1"]], Loss.COUNTED)
 
     def test_a_chain_into_a_role_below(self):
         axioms = [
@@ -414,7 +464,7 @@ class DataRows(RowsTest):
         self.assert_rows(axioms, rows, Loss.DATA)
 
     def test_disjoint_properties(self):
-        axioms = ['SubClassOf(:A DataHasValue(:p "x"))', 'SubClassOf(:A DataHasValue(:q "x"))', "DisjointDataProperties(:p :q)"]
+        axioms = [f'SubClassOf(:A DataHasValue({it} "x"))' for it in (":p", ":q")] + ["DisjointDataProperties(:p :q)"]
         rows = [['A SubClassOf (p value "x")'], ['A SubClassOf (q value "x")'],
                 ['DisjointClasses: (q value "x"), (p value "x")']]
         self.assert_rows(axioms, rows, Loss.DATA)
@@ -425,9 +475,72 @@ class DataRows(RowsTest):
         self.assert_rows(axioms, rows, Loss.DATA, Loss.DATATYPE)
 
 
+class Ranges(unittest.TestCase):
+    """What is certain of data ranges, by the "OWL 2 Structural Specification"."""
+
+    def read(self, text):
+        """A data range, or a literal, of a text."""
+        items = trees(tokens(text.encode("utf-8"))[0], 1)
+        reader = OwlReader(Prefixes())
+        return reader.literal(items[0]) if items[0].kind == "literal" else ranges.normal(reader.range_of(items[0]))
+
+    def test_values_in_ranges(self):
+        low = 'DatatypeRestriction(xsd:integer xsd:maxExclusive "3"^^xsd:integer)'
+        for of, literal, wanted in [
+            ("xsd:integer", '"1.0"^^xsd:decimal', True),
+            ("xsd:integer", '"1.5"^^xsd:decimal', False),
+            ("xsd:integer", '"1"^^xsd:float', None),
+            ("xsd:byte", '"300"^^xsd:integer', False),
+            ("xsd:string", '"x"@en', False),
+            ("rdf:PlainLiteral", '"x"@en', True),
+            (":other", '"x"', None),
+            (low, '"2.5"^^xsd:decimal', False),
+            (low, '"2"^^xsd:integer', True),
+            (low, '"3"^^xsd:integer', False),
+            (f"DataComplementOf({low})", '"x"', True),
+            ('DataOneOf("1"^^xsd:integer "y"^^:other)', '"2"^^xsd:integer', None),
+            ('DataOneOf("1"^^xsd:integer "y")', '"01"^^xsd:short', True),
+            ("rdfs:Literal", '"y"^^:other', True),
+        ]:
+            with self.subTest(of=of, literal=literal):
+                of = of.replace(":other", "<http://e.org/other>")
+                literal = literal.replace(":other", "<http://e.org/other>")
+                self.assertIs(ranges.has(self.read(of), self.read(literal)), wanted)
+
+    def test_parts_and_ranges_apart(self):
+        def between(datatype, least, greatest):
+            return f"DatatypeRestriction({datatype} xsd:minExclusive {least} xsd:maxExclusive {greatest})"
+
+        one, two, three = (f'"{it}"^^xsd:integer' for it in (1, 2, 3))
+        only_two = f"DatatypeRestriction(xsd:integer xsd:minInclusive {two} xsd:maxInclusive {two})"
+        for a, b, is_part, are_apart in [
+            ("xsd:byte", "xsd:integer", True, False),
+            ("xsd:integer", "xsd:byte", False, False),
+            ("xsd:integer", "xsd:decimal", True, False),
+            ("xsd:decimal", "xsd:integer", False, False),
+            ("xsd:integer", "xsd:string", False, True),
+            ("xsd:double", "xsd:decimal", False, True),
+            ("xsd:integer", "<http://e.org/other>", False, False),
+            (between("xsd:integer", one, three), "xsd:positiveInteger", True, False),
+            (between("xsd:integer", one, two), "xsd:string", False, True),
+            (between("xsd:integer", one, two), between("xsd:integer", one, three), True, True),
+            (between("xsd:integer", one, three), between("xsd:integer", one, three), True, False),
+            (between("xsd:decimal", one, three), between("xsd:integer", one, three), False, False),
+            (between("xsd:decimal", one, two), between("xsd:decimal", two, three), False, True),
+            (only_two, only_two, True, False),
+            ("xsd:integer", "DataComplementOf(xsd:string)", True, False),
+            ("DataComplementOf(xsd:decimal)", "DataComplementOf(xsd:integer)", True, False),
+            ("DataIntersectionOf(xsd:integer xsd:string)", "xsd:boolean", True, True),
+        ]:
+            with self.subTest(one=a, other=b):
+                pair = self.read(a), self.read(b)
+                self.assertEqual((ranges.is_part(*pair), ranges.are_apart(*pair)), (is_part, are_apart))
+
+
 class Texts(unittest.TestCase):
     def test_lines_stay(self):
-        text = ontology(["SubClassOf(:A\n  ObjectHasValue(:r :a)\n)", "SubClassOf(:B :C) # a comment", "HasKey(:A ()\n(:p))"])
+        axioms = ["SubClassOf(:A\n  ObjectHasValue(:r :a)\n)", "SubClassOf(:B :C) # a comment", "HasKey(:A ()\n(:p))"]
+        text = ontology(axioms)
         found = approximation(text.encode("utf-8")).data.decode("utf-8")
         self.assertEqual(found.count("\n"), text.count("\n"))
         lines = found.split("\n")

@@ -132,7 +132,7 @@ class Commands(unittest.TestCase):
 
     def test_an_import_is_told_loudly(self):
         _, said, _ = shq("approximate", data=b"Ontology(Import(<http://e.org/x>))")
-        self.assertIn("ATTENTION: the file imports 1 ontology, and nothing is fetched", said)
+        self.assertIn("ATTENTION: the file imports other ontologies, and nothing is fetched", said)
 
     def test_a_damaged_text_is_left_as_it_is(self):
         output, said, status = shq("approximate", data=b"Ontology((")

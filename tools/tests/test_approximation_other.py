@@ -1,5 +1,4 @@
-"""The translation of whole ontologies, by another reasoner: no pair of classes too many, and those that are lost counted.
-"""
+"""Translations by another reasoner: no pair of classes is too many, and those that are lost are told."""
 import unittest
 from pathlib import Path
 

@@ -88,8 +88,8 @@ class DataClasses:
         self.split()
 
     def relate_classes(self, name):
-        """Writes which classes of a property are below which: *at least n in D* is below *at least m in E* where n is no
-        less than m and D is a part of E. Those that follow from two others are left out.
+        """Writes which classes of a property are below which: *at least n in D* is below *at least m in E* where n is
+        no less than m and D is a part of E. Those that follow from two others are left out.
         """
         values = self.values.get(name, [])
         atoms = [*self.others[name], *values]
@@ -193,7 +193,7 @@ def of_range(context, axiom):
 
 
 def of_functional(context, axiom):
-    """`FunctionalDataProperty(p)`: nothing has two values, so nothing has values in two ranges without a common value."""
+    """`FunctionalDataProperty(p)`: nothing has two values, so none in a range and another one outside of it."""
     name = axiom.items[0]
     yield Axiom("SubClassOf", (context.data.least(2, name, TOP_RANGE), BOTTOM), axiom.line)
     made = context.data.made

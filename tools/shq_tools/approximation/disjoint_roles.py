@@ -44,7 +44,7 @@ def of_disjoint(context, axiom, pairs):
 
 
 def of_asymmetric(context, axiom, pairs):
-    """`AsymmetricObjectProperty(r)`, where r leads from a to b and from b to a: where {a} leads by r, and there is b, it
+    """`AsymmetricObjectProperty(r)`, where r leads from a to b and from b to a: what {a} leads to by r is not b, or
     does not lead back to {a}.
     """
     role = axiom.items[0]

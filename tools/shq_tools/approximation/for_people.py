@@ -1,5 +1,4 @@
-"""A translation as people read it: its new names, the axioms of the file behind its own, and what its answers are worth.
-"""
+"""A translation as people read it: its new names, the axioms of the file behind its own, what an answer is worth."""
 import re
 from collections import Counter
 

@@ -6,7 +6,8 @@ A role that is at the end of a chain, or that has an inverse, is not what its ed
 - X is `all r C`. For a chain s t in r, X is below `all s (all t C)`; for r s in r, X is below `all r Y`, and Y below
   C and `all s Y`, where Y is what r leads to from X; for s r in r, X is below `all s X`. The same way round E is
   `some r D`, and `some s (some t D)` is below E, and so on. With roles in a regular order this ends, and loses nothing:
-  Kazakov, "RIQ and SROIQ Are Harder than SHOIQ" (2008); Simancik, "Elimination of Complex RIAs without Automata" (2012).
+  Kazakov, "RIQ and SROIQ Are Harder than SHOIQ" (2008); Simancik, "Elimination of Complex RIAs without Automata"
+  (2012).
 - For s the inverse of r, `some s X` is below C, since r leads back; and D is below `all s E`. De Giacomo, "Eliminating
   Converse from Converse PDL" (1996); Ding, Haarslev, Wu, "A new mapping from ALCI to ALC" (2007).
 

@@ -8,12 +8,11 @@ from fractions import Fraction
 from typing import NamedTuple
 
 from shq_tools.approximation.owl import PLAIN_LITERAL, STRING, XSD, Literal
-from shq_tools.keywords import OWL, PREDECLARED
+from shq_tools.keywords import OWL
 
 INTEGER = re.compile(r"[+-]?[0-9]+")
 DECIMAL = re.compile(r"[+-]?([0-9]+(\.[0-9]*)?|\.[0-9]+)")
 RATIONAL = re.compile(r"([+-]?[0-9]+)\s*/\s*([0-9]+)")
-LANGUAGE_STRING = PREDECLARED["rdf"] + "langString"
 
 # The least and the greatest of each kind of integer, None where there is none.
 INTEGERS = {
@@ -63,7 +62,7 @@ def number_value(literal):
 
 def text_value(literal):
     """The string of a literal, with its language, or None where it is none."""
-    if literal.datatype in (PLAIN_LITERAL, LANGUAGE_STRING):
+    if literal.datatype == PLAIN_LITERAL:
         if literal.language:
             return Value("string", (literal.text, literal.language))
         text, sign, language = literal.text.rpartition("@")

@@ -1,8 +1,8 @@
 """New names: the IRI of each tells what it means.
 
 A new name is the beginning below and then an OWL 2 expression in functional-style syntax, or an individual without a
-name, in which what may not stand in an IRI (RFC 3987) is written as a percent sign and two digits. A new class is the class
-expression; a new role is the inverse of a role; a new individual is one without a name.
+name, in which what may not stand in an IRI (RFC 3987) is written as a percent sign and two digits. A new class is the
+class expression; a new role is the inverse of a role; a new individual is one without a name.
 """
 import re
 from functools import lru_cache

@@ -19,8 +19,8 @@ class Nominals:
         """The class of an individual. Its assertion is written where the class is met first."""
         self.context.lose(Loss.NOMINAL)
         if individual not in self.made:
-            self.made[individual] = self.context.names.class_name(("one of", (individual,)))
-            self.context.define(Axiom("ClassAssertion", (self.made[individual], self.context.individual(individual)), 0))
+            of = self.made[individual] = self.context.names.class_name(("one of", (individual,)))
+            self.context.define(Axiom("ClassAssertion", (of, self.context.individual(individual)), 0))
         return self.made[individual]
 
     def those_of(self, individuals):
@@ -49,8 +49,8 @@ def of_type(context, axiom, above):
 
 
 def of_pair(context, axiom):
-    """`ObjectPropertyAssertion(r a b)`: {a} is below `some r {b}`, since its only member leads to b; and in the same way
-    backwards, where r has an inverse.
+    """`ObjectPropertyAssertion(r a b)`: {a} is below `some r {b}`, since its only member leads to b; and backwards in
+    the same way, where r has an inverse.
     """
     role, one, other = axiom.items
     made = context.nominals.made

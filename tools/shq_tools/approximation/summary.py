@@ -2,8 +2,9 @@
 from shq_tools.approximation.losses import Loss
 from shq_tools.profile import counted, lines_text
 
-FOLLOWS = "what follows from the translation follows from the whole file: entailments, contradictory classes and reasons"
+FOLLOWS = "what follows from the translation follows from the whole file, as contradictory classes and their reasons"
 MAY_NOT_HOLD = '"not entailed", "consistent", "satisfiable", repairs and models hold of the translation alone'
+NOT_ALL = "the translation does not say all that stands there:"
 EXACT = "nothing is lost, so each answer holds of the whole file"
 FIRST_LINES = 8
 
@@ -35,7 +36,8 @@ def loss_rows(losses):
 
 def limit_lines(found):
     """What to say of each limit that the translation passes."""
-    lines = [f"too many {what} for the reasoner: {count:,}, where {most:,} are the most" for what, count, most in found.beyond]
+    lines = [f"too many {what} for the reasoner: {count:,}, where {most:,} are the most"
+             for what, count, most in found.beyond]
     if not found.has_annotations:
         lines.insert(0, "the annotations are left out, since the file is too long with them")
     return lines
@@ -46,8 +48,6 @@ def lines_of(found):
     if found.losses.is_exact:
         return [head_line(found), *limit_lines(found), EXACT]
     lines = [head_line(found), *limit_lines(found)]
-    imports = found.losses.lines.get(Loss.IMPORT)
-    if imports:
-        lines.append(f"ATTENTION: the file imports {counted(len(imports), 'ontology').replace('ontologys', 'ontologies')}, "
-                     "and nothing is fetched: what these say is not there")
-    return [*lines, "the translation does not say all that stands there:", *loss_rows(found.losses), FOLLOWS, MAY_NOT_HOLD]
+    if Loss.IMPORT in found.losses.lines:
+        lines.append("ATTENTION: the file imports other ontologies, and nothing is fetched: what they say is not there")
+    return [*lines, NOT_ALL, *loss_rows(found.losses), FOLLOWS, MAY_NOT_HOLD]

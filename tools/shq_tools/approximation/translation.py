@@ -19,7 +19,7 @@ from shq_tools.approximation.inverse_roles import RoleNames, roles_with_inverses
 from shq_tools.approximation.losses import Loss, Losses
 from shq_tools.approximation.new_names import NewNames
 from shq_tools.approximation.nominals import Nominals
-from shq_tools.approximation.owl import UNTRANSLATED, OwlAxiom, inverse
+from shq_tools.approximation.owl import UNTRANSLATED, OwlAxiom, base, inverse
 from shq_tools.approximation.role_axioms import inclusions
 from shq_tools.approximation.selves import Selves
 from shq_tools.keywords import NUMBERED
@@ -348,15 +348,26 @@ class Translator:
                 row for at, (given, new) in enumerate(zip(rows, found)) for row in self.kept(source, at, given, new)
             ]
             source.stays = source.stays and not changed
+        self.lose_numbers(roles)
         if self.has_plain_inverses():
             context.losses.lines.pop(Loss.INVERSE_IN_FULL, None)
         for axiom in self.of("SubObjectPropertyOf"):
             if is_chain(axiom) and (full.is_cut_off or context.place in roles.irregular):
                 context.lose(Loss.CHAIN_IN_FULL)
 
+    def lose_numbers(self, roles):
+        """Says where a role at the end of a chain is counted: of the pairs that chains make none is counted."""
+        for place, source in enumerate(self.sources):
+            counted = {role for _, role in numbers_within(source.axiom.items)}
+            if "FunctionalObjectProperty" in source.axiom.keyword:
+                counted |= set(map(base, source.axiom.items))
+            if counted & {base(self.context.roles.meaning(it)) for it in roles.complex}:
+                self.context.place = place
+                self.context.lose(Loss.COUNTED)
+
     def has_plain_inverses(self):
-        """Whether the file has inverses, and besides nothing but plain axioms on classes. Of such files it is known that
-        the rows on inverses lose nothing (Ding, Haarslev, Wu, "A new mapping from ALCI to ALC", 2007).
+        """Whether the file has inverses, and besides nothing but plain axioms on classes. Of such files it is known
+        that the rows on inverses lose nothing (Ding, Haarslev, Wu, "A new mapping from ALCI to ALC", 2007).
         """
         return all(it.axiom.keyword in PLAIN_WITH_INVERSES and it.features <= PLAIN_FEATURES for it in self.sources)
 
