@@ -41,6 +41,8 @@ mod small_axioms;
 #[cfg(test)]
 mod small_tables;
 #[cfg(test)]
+mod step_tests;
+#[cfg(test)]
 mod structure_tests;
 #[cfg(test)]
 mod trace_tests;

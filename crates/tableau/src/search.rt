@@ -94,7 +94,7 @@ impl<'b, A: Allocator + Copy> Search<'b, A> {
     ///
     /// # Errors
     ///
-    /// Out of memory. The search has failed, and serves no more.
+    /// Out of memory. The search has failed and ended, and serves no more.
     pub fn step(&mut self) -> Result<Event, NoMemory>
         requires goes_on { self.old.ended ≡ false }
         requires whole { self.old.failed ≡ false }
@@ -105,6 +105,7 @@ impl<'b, A: Allocator + Copy> Search<'b, A> {
         ensures few_marks { OnOk result (HasFewMarks self.new) }
         ensures whole { OnOk result (self.new.failed ≡ false) }
         ensures failed { OnErr result (self.new.failed ≡ true) }
+        ensures ended { OnErr result (self.new.ended ≡ true) }
         ensures kept { OnErr result (self.new.steps ≡ self.old.steps) }
     {
         self.walker.step(true)
@@ -114,7 +115,7 @@ impl<'b, A: Allocator + Copy> Search<'b, A> {
     ///
     /// # Errors
     ///
-    /// Out of memory. The search has failed, and serves no more.
+    /// Out of memory. The search has failed and ended, and serves no more.
     pub fn run(&mut self, fuel: u64) -> Result<End, NoMemory>
         requires goes_on { self.old.ended ≡ false }
         requires whole { self.old.failed ≡ false }
@@ -127,6 +128,7 @@ impl<'b, A: Allocator + Copy> Search<'b, A> {
         ensures few_marks { OnOk result (HasFewMarks self.new) }
         ensures whole { OnOk result (self.new.failed ≡ false) }
         ensures failed { OnErr result (self.new.failed ≡ true) }
+        ensures ended { OnErr result (self.new.ended ≡ true) }
     {
         self.walker.run(fuel)
     }
@@ -164,7 +166,7 @@ impl<'b, A: Allocator + Copy> Search<'b, A> {
         self.walker.effort()
     }
 
-    /// Whether the search has ended.
+    /// Whether the search has ended: at a model, at a refutation, or since memory was refused.
     pub fn ended(&self) -> bool
         ensures { result ≡ self.now.ended }
     {

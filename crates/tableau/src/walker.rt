@@ -127,10 +127,12 @@ impl<'b, A: Allocator + Copy> Walker<'b, A> {
         ensures few_marks { OnOk result (HasFewMarks self.new) }
         ensures whole { OnOk result (self.new.failed ≡ false) }
         ensures failed { OnErr result (self.new.failed ≡ true) }
+        ensures ended { OnErr result (self.new.ended ≡ true) }
         ensures kept { OnErr result (self.new.steps ≡ self.old.steps) }
         ensures current { IsTrue follows → self.new.failed ≡ false → HasAllBlocks self.new }
     {
         self.failed = true;
+        self.ended = true;
         let event = advance(
             self.heap,
             &mut self.progress,
@@ -160,6 +162,7 @@ impl<'b, A: Allocator + Copy> Walker<'b, A> {
         ensures few_marks { OnOk result (HasFewMarks self.new) }
         ensures whole { OnOk result (self.new.failed ≡ false) }
         ensures failed { OnErr result (self.new.failed ≡ true) }
+        ensures ended { OnErr result (self.new.ended ≡ true) }
         ensures current { self.new.failed ≡ false → HasAllBlocks self.new }
     {
         let end = self.run_on(fuel)?;
@@ -178,9 +181,13 @@ impl<'b, A: Allocator + Copy> Walker<'b, A> {
         ensures few_marks { OnOk result (HasFewMarks self.new) }
         ensures whole { OnOk result (self.new.failed ≡ false) }
         ensures failed { OnErr result (self.new.failed ≡ true) }
+        ensures ended { OnErr result (self.new.ended ≡ true) }
     {
+        let ended = self.ended;
         self.failed = true;
+        self.ended = true;
         self.progress.follow()?;
+        self.ended = ended;
         self.failed = false;
 
         // What bounds the count stands as before.
@@ -201,6 +208,7 @@ impl<'b, A: Allocator + Copy> Walker<'b, A> {
         ensures few_marks { OnOk result (HasFewMarks self.new) }
         ensures whole { OnOk result (self.new.failed ≡ false) }
         ensures failed { OnErr result (self.new.failed ≡ true) }
+        ensures ended { OnErr result (self.new.ended ≡ true) }
     {
         match self.walk(fuel)? {
             Event::Moved => self.settle(),
@@ -222,6 +230,7 @@ impl<'b, A: Allocator + Copy> Walker<'b, A> {
         ensures few_marks { OnOk result (HasFewMarks self.new) }
         ensures whole { OnOk result (self.new.failed ≡ false) }
         ensures failed { OnErr result (self.new.failed ≡ true) }
+        ensures ended { OnErr result (self.new.ended ≡ true) }
     {
         for _made in 0..fuel {
             match self.step(false)? {
@@ -247,8 +256,10 @@ impl<'b, A: Allocator + Copy> Walker<'b, A> {
         ensures few_marks { OnOk result (HasFewMarks self.new) }
         ensures whole { OnOk result (self.new.failed ≡ false) }
         ensures failed { OnErr result (self.new.failed ≡ true) }
+        ensures ended { OnErr result (self.new.ended ≡ true) }
     {
         self.failed = true;
+        self.ended = true;
         let end = settle(self.heap, &mut self.progress, self.rules)?;
         self.ended = !is_spent(&end);
         self.failed = false;
