@@ -84,9 +84,11 @@ module _ (q : Question) (table : List Shape) (rows : List Row) (number a : ℕ) 
     (run : IsRun (context_of q table rows) (start q.at number 0) (trail ∷ earlier))
     (sat : IsSaturated (context_of q table rows) trail) (out : LeavesOut q.at table (trail ∷ earlier) a) where
   -- over the table, or one that has grown
-  answers : (more : List Shape) (n : ℕ) → IsTable (table ++ more) → shape_of (table ++ more) n ≡ not_name a
-      → EndsSaturated (with_sup q (name a)) (length earlier)
-  answers more n longer shape_n =
+  answers : (more : List Shape) (n : ℕ) → IsTable (table ++ more)
+      → (table ++ more ≡ table) ⊎ (table ++ more ≡ table ++ not_name a ∷ [])
+      → shape_of (table ++ more) n ≡ not_name a
+      → EndsSaturated table rows a (with_sup q (name a)) (length earlier)
+  answers more n longer is_longer shape_n =
       let f =
       followed q table more rows good fits n a shape_n is_first unnamed number number_listed trail earlier run out in
       let w = short q table more rows in
@@ -96,8 +98,8 @@ module _ (q : Question) (table : List Shape) (rows : List Row) (number a : ℕ) 
       (subst (λ (is : List Item). LeavesOut q.at table (is ∷ earlier) a) f.splits out) in
       let n_listed : n < length (table ++ more) = listed (table ++ more) n (λ k. (let l = sym shape_n ∙ k in cc)) in
       record {
-        table = table ++ more;
-        rows = rows;
+        longer = table ++ more;
+        is_longer = is_longer;
         trail = start q.at number n ++ f.rest;
         reached = record {
           is_table = longer;
@@ -118,17 +120,18 @@ module _ (q : Question) (table : List Shape) (rows : List Row) (number a : ℕ) 
             (subst (IsSaturated w) f.splits sat);
       }
 
-  answered : EndsSaturated (with_sup q (name a)) (length earlier)
+  answered : EndsSaturated table rows a (with_sup q (name a)) (length earlier)
   answered = elim (complement_below table a (length table)) [
     | inl found ↦
-        answers [] found.0 (subst IsTable (sym (append-nil table)) good)
+        answers [] found.0 (subst IsTable (sym (append-nil table)) good) (inl (append-nil table))
         (ap (λ (t : List Shape). shape_of t found.0) (append-nil table) ∙ found.2)
     | inr none ↦
         answers (not_name a ∷ []) (length table) (table_with_new table (not_name a) good refl refl none)
+        (inr refl)
         (get_or_push table (not_name a) top (length table) refl)
   ]
 
 pub one_run_answers_more : OneRunAnswersMore
 one_run_answers_more q table rows number k a trail earlier good fits have is_first unnamed lt reads run steps sat out =
-    subst (EndsSaturated (with_sup q (name a))) steps
+    subst (EndsSaturated table rows a (with_sup q (name a))) steps
     (answered q table rows number a trail earlier good fits have is_first unnamed lt reads run sat out)

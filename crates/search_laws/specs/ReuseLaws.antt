@@ -1,5 +1,6 @@
 -- What one run shows of other queries.
-use Rattle.std.specs.Prelude.{◌≡◌, ℕ, ◌-◌, ◌<◌, ◌≤◌, ◌||◌, ◌==◌, not, Bool, true, List, ◌∷◌, length, drop, Some}
+use Rattle.std.specs.Prelude.{◌≡◌, ◌⊎◌, ℕ, ◌-◌, ◌<◌, ◌≤◌, ◌||◌, ◌==◌, not, Bool, true, List, [], ◌∷◌, ◌++◌, length}
+use Rattle.std.specs.Prelude.{drop, Some}
 use Rattle.std.specs.List.{list_any}
 use Rattle.shq_terms.specs.declared.axioms.Numbered.{Numbered}
 use Rattle.shq_terms.specs.declared.axioms.Query.{Query}
@@ -7,6 +8,7 @@ use Rattle.shq_terms.specs.declared.axioms.On.TheVariants.{Any}
 use Rattle.calculus_specs.specs.Concept.{Concept, name}
 use Rattle.calculus_specs.specs.Normal.{normal_form}
 use Rattle.calculus_specs.specs.Shape.{Shape, IsTable}
+use Rattle.calculus_specs.specs.Shape.Shape.{not_name}
 use Rattle.calculus_specs.specs.Tree.{tree_of}
 use Rattle.calculus_specs.specs.Rows.{Row, IsChoice}
 use Rattle.calculus_specs.specs.Rules.{Question}
@@ -18,13 +20,13 @@ use Rattle.tableau_specs.specs.Reached.{FactsHaveNumbers, start, context_of, IsR
 use Rattle.refutation_truth.specs.Theory.{nodes_pass, question_of}
 use Rattle.search_laws.specs.Runs.{IsRun, LeavesOut}
 
--- k legal steps reach a saturated trail
-pub record EndsSaturated (q : Question) (k : ℕ) : Type 0 where
-  pub table : List Shape
-  pub rows : List Row
+-- k legal steps reach a saturated trail by these rows, over this table or one with the complement of class a besides
+pub record EndsSaturated (table : List Shape) (rows : List Row) (a : ℕ) (q : Question) (k : ℕ) : Type 0 where
+  pub longer : List Shape
+  pub is_longer : (longer ≡ table) ⊎ (longer ≡ table ++ not_name a ∷ [])
   pub trail : List Item
-  pub reached : IsReached q table rows k trail
-  pub is_saturated : IsSaturated (context_of q table rows) trail
+  pub reached : IsReached q longer rows k trail
+  pub is_saturated : IsSaturated (context_of q longer rows) trail
 
 -- no axiom gives a fact of the node in question
 abbrev pub IsUnnamed : Question → Type 0
@@ -41,7 +43,8 @@ with_sup q sup = record { theory = q.theory; sub = q.sub; sup = sup; first = q.f
 
 -- A search whether anything is in `sub` begins with a node that is in `sub` and in top. Where no axiom speaks of that
 -- node, and its run ends saturated and has nothing to do with whether the node is in class a, as many legal steps end
--- saturated in the search whether `sub` is in a.
+-- saturated in the search whether `sub` is in a, by the same rows and over the same table, or one with the complement of
+-- a besides.
 abbrev pub OneRunAnswersMore : Type 0
 OneRunAnswersMore =
     (q : Question) (table : List Shape) (rows : List Row) (number k a : ℕ) (trail : List Item)
@@ -50,7 +53,7 @@ OneRunAnswersMore =
     → number < length table → tree_of table number ≡ normal_form q.sub
     → IsRun (context_of q table rows) (start q.at number 0) (trail ∷ earlier) → length earlier ≡ k
     → IsSaturated (context_of q table rows) trail → LeavesOut q.at table (trail ∷ earlier) a
-    → EndsSaturated (with_sup q (name a)) k
+    → EndsSaturated table rows a (with_sup q (name a)) k
 
 -- What a legal step puts into a trail stands at its end: from any place on that is neither past the end of the old
 -- trail nor past the last item of the new one. So who has noted all facts of the old trail need look no further back.

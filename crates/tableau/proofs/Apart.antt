@@ -160,10 +160,12 @@ left_out s run a lt out =
     }
 
 -- the query for a class asks the same of the same node, and more
-asks_more : (s : SearchState) (a : ℕ) → AsksForAny s → (k : ℕ) → EndsSaturated (with_sup (question_of s) (name a)) k
-    → EndsSaturated (question_in s.rules.ontology (member_list s.rules.set) (query_for s a)) k
+asks_more : (s : SearchState) (a : ℕ) → AsksForAny s → (k : ℕ)
+    → EndsSaturated s.rules.table (context_of s).rows a (with_sup (question_of s) (name a)) k
+    → EndsSaturated s.rules.table (context_of s).rows a
+    (question_in s.rules.ontology (member_list s.rules.set) (query_for s a)) k
 asks_more s a any k h =
-    subst (λ (on : On). EndsSaturated
+    subst (λ (on : On). EndsSaturated s.rules.table (context_of s).rows a
     (question_in s.rules.ontology (member_list s.rules.set) (record { sub = s.query.sub; sup = name a; on = on })) k)
     any.on_any h
 
@@ -174,7 +176,9 @@ module _ (s : SearchState) (a : ℕ) (limit : IsInLimit s.rules.ontology s.query
   abbrev asked : Question
   asked = question_of s
 
-  ends : EndsSaturated (question_in s.rules.ontology (member_list s.rules.set) (query_for s a)) s.steps
+  ends :
+      EndsSaturated s.rules.table (context_of s).rows a
+      (question_in s.rules.ontology (member_list s.rules.set) (query_for s a)) s.steps
   ends =
       let unnamed =
       any_is_unnamed (length s.rules.ontology.individuals) s.rules.ontology.axioms (member_list s.rules.set) s.query
@@ -190,12 +194,12 @@ module _ (s : SearchState) (a : ℕ) (limit : IsInLimit s.rules.ontology s.query
   shown_apart : IsShownApart s a
   shown_apart = record {
     follows_not =
-        saturated_does_not_entail s.rules.ontology (member_list s.rules.set) (query_for s a) ends.table ends.rows
+        saturated_does_not_entail s.rules.ontology (member_list s.rules.set) (query_for s a) ends.longer (context_of s).rows
         s.steps ends.trail (query_in_limit s.rules.ontology s.query a limit lt)
         ends.reached ends.is_saturated;
     cost = record {
-      table = ends.table;
-      rows = ends.rows;
+      table = ends.longer;
+      rows = (context_of s).rows;
       trail = ends.trail;
       reached = ends.reached;
       ends = inl ends.is_saturated;
