@@ -64,7 +64,7 @@ fn justification_holds(
 }
 
 /// Whether the refutation is valid over the set.
-#[tactic(auto, using(crate::proofs::Judged::accepted_shown, crate::proofs::Judged::rejected_not_shown))]
+#[tactic(auto, using(crate::proofs::Judged::accepted_shown, crate::proofs::Judged::rejected_not_shown, refutation_check::proofs::Checkable::in_limit_checkable))]
 fn is_shown(
     alloc: Global,
     ontology: &Ontology,

@@ -10,3 +10,4 @@ pub mod Names
 pub mod Made
 pub mod Among
 pub use Rattle.refutation_truth.proofs.Entailed
+pub use Rattle.refutation_check.proofs.Checkable

@@ -27,6 +27,7 @@ const MOST_LINES: usize = 4294967293;
 /// # Errors
 ///
 /// Out of memory.
+#[tactic(auto, using(refutation_check::proofs::Checkable::in_limit_checkable))]
 pub(crate) fn shorter(
     alloc: Global,
     lines: &[Line],
@@ -78,6 +79,7 @@ fn of_lines(
 }
 
 // The refutation, if it is valid.
+#[tactic(auto, using(refutation_check::proofs::Checkable::in_limit_checkable))]
 fn if_valid(
     alloc: Global,
     ontology: &Ontology,

@@ -65,6 +65,7 @@ const SETS: &[(&[u32], Verdict)] = &[
 ];
 
 // What is said of a refutation over the axioms of these numbers.
+#[tactic(auto, using(refutation_check::proofs::Checkable::in_limit_checkable))]
 fn verdict_over(
     alloc: Global,
     ontology: &Ontology,

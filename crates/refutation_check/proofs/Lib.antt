@@ -7,4 +7,5 @@ mod Steps
 mod Reading
 mod Judged
 mod Named
+pub mod Checkable
 pub use Rattle.refutation_rules.proofs.Entailed

@@ -4,7 +4,7 @@ ghost use Rattle.std.specs.Prelude.{◌≡◌, ◌≤◌, ◌↔◌, IsTrue, IfO
 ghost use Rattle.std.specs.List.{list_all};
 ghost use Rattle.axiom_sets.specs.NumberSets.{IsPart};
 ghost use Rattle.axiom_sets.specs.Sets.{member_list};
-ghost use Rattle.ontology_limits.specs.Limits.{IsInLimit};
+ghost use Rattle.refutation_check.specs.Checkable.{IsCheckable};
 ghost use Rattle.refutation_check.specs.Verdicts.{IsJudgedAs};
 
 use crate::NoMemory;
@@ -25,7 +25,8 @@ pub enum Verdict {
 }
 
 /// Whether the refutation of the query is valid over a set of axioms of the ontology. Whatever axioms the refutation
-/// names, also some that the ontology has not, it gets a verdict.
+/// names, also some that the ontology has not, it gets a verdict. A role that is counted need not be simple, and of a
+/// query on an individual that is not listed each refutation is rejected at its first line.
 ///
 /// # Errors
 ///
@@ -38,7 +39,7 @@ pub fn check(
     refutation: &Refutation,
 ) -> Result<Verdict, NoMemory>
     requires set { set.now.limit ≡ length ontology.now.axioms }
-    requires limits { IsInLimit ontology.now query.now }
+    requires checkable { IsCheckable ontology.now query.now }
     requires lines { length refutation.now.lines ≤ 4294967293 }
     ensures { IfOk result (IsJudgedAs ontology.now set.now query.now refutation.now) }
 {

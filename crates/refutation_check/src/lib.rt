@@ -10,6 +10,7 @@
 mod chains;
 mod checking;
 mod joined;
+mod laws;
 mod lines;
 mod needed;
 mod open_branches;
@@ -19,5 +20,6 @@ mod support;
 mod supporters;
 
 pub use checking::{Verdict, check};
+pub use laws::what_is_in_limit_is_checkable;
 pub use needed::needed_lines;
 pub use shq_terms::NoMemory;

@@ -2,8 +2,8 @@
 // proofs of unsatisfiability are trimmed (M. J. H. Heule, W. A. Hunt and N. Wetzler, *Trimming while Checking Clausal
 // Proofs*, FMCAD 2013).
 ghost use Rattle.std.specs.Prelude.{◌≡◌, ◌≤◌, [], ◌∷◌, OnOk, IfOk, length};
-ghost use Rattle.ontology_limits.specs.Limits.{IsInLimit};
 ghost use Rattle.ontology_limits.specs.Numbers.{Extends};
+ghost use Rattle.refutation_check.specs.Checkable.{IsCheckable};
 ghost use Rattle.refutation_check.specs.Open.{branches, AreNumberedBranches};
 ghost use Rattle.refutation_check.specs.Steps.{IsGoingOn};
 
@@ -31,7 +31,7 @@ pub fn needed_lines(
     refutation: &Refutation,
 ) -> Result<Vec<bool>, NoMemory>
     requires set { set.now.limit ≡ length ontology.now.axioms }
-    requires limits { IsInLimit ontology.now query.now }
+    requires checkable { IsCheckable ontology.now query.now }
     requires lines { length refutation.now.lines ≤ 4294967293 }
 {
     let _limit = set.limit();

@@ -5,5 +5,6 @@ pub use Rattle.tableau.proofs.Left
 pub use Rattle.run_log.proofs.Named
 pub use Rattle.run_log.proofs.Told
 pub use Rattle.tableau.proofs.Entailed
+pub use Rattle.tableau.proofs.Checkable
 pub use Rattle.model_builder.proofs.FirstLine
 pub use Rattle.model_builder.proofs.TextBack

@@ -7,6 +7,7 @@ pub mod Noted
 pub mod Kept
 pub mod Apart
 pub use Rattle.closed_search.proofs.Entailed
+pub use Rattle.closed_search.proofs.Checkable
 pub use Rattle.search_laws.proofs.Last
 pub use Rattle.search_laws.proofs.Allowed
 pub use Rattle.search_laws.proofs.AllowedParts

@@ -1,9 +1,6 @@
 use Rattle.std.proofs.Common.{ℕ, map, length, subst}
-use Rattle.std.proofs.lemmas.Bool.{and_parts}
 use Rattle.axiom_sets.specs.NumberSets.{IsPart}
 use Rattle.axiom_sets.specs.Sets.{Limited, IsWithin}
-use Rattle.ontology_limits.specs.Counts.{has_counts_within}
-use Rattle.ontology_limits.proofs.Each.{each_is_within}
 use Rattle.refutation_rules.specs.RuleLine.{line_of}
 use Rattle.refutation_check.proofs.Judged.{judged_ok}
 use Rattle.refutation_check.proofs.checking.check.Goals as goal
@@ -20,17 +17,7 @@ new-requires-clause-numbers c =
     λ k member. within k (named k member)
 
 pub new-requires-clause-within : goal.new-requires-clause-within
-new-requires-clause-within c = each_is_within c.args.ontology.now c.requires.limits.ontology
-
-pub new-requires-clause-sub : goal.new-requires-clause-sub
-new-requires-clause-sub c =
-    (and_parts (has_counts_within 100 c.args.query.now.sub) (has_counts_within 100 c.args.query.now.sup)
-    c.requires.limits.counts).0
-
-pub new-requires-clause-sup : goal.new-requires-clause-sup
-new-requires-clause-sup c =
-    (and_parts (has_counts_within 100 c.args.query.now.sub) (has_counts_within 100 c.args.query.now.sup)
-    c.requires.limits.counts).1
+new-requires-clause-within c = c.requires.checkable.axioms
 
 pub returns : goal.returns
 returns c =
