@@ -4,12 +4,11 @@ use Rattle.std.specs.Prelude.{Result, Ok, Err, IfOk, OnOk}
 use Rattle.std.specs.List.{Contains}
 use Rattle.std.proofs.lemmas.Bool.{cases_lt}
 use Rattle.std.proofs.lemmas.List.Elements.{Contains-push}
-use Rattle.std.specs.FinSet as set
 use Rattle.lane_sieve.specs.Sets.{NumberSet, IsPart}
 use Rattle.axiom_sets.specs.Sets.{Limited}
 use Rattle.pinpointing_specs.specs.Smallest.{Grows, rest, HasPart}
 use Rattle.pinpointing_specs.specs.Nodes.{AreSettled}
-use Rattle.set_questions.specs.Meaning.{Meaning, Keeps, ShowsTheSame}
+use Rattle.set_questions.specs.Meaning.{Meaning, Keeps, ShowsNothing}
 use Rattle.set_questions.specs.Asked.{Answers, ShowsNoOther}
 use Rattle.set_questions.specs.declared.entail.Reply.{Reply}
 use Rattle.set_questions.specs.declared.entail.Reply.TheVariants.{Yes, No, Spent}
@@ -44,18 +43,14 @@ shown_on m m' m'' js js' b more first second s at =
     ]
 
 -- a call that shows nothing comes first
-pub shown_after : (m m' m'' : Meaning) (js : List Limited) (b : Bool) → ShowsTheSame m m' → ListsShown m' m'' js b
+pub shown_after : (m m' m'' : Meaning) (js : List Limited) (b : Bool) → ShowsNothing m m' → ListsShown m' m'' js b
     → ListsShown m m'' js b
 shown_after m m' m'' js b same second s at =
-    elim (second s at) [ inl before ↦ inl ((same.same_yes s).1 before) | inr found ↦ inr found ]
+    elim (second s at) [ inl before ↦ inl (same s before) | inr found ↦ inr found ]
 
 -- two calls that show nothing
-pub same_on : (m m' m'' : Meaning) → ShowsTheSame m m' → ShowsTheSame m' m'' → ShowsTheSame m m''
-same_on m m' m'' g h =
-    record {
-      same_yes = λ s. (λ x. (h.same_yes s).0 ((g.same_yes s).0 x), λ x. (g.same_yes s).1 ((h.same_yes s).1 x));
-      same_no = λ s. (λ x. (h.same_no s).0 ((g.same_no s).0 x), λ x. (g.same_no s).1 ((h.same_no s).1 x));
-    }
+pub nothing_on : (m m' m'' : Meaning) → ShowsNothing m m' → ShowsNothing m' m'' → ShowsNothing m m''
+nothing_on m m' m'' g h s at = g s (h s at)
 
 -- sets that contain one are found with it
 found_above : (m : Meaning) (js : List Limited) (s t : NumberSet) (b : Bool) → IsPart s t → HasFoundIn m js s b
@@ -73,9 +68,7 @@ shown_asked m m' m'' js b (Yes part) one named second s at =
     elim (second s at) [
       | inl before ↦ elim (one s before) [
         | inl old ↦ inl old
-        | inr is ↦
-            inr (found_above m'' js part.members s b
-            (λ k h. subst (λ (t : NumberSet). set.contains t k ≡ true) (sym is) h) named)
+        | inr inside ↦ inr (found_above m'' js part.members s b inside named)
       ]
       | inr found ↦ inr found
     ]
@@ -90,7 +83,7 @@ pub all_shown_asked : {X : Type 0} (m m' m'' : Meaning) (js : List Limited) (ans
 all_shown_asked m m' m'' js answer one (Ok b) named second = shown_asked m m' m'' js b answer one named second
 all_shown_asked m m' m'' js answer one (Err e) named second = tt
 
-pub all_shown_after : {X : Type 0} (m m' m'' : Meaning) (js : List Limited) → ShowsTheSame m m' → (r : Result Bool X)
+pub all_shown_after : {X : Type 0} (m m' m'' : Meaning) (js : List Limited) → ShowsNothing m m' → (r : Result Bool X)
     → IfOk r (ListsShown m' m'' js) → IfOk r (ListsShown m m'' js)
 all_shown_after m m' m'' js same (Ok b) second = shown_after m m' m'' js b same second
 all_shown_after m m' m'' js same (Err e) second = tt

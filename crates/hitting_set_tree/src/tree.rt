@@ -7,7 +7,7 @@ ghost use Rattle.lane_sieve.specs.Sets.{DoMeet};
 ghost use Rattle.axiom_sets.specs.Sets.{Limited, IsWithin};
 ghost use Rattle.pinpointing_specs.specs.Smallest.{AreApart};
 ghost use Rattle.pinpointing_specs.specs.Nodes.{AreNodes};
-ghost use Rattle.set_questions.specs.Meaning.{Keeps, ShowsTheSame};
+ghost use Rattle.set_questions.specs.Meaning.{Keeps, ShowsNothing};
 ghost use Rattle.set_questions.specs.Asked.{Answers, IsUnknownIf};
 ghost use Rattle.hitting_set_tree.specs.Territory.{IsNode, IsFrame, InNode, InFrame, Frames};
 ghost use Rattle.hitting_set_tree.specs.Weight.{node_weight, frame_weight};
@@ -263,7 +263,7 @@ fn take_path<E: Entail>(entail: &mut E, tree: &Tree, node: &Node) -> Result<bool
     ensures keeps { Keeps (E.meaning entail.old) (E.meaning entail.new) }
     ensures same { E.origin entail.new ≡ E.origin entail.old }
     ensures taken { IfOk result (TakesPath (E.meaning entail.new) (lists tree.now) node.now) }
-    ensures shown { ShowsTheSame (E.meaning entail.old) (E.meaning entail.new) }
+    ensures shown { ShowsNothing (E.meaning entail.old) (E.meaning entail.new) }
     ensures asks { (E.meaning entail.new).asks ≡ (E.meaning entail.old).asks }
     ensures more { IfOk result (λ b. b ≡ true →
         length (E.meaning entail.old).taken < length (E.meaning entail.new).taken) }

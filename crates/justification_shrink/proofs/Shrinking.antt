@@ -11,9 +11,9 @@ use Rattle.axiom_sets.specs.Sets.{Limited}
 use Rattle.pinpointing_specs.specs.Smallest.{Grows, without}
 use Rattle.axiom_sets.proofs.Same.{set_of_parts}
 use Rattle.pinpointing_specs.proofs.Choices.{in_without, to_without}
-use Rattle.set_questions.specs.Meaning.{Meaning, Keeps}
+use Rattle.set_questions.specs.Meaning.{Meaning, Keeps, ShowsAbove}
 use Rattle.justification_shrink.specs.declared.Shrunk.TheVariants.{Smallest, Spent}
-use Rattle.justification_shrink.specs.Shrunk.{Tries, TriesAbove, ShowsAbove, LosesNothing}
+use Rattle.justification_shrink.specs.Shrunk.{Tries, TriesAbove, LosesNothing}
 
 -- what is left of `start` once the numbers below n were tried
 pub record IsShrunk (m : Meaning) (start kept : Limited) (n : ℕ) : Type 0 where

@@ -1,10 +1,10 @@
 -- What came of shrinking a set.
 use Rattle.std.specs.Prelude.{◌≡◌, ◌⊎◌, ℕ, true}
 use Rattle.std.specs.FinSet as set
-use Rattle.lane_sieve.specs.Sets.{NumberSet, IsPart}
+use Rattle.lane_sieve.specs.Sets.{IsPart}
 use Rattle.axiom_sets.specs.Sets.{Limited}
 use Rattle.pinpointing_specs.specs.Smallest.{IsMinimalYes, without}
-use Rattle.set_questions.specs.Meaning.{Meaning}
+use Rattle.set_questions.specs.Meaning.{Meaning, ShowsNothing, ShowsAbove}
 use Rattle.justification_shrink.specs.declared.Shrunk.{Shrunk}
 use Rattle.justification_shrink.specs.declared.Shrunk.TheVariants.{Smallest, Spent}
 
@@ -20,10 +20,6 @@ pub record IsUndecided (m : Meaning) (kept : Limited) : Type 0 where
   pub number : ℕ
   pub member : set.contains kept.members number ≡ true
   pub unknown : m.unknown (without kept number).members
-
--- each set that was shown to be a yes-set has this one as part, if not so before
-abbrev pub ShowsAbove : Meaning → Meaning → Limited → Type 0
-ShowsAbove m m' kept = (s : NumberSet) → m'.shown_yes s → m.shown_yes s ⊎ IsPart kept.members s
 
 -- nothing is lost of what was shown: it has the result as part, or a yes-set inside the start that was not tried to its
 -- end
@@ -47,4 +43,4 @@ Tries m kept number Spent = m.left ≡ 0
 abbrev pub TriesAbove : Meaning → Meaning → Limited → ℕ → Shrunk → Type 0
 TriesAbove m m' kept number (Smallest j) = ShowsAbove m m' j
 TriesAbove m m' kept number Spent = (set.contains kept.members number ≡ true) × m'.unknown (without kept number).members
-    × ((s : NumberSet) → m'.shown_yes s → m.shown_yes s)
+    × ShowsNothing m m'

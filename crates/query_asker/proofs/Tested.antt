@@ -2,16 +2,17 @@
 use Rattle.std.proofs.Common.{◌≡◌, ◌⊎◌, ℕ, ◌+◌, ◌-◌, ◌<◌, ◌≤◌, true, false, List, [], ◌∷◌, ◌++◌, length, take, drop}
 use Rattle.std.proofs.Common.{refl, ap, sym, ◌∙◌, subst, arith, inl, inr, length-append, append_assoc}
 use Rattle.std.specs.Prelude.{Option, Result, Ok, Err, IfOk, OnErr, Bool}
+use Rattle.std.specs.FinSet as set
 use Rattle.std.specs.List.{Contains, list_any}
 use Rattle.std.proofs.lemmas.List.{append-nil, take-append-drop, take-append-le, drop-append-le}
-use Rattle.std.proofs.lemmas.List.Elements.{All-contains, Contains-append_cases, Contains-append_left, Contains-push}
+use Rattle.std.proofs.lemmas.List.Elements.{All-contains, Contains-append_cases, Contains-push}
 use Rattle.std.proofs.lemmas.List.Elements.{Contains-push_cases}
 use Rattle.std.proofs.lemmas.List.Sums.{sum_by-append}
 use Rattle.lane_sieve.specs.Sets.{NumberSet, IsPart}
 use Rattle.axiom_sets.specs.Sets.{Limited}
 use Rattle.shq_terms.specs.NoMemory.{NoMemory}
 use Rattle.shq_terms.specs.declared.axioms.Query.{Query}
-use Rattle.set_questions.specs.Meaning.{ShowsTheSame, one_more}
+use Rattle.set_questions.specs.Meaning.{ShowsNothing, one_more}
 use Rattle.set_questions.specs.Asked.{Answers, ShowsNoOther, Takes}
 use Rattle.set_questions.specs.declared.entail.Reply.{Reply}
 use Rattle.set_questions.specs.declared.entail.Reply.TheVariants.{Yes}
@@ -28,7 +29,7 @@ use Rattle.shq_oracle.specs.declared.answer.Outcome.{Outcome}
 use Rattle.shq_oracle.specs.declared.answer.Outcome.TheVariants as Found
 use Rattle.query_asker.specs.declared.memo.Memo.{Memo}
 use Rattle.query_asker.specs.AskerLists.{AskerLists, origin_of}
-use Rattle.query_asker.specs.Told.{IsTestOfOther, AreTestsOfOthers, IsShownNoIn, asker_meaning, IsAskerLog, IsUnknown}
+use Rattle.query_asker.specs.Told.{IsTestOfOther, AreTestsOfOthers, asker_meaning, IsAskerLog, IsUnknown}
 use Rattle.query_asker.specs.Told.{LogsNode}
 use Rattle.query_asker.specs.Memory.{yes_by, yes_of, no_of, IsMemo}
 use Rattle.query_asker.specs.Asking.{lists_of, CanAsk, IsAsker, IsLater, reply_of}
@@ -253,7 +254,10 @@ module _ (o : OracleLists) (q : Query) (among : Option Limited) (first asks : �
     shows_named (Found.Yes x) m =
         λ j h. elim (shown_before (Found.Yes x) m j h) [
           | inl old ↦ inl old
-          | inr new' ↦ let same : new'.0 ≡ x = cc (sym new'.1) in inr (new'.2 ∙ ap (λ (l : Limited). l.members) same)
+          | inr new' ↦
+              let same : new'.0 ≡ x = cc (sym new'.1) in
+              inr (λ k at. subst (λ (t : NumberSet). set.contains t k ≡ true)
+              (sym (new'.2 ∙ ap (λ (l : Limited). l.members) same)) at)
         ]
     shows_named Found.No m = λ j h. elim (shown_before Found.No m j h) [ inl old ↦ old | inr new' ↦ absurd (cc new'.1) ]
     shows_named Found.Undecided m =
@@ -430,15 +434,6 @@ module _ (a b : AskerLists) (s : Limited) where
   test_among log t q steps d at =
       elim (Contains-push_cases log (Node s) (Test t q steps d) at) [ inl there ↦ there | inr is ↦ absurd (cc is) ]
 
-  yes_more : (log : List Entry) (j : NumberSet) → IsShownYes log a.query j → IsShownYes (log ++ Node s ∷ []) a.query j
-  yes_more log j h = record {
-    tested = h.tested;
-    steps = h.steps;
-    enough = h.enough;
-    is_yes = Contains-append_left log (Node s ∷ []) _ h.is_yes;
-    is_set = h.is_set;
-  }
-
   yes_fewer : (log : List Entry) (j : NumberSet) → IsShownYes (log ++ Node s ∷ []) a.query j → IsShownYes log a.query j
   yes_fewer log j h = record {
     tested = h.tested;
@@ -448,27 +443,9 @@ module _ (a b : AskerLists) (s : Limited) where
     is_set = h.is_set;
   }
 
-  no_more : (log : List Entry) (j : NumberSet) → IsShownNoIn log a.query a.local_part j
-      → IsShownNoIn (log ++ Node s ∷ []) a.query a.local_part j
-  no_more log j h = record {
-    tested = h.tested;
-    steps = h.steps;
-    is_no = Contains-append_left log (Node s ∷ []) _ h.is_no;
-    has_part = h.has_part;
-  }
-
-  no_fewer : (log : List Entry) (j : NumberSet) → IsShownNoIn (log ++ Node s ∷ []) a.query a.local_part j
-      → IsShownNoIn log a.query a.local_part j
-  no_fewer log j h = record {
-    tested = h.tested;
-    steps = h.steps;
-    is_no = test_among log h.tested a.query h.steps E.No h.is_no;
-    has_part = h.has_part;
-  }
-
-  shows_still : b ≡ a → ShowsTheSame (asker_meaning a) (asker_meaning b)
-  shows_still e = subst (λ (x : AskerLists). ShowsTheSame (asker_meaning a) (asker_meaning x)) (sym e)
-      (record { same_yes = λ j. (λ y. y, λ y. y); same_no = λ j. (λ n. n, λ n. n) })
+  shows_still : b ≡ a → ShowsNothing (asker_meaning a) (asker_meaning b)
+  shows_still e = subst (λ (x : AskerLists). ShowsNothing (asker_meaning a) (asker_meaning x)) (sym e)
+      (λ j y. y)
 
   pub nothing_later : b ≡ a → IsLater a b
   nothing_later e =
@@ -496,12 +473,9 @@ module _ (a b : AskerLists) (s : Limited) where
   later_by (Err x) l e = nothing_later e
 
   pub shows_by : (r : Result Bool NoMemory) → IfOk r (LogsNode a b s) → OnErr r (b ≡ a)
-      → ShowsTheSame (asker_meaning a) (asker_meaning b)
+      → ShowsNothing (asker_meaning a) (asker_meaning b)
   shows_by (Ok true) l e =
-      subst (λ (x : AskerLists). ShowsTheSame (asker_meaning a) (asker_meaning x)) (sym l) (record {
-        same_yes = λ j. (λ y. yes_more a.gained j y, λ y. yes_fewer a.gained j y);
-        same_no = λ j. (λ n. no_more a.gained j n, λ n. no_fewer a.gained j n);
-      })
+      subst (λ (x : AskerLists). ShowsNothing (asker_meaning a) (asker_meaning x)) (sym l) (yes_fewer a.gained)
   shows_by (Ok false) l e = shows_still l
   shows_by (Err x) l e = shows_still e
 

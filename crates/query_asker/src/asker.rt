@@ -6,7 +6,7 @@ ghost use Rattle.lane_sieve.specs.Sets.{IsPart};
 ghost use Rattle.pinpointing_specs.specs.Smallest.{numbers_to};
 ghost use Rattle.shq_oracle.specs.Limits.{IsInLimit};
 ghost use Rattle.set_questions.specs.Asked.{Answers, IsUnknownIf, ShowsNoOther, Takes};
-ghost use Rattle.set_questions.specs.Meaning.{Keeps, ShowsTheSame, one_more};
+ghost use Rattle.set_questions.specs.Meaning.{Keeps, ShowsNothing, one_more};
 ghost use Rattle.shq_oracle.specs.Entries.{is_spent, nodes_of, IsAnswered};
 ghost use Rattle.query_asker.specs.AskerLists.{origin_of};
 ghost use Rattle.query_asker.specs.Told.{KeepsAnswers, AreTestsOfOthers, asker_meaning, IsAskerLog};
@@ -339,7 +339,7 @@ impl<'a> Entail for Asker<'a> {
         ensures answer { IfOk result (Takes (asker_meaning self.old) (asker_meaning self.new) hit.now) }
         ensures refused { OnErr result ((asker_meaning self.new).taken ≡ (asker_meaning self.old).taken) }
         ensures keeps { Keeps (asker_meaning self.old) (asker_meaning self.new) }
-        ensures shown { ShowsTheSame (asker_meaning self.old) (asker_meaning self.new) }
+        ensures shown { ShowsNothing (asker_meaning self.old) (asker_meaning self.new) }
         ensures asks { (asker_meaning self.new).asks ≡ (asker_meaning self.old).asks }
         ensures same { origin_of self.new ≡ origin_of self.old }
     {

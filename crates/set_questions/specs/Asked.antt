@@ -1,8 +1,8 @@
 -- What an answer about a set says.
-use Rattle.std.specs.Prelude.{◌≡◌, ◌⊎◌, ◌-◌, ◌++◌, ◌∷◌, [], Bool, true, false}
+use Rattle.std.specs.Prelude.{◌≡◌, ◌-◌, ◌++◌, ◌∷◌, [], Bool, true, false}
 use Rattle.pinpointing_specs.specs.Sets.{Limited}
-use Rattle.lane_sieve.specs.Sets.{NumberSet, IsPart}
-use Rattle.set_questions.specs.Meaning.{Meaning}
+use Rattle.lane_sieve.specs.Sets.{IsPart}
+use Rattle.set_questions.specs.Meaning.{Meaning, ShowsNothing, ShowsAbove}
 use Rattle.set_questions.specs.declared.entail.Reply.{Reply}
 use Rattle.set_questions.specs.declared.entail.Reply.TheVariants.{Yes, No, Spent}
 
@@ -19,11 +19,11 @@ IsUnknownIf m asked (Yes part) = Unit {0}
 IsUnknownIf m asked No = Unit {0}
 IsUnknownIf m asked Spent = m.unknown asked.members
 
--- of no set but the one that the answer names it was shown just now that it is a yes-set
+-- of no set was it shown just now that it is a yes-set, but of those with the set as part that the answer names
 abbrev pub ShowsNoOther : Meaning → Meaning → Reply → Type 0
-ShowsNoOther m m' (Yes part) = (s : NumberSet) → m'.shown_yes s → m.shown_yes s ⊎ (s ≡ part.members)
-ShowsNoOther m m' No = (s : NumberSet) → m'.shown_yes s → m.shown_yes s
-ShowsNoOther m m' Spent = (s : NumberSet) → m'.shown_yes s → m.shown_yes s
+ShowsNoOther m m' (Yes part) = ShowsAbove m m' part
+ShowsNoOther m m' No = ShowsNothing m m'
+ShowsNoOther m m' Spent = ShowsNothing m m'
 
 -- a node was taken, or nothing was left
 abbrev pub Takes : Meaning → Meaning → Limited → Bool → Type 0

@@ -1,6 +1,6 @@
 -- What an object that answers questions about sets means, and what its calls leave as it is.
-use Rattle.std.specs.Prelude.{◌≡◌, ℕ, ◌+◌, ◌-◌, ◌^◌, ◌≤◌, ◌↔◌, List, min}
-use Rattle.lane_sieve.specs.Sets.{NumberSet}
+use Rattle.std.specs.Prelude.{◌≡◌, ◌⊎◌, ℕ, ◌+◌, ◌-◌, ◌^◌, ◌≤◌, ◌↔◌, List, min}
+use Rattle.lane_sieve.specs.Sets.{NumberSet, IsPart}
 use Rattle.pinpointing_specs.specs.Sets.{Limited}
 
 pub record Meaning : Type 1 where
@@ -28,10 +28,13 @@ pub record Keeps (m m' : Meaning) : Type 0 where
   pub keeps_yes : (s : NumberSet) → m.shown_yes s → m'.shown_yes s
   pub keeps_no : (s : NumberSet) → m.shown_no s → m'.shown_no s
 
--- just the same sets were shown
-pub record ShowsTheSame (m m' : Meaning) : Type 0 where
-  pub same_yes : (s : NumberSet) → m.shown_yes s ↔ m'.shown_yes s
-  pub same_no : (s : NumberSet) → m.shown_no s ↔ m'.shown_no s
+-- of no set was it shown meanwhile that it is a yes-set
+abbrev pub ShowsNothing : Meaning → Meaning → Type 0
+ShowsNothing m m' = (s : NumberSet) → m'.shown_yes s → m.shown_yes s
+
+-- of no set without this one as part was it shown meanwhile that it is a yes-set
+abbrev pub ShowsAbove : Meaning → Meaning → Limited → Type 0
+ShowsAbove m m' part = (s : NumberSet) → m'.shown_yes s → m.shown_yes s ⊎ IsPart part.members s
 
 -- a count that is one higher, or stands at its greatest value
 abbrev pub one_more : ℕ → ℕ

@@ -1,7 +1,6 @@
 use Rattle.std.proofs.Common.{◌≡◌, ◌+◌, ◌≤◌, length}
 use Rattle.lane_sieve.specs.Sets.{members_below}
-use Rattle.set_questions.specs.Meaning.{Keeps}
-use Rattle.justification_shrink.specs.Shrunk.{ShowsAbove}
+use Rattle.set_questions.specs.Meaning.{Keeps, ShowsAbove}
 use Rattle.justification_shrink.proofs.Shrinking.{IsShrunk}
 use Rattle.justification_shrink.proofs.shrink.Given as goal
 

@@ -7,7 +7,7 @@ use Rattle.hitting_set_tree.specs.Tree.{lists}
 use Rattle.hitting_set_tree.proofs.Opening.{free, node_free}
 use Rattle.hitting_set_tree.proofs.Path.{nothing_left, path_open, path_beside, path_last, one_longer}
 use Rattle.hitting_set_tree.proofs.Begun.{in_err, nodes_still}
-use Rattle.hitting_set_tree.proofs.Showing.{same_on}
+use Rattle.hitting_set_tree.proofs.Showing.{nothing_on}
 use Rattle.hitting_set_tree.proofs.tree.take_path.Goals as goal
 
 pub take_node-requires-clause-limit : goal.take_node-requires-clause-limit
@@ -61,7 +61,7 @@ loop-place-preserved g c =
           path_beside m m' m0.size (lists tree) place frame old.open' c.requires.frames lt takes' c.args.node.now
           old.beside;
       asks = c.take_node.ensures.asks ∙ old.asks;
-      shown = same_on m0 m m' old.shown c.take_node.ensures.shown;
+      shown = nothing_on m0 m m' old.shown c.take_node.ensures.shown;
       grown = omega (arith, old.grown, one_longer m m' frame.hit takes);
       same = c.take_node.ensures.same ∙ old.same;
     }

@@ -1,5 +1,5 @@
 use Rattle.std.proofs.Common.{◌≡◌, ◌≤◌, length}
-use Rattle.set_questions.specs.Meaning.{Keeps, ShowsTheSame}
+use Rattle.set_questions.specs.Meaning.{Keeps, ShowsNothing}
 use Rattle.hitting_set_tree.specs.Tree.{lists}
 use Rattle.hitting_set_tree.specs.Open.{HasOpen, IsBeside}
 use Rattle.hitting_set_tree.proofs.tree.take_path.Given as goal
@@ -13,7 +13,7 @@ invariant-loop-place g l =
       open' : HasOpen m.taken (lists l.tree) l.place;
       beside : IsBeside m.taken (lists l.tree).frames l.node;
       asks : m.asks ≡ before.asks;
-      shown : ShowsTheSame before m;
+      shown : ShowsNothing before m;
       grown : length before.taken ≤ length m.taken;
       same : g.E.Entail.origin l.entail ≡ g.E.Entail.origin l.fn.entail;
     }
