@@ -11,18 +11,21 @@ use Rattle.edit_session.specs.Noted.{Noted, nothing_noted}
 use Rattle.edit_session.specs.Sessions.{SessionLists, state_of, begun}
 use Rattle.edit_session.specs.SessionLog.{IsHonestThen}
 use Rattle.edit_session.specs.Held.{IsOfHeld, Holds}
-use Rattle.edit_session.specs.Laws.{NewSessionsMayGoOn}
+use Rattle.edit_session.specs.Laws.{EmptyLogsServe, NewSessionsMayGoOn}
 use Rattle.std.specs.Prelude.{length}
+
+pub empty_serves : EmptyLogsServe
+empty_serves s budget = record {
+  within = omega arith;
+  goes_on = refl;
+  of_held = All-nil (IsOfHeld (length s.state.ontology.axioms));
+  hold = All-nil (Holds s.state.ontology.axioms);
+  noted = record { filed = λ within place t q steps e lt at. absurd (omega (arith, within, lt)) };
+}
 
 pub new_may_go_on : NewSessionsMayGoOn
 new_may_go_on o kept budget = (
-  record {
-    within = omega arith;
-    goes_on = refl;
-    of_held = All-nil (IsOfHeld (length o.axioms));
-    hold = All-nil (Holds o.axioms);
-    noted = record { within = omega arith; filed = λ place s q steps e lt at. absurd (omega (arith, lt)) };
-  },
+  empty_serves (record { state = begun o kept; noted = nothing_noted }) budget,
   record {
     within = omega arith;
     honest = All-nil (IsHonestThen o);

@@ -21,7 +21,7 @@ use Rattle.shq_oracle.specs.declared.answer.Outcome.{Outcome}
 use Rattle.shq_oracle.specs.declared.answer.Outcome.TheVariants.{Yes, No, Undecided}
 use Rattle.edit_session.specs.Noted.{Noted}
 use Rattle.edit_session.specs.SessionLog.{Tests}
-use Rattle.edit_session.specs.Places.{AreFiled, StaysFiled, KeepsAllOthers, IsNotedOf, plain_noted}
+use Rattle.edit_session.specs.Places.{AreFiled, StaysFiled, KeepsAllOthers, IsNotedOf, MayBeNotedOf, plain_noted}
 use Rattle.edit_session.specs.Asking.{IsTold, IsRecalled, AnswersOnce, GrowsLog}
 use Rattle.edit_session.specs.declared.noted_places.NotedPlaces.{NotedPlaces}
 use Rattle.edit_session.proofs.Filed.{filed_longer, filed_others}
@@ -135,6 +135,24 @@ module _ (s : Limited) (log entries : List Entry) (same : entries ≡ log) where
         (filed_others s.members log old.places.items new.places.items old.seen s.limit q
         (subst (λ (es : List Entry). KeepsAllOthers es q old.places.items new.places.items) same others) none n.filed);
   }
+
+-- what is known of the log, once what was seen of another one is forgotten
+pub noted_known : (live : NumberSet) (log entries : List Entry) → entries ≡ log → (old new : NotedPlaces)
+    → new.seen ≤ length entries
+    → ((m : NumberSet) → (old.seen ≤ length entries → AreFiled old.places.items m old.seen entries)
+    → AreFiled new.places.items m new.seen entries)
+    → MayBeNotedOf (plain_noted old) live log → IsNotedOf (plain_noted new) live log
+noted_known live log entries same old new within files may =
+    subst (IsNotedOf (plain_noted new) live) same (record {
+      within = within;
+      filed =
+          files live (λ le. subst (AreFiled old.places.items live old.seen) (sym same)
+          (may.filed (subst (λ (es : List Entry). old.seen ≤ length es) same le)));
+    })
+
+-- of a log of which something is known it may be
+pub noted_may : (n : Noted) (live : NumberSet) (log : List Entry) → IsNotedOf n live log → MayBeNotedOf n live log
+noted_may n live log known = record { filed = λ within. known.filed }
 
 -- in a longer log
 pub noted_longer : (n : Noted) (live : NumberSet) (before after : List Entry) → GrowsLog before after

@@ -13,7 +13,7 @@ use Rattle.job_inputs.specs.declared.text.Text.{Text}
 use Rattle.shq_oracle.specs.declared.answer.Outcome.{Outcome}
 use Rattle.edit_session.specs.Noted.{Noted}
 use Rattle.edit_session.specs.Sessions.{SessionLists, state_of, live_set}
-use Rattle.edit_session.specs.Places.{IsNotedOf}
+use Rattle.edit_session.specs.Places.{MayBeNotedOf}
 use Rattle.edit_session.specs.Asked.{IsAsked, IsUnasked}
 use Rattle.edit_session.specs.Editing.{IsTextOf, HasText}
 use Rattle.edit_session.specs.Lines.{MayGoOn, IsAskTold, AskLogsAtMostOne}
@@ -25,7 +25,7 @@ lists_of o kept live noted = record { state = state_of o kept live.members; note
 module _ (o next : Listed) (kept : DocumentContext) (live : Limited) (was left : Noted) (budget : ℕ) (text : List ℕ)
     (before after : List Entry) (old : SessionLists) (view : lists_of o kept live was ≡ old)
     (limit : live.limit ≡ length o.axioms) (same : next ≡ o) (may : MayGoOn old budget before)
-    (within : spent_of after ≤ budget) (noted : IsNotedOf left live.members after) (asked : Result Outcome Refusal)
+    (within : spent_of after ≤ budget) (noted : MayBeNotedOf left live.members after) (asked : Result Outcome Refusal)
     (done : IfOk asked (IsAsked kept o live text budget before after)) (undone : IfErr asked (IsUnasked kept o text))
     (unlogged : OnErr asked (after ≡ before)) where
   abbrev first : SessionLists

@@ -35,7 +35,7 @@ use Rattle.edit_session.specs.Said.{IsNo, IsAddedOrRefused, IsRemovedOrNot, IsAn
 use Rattle.edit_session.specs.SessionLog.{Tests}
 use Rattle.edit_session.specs.Held.{IsOfHeld, Holds}
 use Rattle.edit_session.specs.Logged.{LogsAtMostOne, ShowsAnswer}
-use Rattle.edit_session.specs.Places.{AreFiled, IsNotedOf}
+use Rattle.edit_session.specs.Places.{AreFiled, MayBeNotedOf}
 use Rattle.edit_session.specs.Asking.{IsTold, TestsAtMostOnce}
 use Rattle.edit_session.specs.Asked.{IsAsked, IsUnasked}
 use Rattle.edit_session.specs.Editing.{IsTextOf, HasText, IsRemovedIf, IsRemovedFrom}
@@ -100,7 +100,7 @@ complaint_known e c is same = let clash : None ≡ Some c = sym (ap complaint sa
 
 module _ (old new : SessionLists) (budget : ℕ) (text : List ℕ) (before after : List Entry)
     (may : MayGoOn old budget before) (state : new.state ≡ old.state)
-    (within : spent_of after ≤ budget) (noted : IsNotedOf new.noted old.state.live after) where
+    (within : spent_of after ≤ budget) (noted : MayBeNotedOf new.noted old.state.live after) where
   abbrev o : Listed
   o = old.state.ontology
 
@@ -121,7 +121,7 @@ module _ (old new : SessionLists) (budget : ℕ) (text : List ℕ) (before after
     hold =
         here (λ (t : State). All (Holds t.ontology.axioms) after)
         (once_hold o.axioms both same s q before after once may.hold);
-    noted = here (λ (t : State). IsNotedOf new.noted t.live after) noted;
+    noted = here (λ (t : State). MayBeNotedOf new.noted t.live after) noted;
   }
 
   go_on_same : after ≡ before → MayGoOn new budget after
@@ -132,7 +132,7 @@ module _ (old new : SessionLists) (budget : ℕ) (text : List ℕ) (before after
         here (λ (t : State). All (IsOfHeld (length t.ontology.axioms)) after)
         (subst (All (IsOfHeld (length o.axioms))) (sym same) may.of_held);
     hold = here (λ (t : State). All (Holds t.ontology.axioms) after) (subst (All (Holds o.axioms)) (sym same) may.hold);
-    noted = here (λ (t : State). IsNotedOf new.noted t.live after) noted;
+    noted = here (λ (t : State). MayBeNotedOf new.noted t.live after) noted;
   }
 
   abbrev IsSo : Outcome → Type 0
@@ -269,7 +269,7 @@ module _ (old new : SessionLists) (budget : ℕ) (log : List Entry) (may : MayGo
     (noted : new.noted ≡ old.noted) where
   -- with other live axioms, and perhaps more axioms
   goes_on_with : (more : List Numbered) → new.state.ontology.axioms ≡ old.state.ontology.axioms ++ more
-      → IsNotedOf old.noted new.state.live log → MayGoOn new budget log
+      → MayBeNotedOf old.noted new.state.live log → MayGoOn new budget log
   goes_on_with more longer kept =
       let xs = old.state.ontology.axioms in
       let le : length xs ≤ length new.state.ontology.axioms = omega (arith, ap length longer, length-append xs more) in
@@ -281,13 +281,13 @@ module _ (old new : SessionLists) (budget : ℕ) (log : List Entry) (may : MayGo
         hold =
             λ k d lt. subst (λ (as_ : List Numbered). Holds as_ (get_or log k d)) (sym longer)
             (hold_more xs more (get_or log k d) (may.of_held k d lt) (may.hold k d lt));
-        noted = subst (λ (n : Noted). IsNotedOf n new.state.live log) (sym noted) kept;
+        noted = subst (λ (n : Noted). MayBeNotedOf n new.state.live log) (sym noted) kept;
       }
 
   stays : new.state ≡ old.state → MayGoOn new budget log
   stays same =
       goes_on_with [] (ap (λ (s : State). s.ontology.axioms) same ∙ sym (append-nil old.state.ontology.axioms))
-      (subst (λ (s : State). IsNotedOf old.noted s.live log) (sym same) may.noted)
+      (subst (λ (s : State). MayBeNotedOf old.noted s.live log) (sym same) may.noted)
 
   abbrev Tells : Request → List ℕ → Type 0
   Tells r answer = (l : List ℕ) → request l ≡ r → IsAnsweredLine budget old l log new log answer
@@ -313,10 +313,9 @@ module _ (old new : SessionLists) (budget : ℕ) (log : List Entry) (may : MayGo
       let live : new.state.live ≡ set.insert old.state.live (n + 1) =
       h.is_live ∙ ap (set.insert old.state.live) h.is_axiom.5 in
       tells (adds text) answer (λ asked e. cc) (inl h) (goes_on_with (longer.0 ∷ []) longer.1 (record {
-        within = may.noted.within;
-        filed =
+        filed = λ within.
             subst (λ (m : NumberSet). AreFiled old.noted.places m old.noted.seen log) (sym live)
-            (filed_added old.state.live n log old.noted.places old.noted.seen may.of_held may.noted.filed);
+            (filed_added old.state.live n log old.noted.places old.noted.seen may.of_held (may.noted.filed within));
       }))
   add_told text answer (inr h) = tells (adds text) answer (λ asked e. cc) (inr h) (stays h.same)
 
@@ -327,10 +326,9 @@ module _ (old new : SessionLists) (budget : ℕ) (log : List Entry) (may : MayGo
       by true r =
           goes_on_with [] (ap (λ (s : State). s.ontology.axioms) r.0 ∙ sym (append-nil old.state.ontology.axioms))
           (record {
-            within = may.noted.within;
-            filed =
+            filed = λ within.
                 subst (λ (s : State). AreFiled old.noted.places s.live old.noted.seen log) (sym r.0)
-                (filed_removed old.state.live k log old.noted.places old.noted.seen may.noted.filed);
+                (filed_removed old.state.live k log old.noted.places old.noted.seen (may.noted.filed within));
           })
       by false r = stays r.0
 

@@ -9,7 +9,7 @@ use Rattle.ofn_reader.specs.DocumentContext.{DocumentContext}
 use Rattle.ofn_reader.specs.Queries.{IsQueryOn}
 use Rattle.shq_oracle.specs.Entry.{Entry}
 use Rattle.edit_session.specs.Noted.{nothing_noted}
-use Rattle.edit_session.specs.Sessions.{State, begun}
+use Rattle.edit_session.specs.Sessions.{State, SessionLists, begun}
 use Rattle.edit_session.specs.ScriptLines.{request, asks}
 use Rattle.edit_session.specs.Said.{Said, no_line, IsYes}
 use Rattle.edit_session.specs.SessionLog.{IsHonestThen, IsSessionLog}
@@ -29,6 +29,10 @@ IsFromScratch s q answer = ((answer ≡ no_line) ↔ (¬ Entails (axioms_in_set 
 abbrev pub AnswersAreFromScratch : Type 0
 AnswersAreFromScratch = (s next : State) (l text answer : List ℕ) (both : Listed) (q : Query) → request l ≡ asks text
     → IsQueryOn s.context s.ontology text both q → Said s l next answer → IsFromScratch s q answer
+
+-- any session may go on with an empty log, whatever was noted of others
+abbrev pub EmptyLogsServe : Type 0
+EmptyLogsServe = (s : SessionLists) (budget : ℕ) → MayGoOn s budget []
 
 -- a new session may go on with an empty log, which is honest
 abbrev pub NewSessionsMayGoOn : Type 0

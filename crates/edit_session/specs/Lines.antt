@@ -10,18 +10,19 @@ use Rattle.edit_session.specs.ScriptLines.{request, asks}
 use Rattle.edit_session.specs.Said.{Said}
 use Rattle.edit_session.specs.Held.{IsOfHeld, Holds}
 use Rattle.edit_session.specs.Logged.{LogsAtMostOne, RunsOut, ShowsAnswer}
-use Rattle.edit_session.specs.Places.{IsNotedOf}
+use Rattle.edit_session.specs.Places.{MayBeNotedOf}
 use Rattle.edit_session.specs.declared.said.Said.{Said as Outcome}
 use Rattle.edit_session.specs.declared.said.Said.TheVariants.{Answered, Spent}
 
 -- No more was spent than the budget, and no test ran out. The tests were of sets of axioms that were held, and what
--- they found is so. The log begins with the entries that the session noted.
+-- they found is so. The log begins with the entries that the session noted, or has fewer: then it is another one, as an
+-- empty one is.
 pub record MayGoOn (s : SessionLists) (budget : ℕ) (log : List Entry) : Type 0 where
   pub within : spent_of log ≤ budget
   pub goes_on : list_any is_spent log ≡ false
   pub of_held : All (IsOfHeld (length s.state.ontology.axioms)) log
   pub hold : All (Holds s.state.ontology.axioms) log
-  pub noted : IsNotedOf s.noted s.state.live log
+  pub noted : MayBeNotedOf s.noted s.state.live log
 
 -- the same axioms, and perhaps some more
 abbrev pub HoldsMore : Listed → Listed → Type 0

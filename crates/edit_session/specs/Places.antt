@@ -100,5 +100,9 @@ pub record IsNotedOf (noted : Noted) (live : NumberSet) (log : List Entry) : Typ
   pub within : noted.seen ≤ length log
   pub filed : AreFiled noted.places live noted.seen log
 
+-- The same of a log that may be another one than was noted: of one with fewer entries nothing is said.
+pub record MayBeNotedOf (noted : Noted) (live : NumberSet) (log : List Entry) : Type 0 where
+  pub filed : noted.seen ≤ length log → AreFiled noted.places live noted.seen log
+
 abbrev pub plain_noted : NotedPlaces → Noted
 plain_noted n = record { seen = n.seen; places = n.places.items }

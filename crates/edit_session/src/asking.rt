@@ -3,7 +3,7 @@ ghost use Rattle.std.specs.Prelude.{◌≡◌, ◌≤◌, false, IfOk, IfErr, On
 ghost use Rattle.std.specs.List.{list_any};
 ghost use Rattle.job_inputs.specs.Limits.{IsOntologyInLimit, IsInLimit};
 ghost use Rattle.shq_oracle.specs.Entries.{spent_of, is_spent, IsAnswered};
-ghost use Rattle.edit_session.specs.Places.{IsNotedOf, plain_noted};
+ghost use Rattle.edit_session.specs.Places.{IsNotedOf, MayBeNotedOf, plain_noted};
 ghost use Rattle.edit_session.specs.Asking.{AnswersOnce, GrowsLog};
 ghost use Rattle.edit_session.specs.Asked.{IsAsked, IsUnasked, IsCutTo};
 
@@ -33,13 +33,13 @@ pub(crate) fn ask(
     requires limit { live.now.limit ≡ length ontology.old.axioms }
     requires within { spent_of log.old ≤ budget }
     requires goes_on { list_any is_spent log.old ≡ false }
-    requires noted { IsNotedOf (plain_noted noted.old) live.now.members log.old }
+    requires noted { MayBeNotedOf (plain_noted noted.old) live.now.members log.old }
     ensures asked { IfOk result (IsAsked context.now ontology.old live.now text.now budget log.old log.new) }
     ensures unasked { IfErr result (IsUnasked context.now ontology.old text.now) }
     ensures unlogged { OnErr result (log.new ≡ log.old) }
     ensures same { ontology.new ≡ ontology.old }
     ensures within { spent_of log.new ≤ budget }
-    ensures noted { IsNotedOf (plain_noted noted.new) live.now.members log.new }
+    ensures noted { MayBeNotedOf (plain_noted noted.new) live.now.members log.new }
 {
     let classes = ontology.class_count();
     let roles = ontology.role_count();
@@ -50,6 +50,7 @@ pub(crate) fn ask(
 }
 
 // The same, and the names stay.
+#[tactic(auto, using(crate::proofs::Deciding::noted_may))]
 fn ask_on(
     alloc: Global,
     text: &str,
@@ -64,13 +65,13 @@ fn ask_on(
     requires limit { live.now.limit ≡ length ontology.old.axioms }
     requires within { spent_of log.old ≤ budget }
     requires goes_on { list_any is_spent log.old ≡ false }
-    requires noted { IsNotedOf (plain_noted noted.old) live.now.members log.old }
+    requires noted { MayBeNotedOf (plain_noted noted.old) live.now.members log.old }
     ensures asked { IfOk result (IsAsked context.now ontology.old live.now text.now budget log.old log.new) }
     ensures unasked { IfErr result (IsUnasked context.now ontology.old text.now) }
     ensures unlogged { OnErr result (log.new ≡ log.old) }
     ensures cut { IsCutTo ontology.old ontology.new }
     ensures within { spent_of log.new ≤ budget }
-    ensures noted { IsNotedOf (plain_noted noted.new) live.now.members log.new }
+    ensures noted { MayBeNotedOf (plain_noted noted.new) live.now.members log.new }
 {
     let query = read_query(alloc, text, ontology, context)?;
     let outcome = decide(alloc, ontology, live, noted, &query, budget, log);
@@ -78,8 +79,33 @@ fn ask_on(
     Ok(outcome?)
 }
 
-// Whether the query follows from the live axioms: by the log, else by a test.
+// Whether the query follows from the live axioms: by the log, else by a test. Of another log than was seen nothing is
+// known.
 fn decide(
+    alloc: Global,
+    ontology: &Ontology,
+    live: &AxiomSet,
+    noted: &mut NotedPlaces,
+    query: &Query,
+    budget: u32,
+    log: &mut RunLog,
+) -> Result<Outcome, NoMemory>
+    requires limit { live.now.limit ≡ length ontology.now.axioms }
+    requires in_limit { IsInLimit ontology.now query.now }
+    requires within { spent_of log.old ≤ budget }
+    requires goes_on { list_any is_spent log.old ≡ false }
+    requires noted { MayBeNotedOf (plain_noted noted.old) live.now.members log.old }
+    ensures decided { IfOk result (AnswersOnce ontology.now live.now query.now budget log.old log.new) }
+    ensures unlogged { OnErr result (log.new ≡ log.old) }
+    ensures within { spent_of log.new ≤ budget }
+    ensures noted { IsNotedOf (plain_noted noted.new) live.now.members log.new }
+{
+    noted.forget_other(log.entries());
+    decide_noted(alloc, ontology, live, noted, query, budget, log)
+}
+
+// The same by a log of which something is known.
+fn decide_noted(
     alloc: Global,
     ontology: &Ontology,
     live: &AxiomSet,

@@ -29,7 +29,9 @@ mod texts;
 
 pub use answering::answer_script;
 pub use job_inputs::{Status, Text};
-pub use laws::{answers_are_from_scratch, entries_stay_honest, new_sessions_may_go_on};
+pub use laws::{
+    answers_are_from_scratch, empty_logs_serve, entries_stay_honest, new_sessions_may_go_on,
+};
 pub use said::Said;
 pub use script::run_script;
 pub use session::Session;

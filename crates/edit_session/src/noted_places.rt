@@ -1,6 +1,7 @@
 // Which tests of a log may answer a query again.
 ghost use Rattle.std.specs.Prelude.{◌≡◌, ◌+◌, ◌<◌, ◌≤◌, ◌↔◌, [], ◌∷◌, ◌++◌, if◌then◌else◌, IfOk, IsTrue, OnOk, OnErr};
 ghost use Rattle.std.specs.Prelude.{length, option_map, Contains};
+ghost use Rattle.lane_sieve.specs.Sets.{NumberSet};
 ghost use Rattle.shq_oracle.specs.Entries.{EndAnswers};
 ghost use Rattle.edit_session.specs.Prints.{query_print};
 ghost use Rattle.edit_session.specs.Places.{places_at, AreFiled, StaysFiled, IsFiledAt, SamePlaces, KeepsPlaces};
@@ -35,6 +36,20 @@ impl NotedPlaces {
             seen: 0,
             places: Vec::new(alloc),
         }
+    }
+
+    /// Forgets everything where the log has fewer entries than were seen: it is another log then.
+    pub(crate) fn forget_other(&mut self, log: &[Entry])
+        ensures within { self.new.seen ≤ length log.now }
+        ensures filed { (live : NumberSet)
+            → (self.old.seen ≤ length log.now → AreFiled self.old.places.items live self.old.seen log.now)
+            → AreFiled self.new.places.items live self.new.seen log.now }
+    {
+        if self.seen <= log.len() {
+            return;
+        }
+        self.seen = 0;
+        self.places.clear();
     }
 
     /// Sees all entries of the log.
