@@ -3,8 +3,6 @@
 #![tactic(auto)]
 
 #[cfg(test)]
-mod addition_tests;
-#[cfg(test)]
 mod axiom_tests;
 #[cfg(test)]
 mod checks;
@@ -19,13 +17,7 @@ mod lane_tests;
 #[cfg(test)]
 mod line_tests;
 #[cfg(test)]
-mod model_tests;
-#[cfg(test)]
 mod ontology_tests;
-#[cfg(test)]
-mod refutation_tests;
-#[cfg(test)]
-mod small_ontologies;
 #[cfg(test)]
 mod stream_tests;
 #[cfg(test)]

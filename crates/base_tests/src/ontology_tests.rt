@@ -2,7 +2,6 @@
 ghost use Rattle.std.specs.Prelude.{◌≡◌, ◌<◌, ◌≤◌, [], length};
 
 use crate::checks::check;
-use crate::document_tests::put_digits;
 use shq_terms::{
     AddFault, Axiom, Concept, ConceptList, MAX_ROLES, NoMemory, Node, NumberList, Ontology,
 };
@@ -58,9 +57,7 @@ fn is_role_as(ontology: &mut Ontology, iri: &str, number: u32) -> Result<bool, A
 }
 
 fn role_iri(alloc: Global, number: u32) -> Result<String, AllocError> {
-    let mut iri = String::from_str(alloc, "r")?;
-    put_digits(alloc, &mut iri, number)?;
-    Ok(iri)
+    format!(in alloc; "r{number}")
 }
 
 fn is_role(alloc: Global, ontology: &mut Ontology, number: u32) -> Result<bool, AddFault> {

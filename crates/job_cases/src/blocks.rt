@@ -18,6 +18,8 @@ pub(crate) enum Show<'a> {
     First(&'a str),
     /// How many steps it took.
     Steps,
+    /// How many tests it took.
+    Tests,
 }
 
 /// A case, or a document that cases share.
@@ -91,6 +93,7 @@ impl<'a> Block<'a> {
             Key::Count => self.show(Show::Count(rest), is_word(rest)),
             Key::First => self.show(Show::First(rest), is_word(rest)),
             Key::Steps => self.show(Show::Steps, rest.is_empty()),
+            Key::Tests => self.show(Show::Tests, rest.is_empty()),
         }
     }
 

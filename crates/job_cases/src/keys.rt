@@ -27,6 +27,7 @@ pub(crate) enum Key {
     Count,
     First,
     Steps,
+    Tests,
 }
 
 const KEYS: &[(&str, Key)] = &[
@@ -54,6 +55,7 @@ const KEYS: &[(&str, Key)] = &[
     ("count", Key::Count),
     ("first", Key::First),
     ("steps", Key::Steps),
+    ("tests", Key::Tests),
 ];
 
 /// The key that this word is; `None` where it is none.

@@ -33,6 +33,7 @@
 //! | `count KIND` | print how many lines of a kind it has |
 //! | `first KIND` | print its first line of a kind |
 //! | `steps` | print how many steps it took |
+//! | `tests` | print how many tests it took, where it is no job that lists reasons or repairs |
 //!
 //! The kinds of `each` are `budget` (the words `budget` and the number stand behind the others), `cut` (of the input
 //! there are so many bytes alone), `keep` (of the certificate so many lines), `drop` (it lacks the line of this

@@ -38,7 +38,7 @@ pub(crate) fn put_shows(
 ) -> Result<(), NoMemory> {
     for show in shows {
         line.push_str("; ")?;
-        put_show(alloc, line, *show, text_of(answer.text()), answer.spent)?;
+        put_show(alloc, line, *show, text_of(answer.text()), answer)?;
     }
     Ok(())
 }
@@ -48,13 +48,14 @@ fn put_show(
     line: &mut String,
     show: Show<'_>,
     text: &str,
-    steps: u64,
+    answer: &Answer,
 ) -> Result<(), NoMemory> {
     match show {
         Show::Find(kinds) => put_kinds(line, text, kinds),
         Show::Count(kind) => put_number(alloc, line, kind, count_of(text, kind) as u64),
         Show::First(kind) => put_first(line, text, kind),
-        Show::Steps => put_number(alloc, line, "steps", steps),
+        Show::Steps => put_number(alloc, line, "steps", answer.spent),
+        Show::Tests => put_number(alloc, line, "tests", answer.entries as u64),
     }
 }
 

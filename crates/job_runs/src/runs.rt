@@ -15,8 +15,18 @@ pub struct Answer {
     pub status: Status,
     /// What was written.
     pub written: Vec<u8>,
+    /// How many entries its log has, which are tests for all jobs but those that pinpoint.
+    pub entries: usize,
     /// How many steps its tests took.
     pub spent: u64,
+}
+
+// How a run ended, and what its log says.
+#[derive(Clone, Copy)]
+struct Ended {
+    status: Status,
+    entries: usize,
+    spent: u64,
 }
 
 impl Answer {
@@ -104,9 +114,9 @@ fn answer_surely(
     source: &mut SureSource,
 ) -> Result<Answer, NoMemory> {
     let mut sink = SureSink::with_room(alloc, ROOM)?;
-    let (status, spent) = run_between(alloc, words, source, &mut sink);
+    let ended = run_between(alloc, words, source, &mut sink);
     match sink.taken() {
-        Some(text) => make_answer(alloc, status, text, spent),
+        Some(text) => make_answer(alloc, ended, text),
         None => Err(NoMemory),
     }
 }
@@ -143,8 +153,8 @@ fn answer_in_steps(
     failing: Failing,
 ) -> Result<Answer, NoMemory> {
     let mut sink = MemSink::new(alloc, ROOM, 4, &[failing.write()])?;
-    let (status, spent) = run_between(alloc, words, source, &mut sink);
-    make_answer(alloc, status, sink.taken(), spent)
+    let ended = run_between(alloc, words, source, &mut sink);
+    make_answer(alloc, ended, sink.taken())
 }
 
 // The words as the program keeps them.
@@ -156,22 +166,27 @@ fn owned(alloc: Global, words: &[&str]) -> Result<Vec<String>, NoMemory> {
     Ok(own)
 }
 
-// How a run ends, and how many steps its tests took.
+// How a run ends, and what its log says then.
 fn run_between<S: Source, K: Sink>(
     alloc: Global,
     words: &[String],
     source: &mut S,
     sink: &mut K,
-) -> (Status, u64) {
+) -> Ended {
     let mut log = RunLog::new(alloc);
     let status = run(alloc, words, source, sink, &mut log);
-    (status, log.spent())
+    Ended {
+        status,
+        entries: log.entries().len(),
+        spent: log.spent(),
+    }
 }
 
-fn make_answer(alloc: Global, status: Status, text: &[u8], spent: u64) -> Result<Answer, NoMemory> {
+fn make_answer(alloc: Global, ended: Ended, text: &[u8]) -> Result<Answer, NoMemory> {
     Ok(Answer {
-        status,
+        status: ended.status,
         written: text.to_vec(alloc)?,
-        spent,
+        entries: ended.entries,
+        spent: ended.spent,
     })
 }

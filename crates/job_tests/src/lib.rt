@@ -1,5 +1,5 @@
-//! Tests of the jobs that no text can say: what is told with each budget from one step on, how many tests a session
-//! takes, audits, and calls below the jobs. What can be said by text stands in `job_cases`.
+//! Tests of calls below the jobs: of audits, sessions and realizations, of lists of reasons and repairs over objects of
+//! different kinds, and of refutations over sets of axioms. What can be said by text stands in `job_cases`.
 #![tactic(auto)]
 
 #[cfg(test)]
@@ -7,19 +7,13 @@ mod asker_tests;
 #[cfg(test)]
 mod audit_tests;
 #[cfg(test)]
-mod budget_tests;
-#[cfg(test)]
 mod reading;
 #[cfg(test)]
 mod realization_tests;
 #[cfg(test)]
-mod reason_tests;
-#[cfg(test)]
 mod refuting_tests;
 #[cfg(test)]
 mod session_calls;
-#[cfg(test)]
-mod session_tests;
 #[cfg(test)]
 mod set_tests;
 #[cfg(test)]

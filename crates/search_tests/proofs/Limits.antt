@@ -2,14 +2,9 @@
 use Rattle.std.proofs.Common.{◌≡◌, ℕ, ◌≤◌, List, [], ◌∷◌, ◌++◌, length, subst, sym}
 use Rattle.std.specs.Prelude.{IsTrue}
 use Rattle.std.proofs.lemmas.List.Elements.{All-push}
-use Rattle.axiom_sets.specs.Sets.{Limited, IsWithin}
 use Rattle.shq_terms.specs.declared.axioms.Numbered.{Numbered}
 use Rattle.shq_nnf.specs.Parts.{axiom_parts, axiom_has_counts_within}
 use Rattle.row_cache.specs.Rows.{AreInLimit}
-
--- a set whose greatest number is the count of axioms has numbers of axioms
-pub within_count : (s : Limited) (n : ℕ) → IsWithin s.limit s.members → n ≡ s.limit → IsWithin n s.members
-within_count s n within e = subst (λ (m : ℕ). IsWithin m s.members) (sym e) within
 
 -- one axiom more
 pub one_more : (axioms more : List Numbered) (n : Numbered) → AreInLimit axioms

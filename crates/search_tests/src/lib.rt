@@ -17,8 +17,6 @@ mod finder_tests;
 #[cfg(test)]
 mod following;
 #[cfg(test)]
-mod individual_tests;
-#[cfg(test)]
 mod model_tests;
 #[cfg(test)]
 mod normal_form_tests;
@@ -30,12 +28,6 @@ mod random_tests;
 mod role_tests;
 #[cfg(test)]
 mod room_tests;
-#[cfg(test)]
-mod row_tests;
-#[cfg(test)]
-mod rule_lines;
-#[cfg(test)]
-mod rule_tests;
 #[cfg(test)]
 mod small_axioms;
 #[cfg(test)]

@@ -26,16 +26,6 @@ pub(crate) fn successor_in(alloc: Global, role: u32, number: u32) -> Result<Conc
     })
 }
 
-/// Classes 0 and 1.
-pub(crate) fn two_classes(alloc: Global) -> Result<Vec<Concept>, NoMemory>
-    ensures { IfOk result (λ v. v.items ≡ name 0 ∷ name 1 ∷ []) }
-{
-    let mut classes = Vec::new(alloc);
-    classes.push(class(0))?;
-    classes.push(class(1))?;
-    Ok(classes)
-}
-
 /// Classes 0 to 2.
 pub(crate) fn three_classes(alloc: Global) -> Result<ConceptList, NoMemory>
     ensures { IfOk result (λ l. l ≡ name 0 ∷ name 1 ∷ name 2 ∷ []) }

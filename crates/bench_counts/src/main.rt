@@ -1,7 +1,5 @@
-//! Times parts of the program, and says how much a job asks.
+//! Says in counts what a search does, and what a job asks.
 //!
-//! The first word says what: `sets`, how many times as fast as plain loops the kernels over sets are; `pinpointing`,
-//! nodes, questions and time of the hitting-set tree; `tree`, how fast facts are put, asked for, joined and undone.
 //! Given `search`, an axiom and a number, it reads a document from standard input, and prints what the search whether
 //! the axiom, a `SubClassOf` or a `ClassAssertion`, follows does within so many steps, without the reader and the
 //! checks around it, and how long it takes. Given `log` and the words of a job, it does the job on standard input, as
@@ -10,14 +8,9 @@
 //! every theorem.
 #![tactic(auto)]
 
-mod families;
 mod job_log;
 mod measuring;
-mod pinpointing;
-mod plain_loops;
 mod printing;
-mod sets;
-mod tree;
 
 use job_log::count_job;
 use measuring::report;
@@ -27,43 +20,8 @@ use std::alloc::Global;
 use std::rt::Clock;
 use std::{env, io};
 
-/// What is timed.
-#[derive(Clone, Copy)]
-enum Part {
-    Sets,
-    Pinpointing,
-    Tree,
-}
-
-/// The word of each part.
-const PARTS: &[(&str, Part)] = &[
-    ("sets", Part::Sets),
-    ("pinpointing", Part::Pinpointing),
-    ("tree", Part::Tree),
-];
-
 fn out_of_memory() -> io::Error {
     io::Error::from(io::ErrorKind::OutOfMemory)
-}
-
-/// The part that a word asks for.
-fn part_of(wanted: &str) -> Option<Part> {
-    for (word, part) in PARTS {
-        if wanted == *word {
-            return Some(*part);
-        }
-    }
-    None
-}
-
-/// Times the part that the word asks for.
-fn time(rt: &(impl Print + Clock), alloc: Global, word: &str) -> io::Result<()> {
-    match part_of(word) {
-        Some(Part::Sets) => sets::run(rt, alloc),
-        Some(Part::Pinpointing) => pinpointing::run(rt, alloc),
-        Some(Part::Tree) => tree::run(rt, alloc),
-        None => tell_words(rt),
-    }
 }
 
 /// Searches whether the axiom follows from the document, within the steps that the word says.
@@ -83,7 +41,7 @@ fn search<S: Source>(
 fn tell_words(rt: &impl Print) -> io::Result<()> {
     print_text(
         rt,
-        "what is timed: sets, pinpointing, tree, search AXIOM STEPS; log and the words of a job: how much it asks\n",
+        "what is counted: search AXIOM STEPS; log and the words of a job\n",
     )
 }
 
@@ -95,7 +53,6 @@ fn act<S: Source>(
     source: &mut S,
 ) -> io::Result<()> {
     match words {
-        [_, word] => time(rt, alloc, word.as_str()),
         [_, word, axiom, steps] if word.as_str() == "search" => {
             search(rt, alloc, axiom.as_str(), steps.as_str(), source)
         }
