@@ -1,7 +1,8 @@
 -- A query is decided by what the log tells, or by a test.
-use Rattle.std.proofs.Common.{◌≡◌, ℕ, ◌≤◌, Bool, true, false, List, [], ◌∷◌, ◌++◌, length, refl, ap, sym, subst}
+use Rattle.std.proofs.Common.{◌≡◌, ℕ, ◌<◌, ◌≤◌, Bool, true, false, List, [], ◌∷◌, ◌++◌, length, refl, ap, sym, subst}
 use Rattle.std.proofs.Common.{◌∙◌, inl, inr, arith, length-append}
 use Rattle.std.specs.Prelude.{Option, Some, None, Result, Ok, Err, IfOk, OnErr, Contains}
+use Rattle.std.proofs.lemmas.Bool.{cases_lt}
 use Rattle.std.proofs.lemmas.List.{append-nil}
 use Rattle.std.proofs.lemmas.List.Elements.{Contains-push}
 use Rattle.lane_sieve.specs.Sets.{NumberSet, IsPart}
@@ -138,17 +139,25 @@ module _ (s : Limited) (log entries : List Entry) (same : entries ≡ log) where
 
 -- what is known of the log, once what was seen of another one is forgotten
 pub noted_known : (live : NumberSet) (log entries : List Entry) → entries ≡ log → (old new : NotedPlaces)
-    → new.seen ≤ length entries
-    → ((m : NumberSet) → (old.seen ≤ length entries → AreFiled old.places.items m old.seen entries)
-    → AreFiled new.places.items m new.seen entries)
+    → new.seen ≤ length entries → (old.seen ≤ length entries → new ≡ old)
+    → (length entries < old.seen → new.seen ≡ 0)
     → MayBeNotedOf (plain_noted old) live log → IsNotedOf (plain_noted new) live log
-noted_known live log entries same old new within files may =
-    subst (IsNotedOf (plain_noted new) live) same (record {
-      within = within;
-      filed =
-          files live (λ le. subst (AreFiled old.places.items live old.seen) (sym same)
-          (may.filed (subst (λ (es : List Entry). old.seen ≤ length es) same le)));
-    })
+noted_known live log entries same old new within kept forgotten may =
+    subst (IsNotedOf (plain_noted new) live) same (elim (cases_lt (length entries) old.seen) [
+      | inl fewer ↦
+          record {
+            within = within;
+            filed = λ place s q steps e lt at. absurd (omega (arith, forgotten fewer, lt));
+          }
+      | inr enough ↦
+          record {
+            within = within;
+            filed =
+                subst (λ (n : NotedPlaces). AreFiled n.places.items live n.seen entries) (sym (kept enough))
+                (subst (AreFiled old.places.items live old.seen) (sym same)
+                (may.filed (subst (λ (es : List Entry). old.seen ≤ length es) same enough)));
+          }
+    ])
 
 -- of a log of which something is known it may be
 pub noted_may : (n : Noted) (live : NumberSet) (log : List Entry) → IsNotedOf n live log → MayBeNotedOf n live log

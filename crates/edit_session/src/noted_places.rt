@@ -1,7 +1,6 @@
 // Which tests of a log may answer a query again.
 ghost use Rattle.std.specs.Prelude.{◌≡◌, ◌+◌, ◌<◌, ◌≤◌, ◌↔◌, [], ◌∷◌, ◌++◌, if◌then◌else◌, IfOk, IsTrue, OnOk, OnErr};
 ghost use Rattle.std.specs.Prelude.{length, option_map, Contains};
-ghost use Rattle.lane_sieve.specs.Sets.{NumberSet};
 ghost use Rattle.shq_oracle.specs.Entries.{EndAnswers};
 ghost use Rattle.edit_session.specs.Prints.{query_print};
 ghost use Rattle.edit_session.specs.Places.{places_at, AreFiled, StaysFiled, IsFiledAt, SamePlaces, KeepsPlaces};
@@ -41,9 +40,8 @@ impl NotedPlaces {
     /// Forgets everything where the log has fewer entries than were seen: it is another log then.
     pub(crate) fn forget_other(&mut self, log: &[Entry])
         ensures within { self.new.seen ≤ length log.now }
-        ensures filed { (live : NumberSet)
-            → (self.old.seen ≤ length log.now → AreFiled self.old.places.items live self.old.seen log.now)
-            → AreFiled self.new.places.items live self.new.seen log.now }
+        ensures kept { self.old.seen ≤ length log.now → self.new ≡ self.old }
+        ensures forgotten { length log.now < self.old.seen → self.new.seen ≡ 0 }
     {
         if self.seen <= log.len() {
             return;
