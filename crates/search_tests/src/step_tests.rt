@@ -85,11 +85,11 @@ const CASES: &[(&[u8], &str, Ending)] = &[
         "SubClassOf(<A> ObjectSomeValuesFrom(<r> ObjectIntersectionOf(<B> <C>)))",
         Ending::Closed,
     ),
-    // A choice between a filler and its complement.
+    // Choices between a filler and its complement.
     (
-        b"Ontology(SubClassOf(<A> ObjectMaxCardinality(0 <r> <C>)))",
-        "SubClassOf(<A> ObjectAllValuesFrom(<r> ObjectComplementOf(<C>)))",
-        Ending::Closed,
+        b"Ontology(SubClassOf(<A> ObjectMinCardinality(2 <r> <B>)) SubClassOf(<A> ObjectMaxCardinality(1 <r> <C>)))",
+        "SubClassOf(<A> <B>)",
+        Ending::Saturated,
     ),
     // Facts that are given, of each kind.
     (
