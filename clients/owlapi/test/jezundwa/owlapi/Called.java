@@ -1,5 +1,7 @@
 package jezundwa.owlapi;
 
+import static org.junit.Assume.assumeTrue;
+
 import java.util.ArrayList;
 import java.util.List;
 import org.semanticweb.owlapi.model.OWLAxiom;
@@ -35,6 +37,11 @@ final class Called {
             }
             return entailed;
         });
+    }
+
+    /** For tests of many calls, which are left to the long form. */
+    static void requireLongForm() {
+        assumeTrue("only the long form tries it: clients/test --long", Boolean.getBoolean("jezundwa.long"));
     }
 
     /** How many random ontologies a test takes: few in the gate. */
