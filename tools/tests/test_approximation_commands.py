@@ -109,7 +109,7 @@ class Commands(unittest.TestCase):
     def test_approximate_writes_the_translation(self):
         output, said, status = shq("approximate", data=PENGUINS.encode("utf-8"))
         self.assertEqual((output, status), (approximation(PENGUINS.encode("utf-8")).data.decode("utf-8"), 0))
-        self.assertIn("translated: of 5 axioms 2 stay, 3 become others, and 0 are left out", said)
+        self.assertIn("translated: of 5 axioms, 2 as they are, 3 by others, 0 left out", said)
         self.assertIn("classes of individuals", said)
         self.assertIn('"not entailed", "consistent"', said)
 
@@ -177,7 +177,7 @@ class Reading(unittest.TestCase):
 
     def test_what_is_lost_stands_at_the_top(self):
         lines = self.reading("consistent\nnothing\nthing\n")
-        self.assertEqual(lines[0], "translated: of 5 axioms 2 stay, 3 become others, and 0 are left out")
+        self.assertEqual(lines[0], "translated: of 5 axioms, 2 as they are, 3 by others, 0 left out")
         self.assertTrue(any(it.startswith("  inverse roles") for it in lines))
         self.assertIn("This holds of the translation alone: the whole file may say more.", lines)
 

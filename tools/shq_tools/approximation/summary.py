@@ -19,7 +19,7 @@ def axiom_counts(found):
 def head_line(found):
     stay, become, left_out = axiom_counts(found)
     axioms = counted(len(found.sources), "axiom")
-    return f"translated: of {axioms} {stay:,} stay, {become:,} become others, and {left_out:,} are left out"
+    return f"translated: of {axioms}, {stay:,} as they are, {become:,} by others, {left_out:,} left out"
 
 
 def loss_rows(losses):
