@@ -89,7 +89,7 @@ class Translations(unittest.TestCase):
                 # the axioms are those of the file, with its labels
                 self.assertIn("Sicilian SubClassOf from value 'fair Italy'", text)
                 self.assertIn("Sicilian SubClassOf not (from value 'fair Italy')", text)
-                self.assertIn("4 become others, and 1 are left out", text)
+                self.assertIn("4 by others, 1 left out", text)
                 self.assertNotIn("This holds of the translation alone", text)
 
     def test_what_does_not_follow_is_said_to_hold_of_the_translation_alone(self):
