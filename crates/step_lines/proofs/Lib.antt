@@ -6,3 +6,4 @@ pub mod Branching
 pub mod Many
 pub mod Apart
 pub mod GivenLines
+pub mod First

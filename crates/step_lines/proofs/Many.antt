@@ -26,9 +26,8 @@ use Rattle.search_trace.specs.Trail.{MarkedFact, trail_within}
 use Rattle.search_trace.specs.Grounded.{AreGrounded}
 use Rattle.search_trace.proofs.ByShape.{rules_by_shape}
 use Rattle.step_finders.specs.Choosing.{IsRoleTo}
-use Rattle.step_finders.specs.Filled.{AreFilled}
 use Rattle.step_finders.proofs.Edges.{any_at}
-use Rattle.step_finders.proofs.Members.{same_members, same_length, pair_apart, apart_from_pairs}
+use Rattle.step_finders.proofs.Members.{member_filled}
 use Rattle.step_lines.specs.Grounds.{IsFilledEnd, AreMany, IsLink, AreLinks, link_facts, apart_facts}
 use Rattle.step_lines.specs.Kinds.{ServesClash}
 use Rattle.step_lines.proofs.ConceptLines.{one_numbered, one_of_kind}
@@ -51,29 +50,26 @@ apart_take fs (suc n) (y ∷ ys) h =
     (apart_take fs n ys t.1)
 
 module _ (w : SearchContext) (fs : List (Fact ℕ)) (x c n s e : ℕ)
-    (o : IsOverrun w.first (below_of w) w.table fs x c n s e) (ys : List ℕ)
-    (is : AreFilled (below_of w) fs x s e ys) where
-  filled_ends : All (IsFilledEnd w fs x s e) ys
+    (o : IsOverrun w.first (below_of w) w.table fs x c n s e) where
+  abbrev counted : List ℕ
+  counted = filled_successors w.first (below_of w) fs x s e
+
+  filled_ends : All (IsFilledEnd w fs x s e) counted
   filled_ends k d lt =
-      let y = get_or ys k d in
+      let y = get_or counted k d in
       let t =
       and_parts (is_successor fs (λ r. below_of w r s) x y) (has fs y e)
-      (sym (is.members y) ∙ any_at (eqb y) ys k d lt (eq-eqb y y refl)) in
+      (sym (member_filled w.first (below_of w) fs x s e y) ∙ any_at (eqb y) counted k d lt (eq-eqb y y refl)) in
       record { next = t.0; holds = t.1 }
 
-  filled_apart : all_apart fs ys ≡ true
-  filled_apart =
-      apart_from_pairs fs ys is.distinct
-      (λ a b ma mb ne. pair_apart fs (filled_successors w.first (below_of w) fs x s e) a b o.every
-      (sym (same_members w.first (below_of w) fs x s e ys is a) ∙ ma)
-      (sym (same_members w.first (below_of w) fs x s e ys is b) ∙ mb) ne)
-
-  pub too_many : (zs : List ℕ) → zs ≡ take (n + 1) ys → AreMany w fs x n s e zs
-  too_many zs at =
+  pub too_many : (ys : List ℕ) → ys ≡ take (n + 1) (filled_successors w.first (below_of w) fs x s e)
+      → AreMany w fs x n s e ys
+  too_many ys at =
       subst (AreMany w fs x n s e) (sym at) (record {
-        count = length-take-le (n + 1) ys (omega (arith, o.more, same_length w.first (below_of w) fs x s e ys is));
-        each = All-take (IsFilledEnd w fs x s e) (n + 1) ys filled_ends;
-        apart = apart_take fs (n + 1) ys filled_apart;
+        first = refl;
+        count = length-take-le (n + 1) counted (omega (arith, o.more));
+        each = All-take (IsFilledEnd w fs x s e) (n + 1) counted filled_ends;
+        apart = apart_take fs (n + 1) counted o.every;
       })
 
 -- ---- links

@@ -1,10 +1,11 @@
 -- Facts by which a node is known, and facts of the successors that are too many.
-use Rattle.std.specs.Prelude.{◌≡◌, ℕ, ◌+◌, ◌==◌, true, List, [], ◌∷◌, ◌++◌, map, length, All}
+use Rattle.std.specs.Prelude.{◌≡◌, ℕ, ◌+◌, ◌==◌, true, List, [], ◌∷◌, ◌++◌, map, take, length, All}
 use Rattle.std.specs.List.{list_all}
 use Rattle.lane_sieve.specs.Sets.{NumberSet}
 use Rattle.calculus_specs.specs.declared.facts.Fact.{Fact}
 use Rattle.calculus_specs.specs.declared.facts.Fact.TheVariants.{Has, Edge, Apart}
 use Rattle.calculus_specs.specs.State.{has, is_so, is_successor, all_apart}
+use Rattle.tableau_specs.specs.Clash.{filled_successors}
 use Rattle.tableau_specs.specs.Steps.{SearchContext, below_of}
 use Rattle.search_trace.specs.Grounded.{is_known_within, AreGrounded}
 use Rattle.search_trace.specs.Trail.{MarkedFact}
@@ -26,8 +27,9 @@ pub record IsFilledEnd (w : SearchContext) (fs : List (Fact ℕ)) (x s e y : ℕ
   pub next : is_successor fs (λ r. below_of w r s) x y ≡ true
   pub holds : has fs y e ≡ true
 
--- one more than n such successors, pairwise apart
+-- the first such successors, one more than n, pairwise apart
 pub record AreMany (w : SearchContext) (fs : List (Fact ℕ)) (x n s e : ℕ) (ys : List ℕ) : Type 0 where
+  pub first : ys ≡ take (n + 1) (filled_successors w.first (below_of w) fs x s e)
   pub count : length ys ≡ n + 1
   pub each : All (IsFilledEnd w fs x s e) ys
   pub apart : all_apart fs ys ≡ true

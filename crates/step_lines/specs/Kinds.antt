@@ -1,18 +1,21 @@
 -- What the lines of each kind of step serve.
-use Rattle.std.specs.Prelude.{◌≡◌, ℕ, ◌+◌, true, List, [], ◌∷◌, length, Some, slice_get}
+use Rattle.std.specs.Prelude.{◌≡◌, ℕ, ◌+◌, true, List, [], ◌∷◌, length, take, Some, slice_get}
 use Rattle.calculus_specs.specs.Shape.{Shape, shape_of}
-use Rattle.calculus_specs.specs.Shape.Shape.{union, at_least}
+use Rattle.calculus_specs.specs.Shape.Shape.{union, at_least, at_most}
 use Rattle.calculus_specs.specs.declared.facts.Fact.{Fact}
 use Rattle.calculus_specs.specs.declared.facts.Fact.TheVariants.{Has}
 use Rattle.calculus_specs.specs.State.{node_count_from, fresh_facts}
 use Rattle.calculus_specs.specs.Line.{Line}
-use Rattle.calculus_specs.specs.Line.Line.{some_line, least_line}
-use Rattle.tableau_specs.specs.Steps.{SearchContext, IsAlternative}
+use Rattle.calculus_specs.specs.Line.Line.{some_line, least_line, bottom_line, clash_line, most_line, differ_line}
+use Rattle.tableau_specs.specs.Clash.{filled_successors}
+use Rattle.tableau_specs.specs.Steps.{SearchContext, below_of, IsAlternative}
 use Rattle.tableau_specs.specs.declared.Branch.{Branch}
 use Rattle.tableau_specs.specs.declared.Branch.TheVariants.{Or, Choose, Pair}
 use Rattle.search_trace.specs.Premises.{Added, is_single, is_branching, is_clash}
 use Rattle.search_trace.specs.Trail.{Puts}
 use Rattle.search_trace.specs.Grounded.{named}
+use Rattle.step_finders.specs.declared.clash.Clash.{Clash}
+use Rattle.step_finders.specs.declared.clash.Clash.TheVariants.{Bottom, Both, Most, Differ}
 use Rattle.step_finders.specs.declared.make.NewNodes.{NewNodes}
 use Rattle.step_finders.specs.declared.state.Given.{Given}
 use Rattle.step_lines.specs.Serving.{Serves, branch_nodes}
@@ -68,6 +71,19 @@ module _ (w : SearchContext) (fs : List (Fact ℕ)) where
     pub count : length children ≡ alternative_count w.table b
     pub alternatives : (k : ℕ) (f : Fact ℕ) → IsAlternative w.table b (k + 1) f → IsChild children k f
     pub branching : is_branching line ≡ true
+
+  -- the line of an 'at most' of this shape names the first successors that it counts, one more than it allows
+  abbrev pub NamesFirst : Shape → ℕ → ℕ → Line → Type 0
+  NamesFirst (at_most n s e) x c line =
+      line ≡ most_line x c (take (n + 1) (filled_successors w.first (below_of w) fs x s e))
+  NamesFirst _ x c line = Unit {0}
+
+  -- the line is that of the clash
+  abbrev pub IsLineOf : Clash → Line → Type 0
+  IsLineOf (Bottom x c) line = line ≡ bottom_line x
+  IsLineOf (Both x c d) line = line ≡ clash_line x c
+  IsLineOf (Most x c) line = NamesFirst (shape_of w.table c) x c line
+  IsLineOf (Differ y z) line = line ≡ differ_line y z
 
   -- the line closes its branch
   pub record ServesClash (line : Line) (grounds : List (Fact ℕ)) : Type 0 where

@@ -1,8 +1,9 @@
 // The line of a clash.
 ghost use Rattle.std.specs.Prelude.{◌≡◌, IfOk};
+ghost use Rattle.calculus_specs.specs.Line.Line.{bottom_line, clash_line, differ_line};
 ghost use Rattle.search_trace.specs.RuleLine.{line_of};
 ghost use Rattle.step_finders.specs.Clashing.{IsShown, HasBottom, HasBoth, HasDiffer};
-ghost use Rattle.step_lines.specs.Kinds.{ServesClash};
+ghost use Rattle.step_lines.specs.Kinds.{ServesClash, IsLineOf};
 
 use crate::grounded::{one_ground, two_grounds};
 use crate::most::line_of_most;
@@ -21,8 +22,9 @@ fn line_of_bottom<S: State, R: Rules>(
     concept: u32,
 ) -> Result<GroundedLine, NoMemory>
     requires { HasBottom (R.context rules.now) (S.facts state.now) node concept }
-    ensures { IfOk result
+    ensures serves { IfOk result
         (λ g. ServesClash (R.context rules.now) (S.facts state.now) (line_of g.line) g.grounds.items) }
+    ensures line { IfOk result (λ g. line_of g.line ≡ bottom_line node) }
 {
     rules.is_ready();
     let grounds = one_ground(alloc, Fact::Has(node, concept))?;
@@ -42,8 +44,9 @@ fn line_of_both<S: State, R: Rules>(
     complement: u32,
 ) -> Result<GroundedLine, NoMemory>
     requires { HasBoth (R.context rules.now) (S.facts state.now) node class complement }
-    ensures { IfOk result
+    ensures serves { IfOk result
         (λ g. ServesClash (R.context rules.now) (S.facts state.now) (line_of g.line) g.grounds.items) }
+    ensures line { IfOk result (λ g. line_of g.line ≡ clash_line node class) }
 {
     rules.is_ready();
     let grounds = two_grounds(alloc, Fact::Has(node, class), Fact::Has(node, complement))?;
@@ -62,8 +65,9 @@ fn line_of_differ<S: State, R: Rules>(
     second: u32,
 ) -> Result<GroundedLine, NoMemory>
     requires { HasDiffer (R.context rules.now) (S.facts state.now) first second }
-    ensures { IfOk result
+    ensures serves { IfOk result
         (λ g. ServesClash (R.context rules.now) (S.facts state.now) (line_of g.line) g.grounds.items) }
+    ensures line { IfOk result (λ g. line_of g.line ≡ differ_line first second) }
 {
     rules.is_ready();
     let grounds = two_grounds(alloc, Fact::Apart(first, second), Fact::Same(first, second))?;
@@ -73,7 +77,7 @@ fn line_of_differ<S: State, R: Rules>(
     })
 }
 
-/// The line that a clash is, and the facts that it rests on.
+/// The line that a clash is, and the facts that it rests on. That of too many successors names the first of them.
 ///
 /// # Errors
 ///
@@ -85,8 +89,10 @@ pub fn line_of_clash<S: State, R: Rules>(
     clash: &Clash,
 ) -> Result<GroundedLine, NoMemory>
     requires { IsShown (R.context rules.now) (S.facts state.now) clash.now }
-    ensures { IfOk result
+    ensures serves { IfOk result
         (λ g. ServesClash (R.context rules.now) (S.facts state.now) (line_of g.line) g.grounds.items) }
+    ensures line { IfOk result
+        (λ g. IsLineOf (R.context rules.now) (S.facts state.now) clash.now (line_of g.line)) }
 {
     match clash {
         Clash::Bottom { node, concept } => line_of_bottom(alloc, state, rules, *node, *concept),

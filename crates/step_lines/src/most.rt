@@ -1,14 +1,20 @@
 // The line of too many successors.
-ghost use Rattle.std.specs.Prelude.{◌≡◌, ◌∷◌, ◌<◌, ◌++◌, true, map, All, IfOk, OnOk};
+ghost use Rattle.std.specs.Prelude.{◌≡◌, ℕ, ◌∷◌, ◌+◌, ◌<◌, ◌==◌, ◌&&◌, ◌||◌, ◌++◌, nat_le, Bool, true, map, take, All};
+ghost use Rattle.std.specs.Prelude.{IfOk, OnOk};
+ghost use Rattle.std.specs.List.{list_any};
 ghost use Rattle.calculus_specs.specs.declared.facts.Fact.TheVariants.{Has as has_fact, Apart as apart_fact};
+ghost use Rattle.calculus_specs.specs.Shape.{shape_of};
 ghost use Rattle.calculus_specs.specs.State.{node_count_from, is_successor};
+ghost use Rattle.calculus_specs.specs.Line.Line.{most_line};
 ghost use Rattle.search_trace.specs.RuleLine.{line_of};
+ghost use Rattle.tableau_specs.specs.Clash.{filled_successors as all_filled};
 ghost use Rattle.tableau_specs.specs.Steps.{below_of};
 ghost use Rattle.tableau_specs.specs.Near.{IsOverrun};
 ghost use Rattle.step_finders.specs.Choosing.{IsRoleTo};
 ghost use Rattle.step_finders.specs.Clashing.{HasMost};
+ghost use Rattle.step_finders.specs.Filled.{IsLeast};
 ghost use Rattle.step_lines.specs.Grounds.{IsFilledEnd, AreMany, AreLinks, link_facts, apart_facts};
-ghost use Rattle.step_lines.specs.Kinds.{ServesClash};
+ghost use Rattle.step_lines.specs.Kinds.{ServesClash, NamesFirst};
 
 use crate::grounded::list_of;
 use crate::{GroundedLine, NoMemory};
@@ -17,7 +23,58 @@ use search_trace::Line;
 use std::alloc::Global;
 use step_finders::{Rules, Shape, State, filled_successors, role_to};
 
-// As many successors as are one too many, with the filler and pairwise apart.
+// The less of two numbers, of which the second counts where it is not below `from`.
+fn lesser(least: Option<u32>, from: usize, number: u32) -> Option<u32>
+    ensures { (p : ℕ → Bool) → IsLeast p least → IsLeast (λ z. p z || (nat_le from z && z == number)) result }
+{
+    if (number as usize) < from {
+        return least;
+    }
+    match least {
+        Some(other) if other < number => least,
+        Some(_) | None => Some(number),
+    }
+}
+
+// The least of the numbers that are not below `from`.
+fn least_from(numbers: &[u32], from: usize) -> Option<u32>
+    ensures { IsLeast (λ z. list_any (λ y. z == y) numbers.now && nat_le from z) result }
+{
+    let mut least = None;
+    for number in numbers {
+        least = lesser(least, from, *number);
+    }
+    least
+}
+
+// The first of the successors by roles below this one that have the filler, by their numbers: so many, or all where
+// there are no more.
+fn first_filled<S: State, R: Rules>(
+    alloc: Global,
+    state: &S,
+    rules: &R,
+    node: u32,
+    role: u32,
+    filler: u32,
+    most: usize,
+) -> Result<Vec<u32>, NoMemory>
+    ensures { let w = R.context rules.now in let fs = S.facts state.now in
+        IfOk result (λ v. v.items ≡ take most (all_filled w.first (below_of w) fs node role filler)) }
+{
+    let ends = filled_successors(alloc, state, rules, node, role, filler)?;
+    let mut first = Vec::new(alloc);
+    let mut from = 0;
+    for _place in 0..most {
+        let Some(next) = least_from(&ends, from) else {
+            return Ok(first);
+        };
+        first.push(next)?;
+        from = next as usize + 1;
+    }
+    Ok(first)
+}
+
+// The first successors with the filler, as many as are one too many. They are pairwise apart.
 fn many_ends<S: State, R: Rules>(
     alloc: Global,
     state: &S,
@@ -32,8 +89,7 @@ fn many_ends<S: State, R: Rules>(
         IsOverrun w.first (below_of w) w.table (S.facts state.now) node concept count role filler }
     ensures { IfOk result (λ v. AreMany (R.context rules.now) (S.facts state.now) node count role filler v.items) }
 {
-    let mut ends = filled_successors(alloc, state, rules, node, role, filler)?;
-    ends.truncate(count as usize + 1);
+    let ends = first_filled(alloc, state, rules, node, role, filler, count as usize + 1)?;
     Ok(ends)
 }
 
@@ -140,8 +196,9 @@ fn line_of_ends<S: State, R: Rules>(
     requires overrun { let w = R.context rules.now in
         IsOverrun w.first (below_of w) w.table (S.facts state.now) node concept count role filler }
     requires many { AreMany (R.context rules.now) (S.facts state.now) node count role filler ends.now }
-    ensures { IfOk result
+    ensures serves { IfOk result
         (λ g. ServesClash (R.context rules.now) (S.facts state.now) (line_of g.line) g.grounds.items) }
+    ensures line { IfOk result (λ g. line_of g.line ≡ most_line node concept ends.now) }
 {
     rules.is_ready();
     let links = links_to(alloc, state, rules, node, role, filler, ends)?;
@@ -167,8 +224,11 @@ fn line_of_overrun<S: State, R: Rules>(
     requires is_node { node < node_count_from (R.context rules.now).first (S.facts state.now) }
     requires overrun { let w = R.context rules.now in
         IsOverrun w.first (below_of w) w.table (S.facts state.now) node concept count role filler }
-    ensures { IfOk result
+    ensures serves { IfOk result
         (λ g. ServesClash (R.context rules.now) (S.facts state.now) (line_of g.line) g.grounds.items) }
+    ensures line { let w = R.context rules.now in IfOk result (λ g. line_of g.line
+        ≡ most_line node concept (take (count + 1)
+        (all_filled w.first (below_of w) (S.facts state.now) node role filler))) }
 {
     let ends = many_ends(alloc, state, rules, node, concept, count, role, filler)?;
     line_of_ends(
@@ -176,7 +236,7 @@ fn line_of_overrun<S: State, R: Rules>(
     )
 }
 
-/// The line of a node's 'at most' of too many successors.
+/// The line of a node's 'at most' of too many successors. It names the first of them, one more than are allowed.
 pub fn line_of_most<S: State, R: Rules>(
     alloc: Global,
     state: &S,
@@ -185,8 +245,10 @@ pub fn line_of_most<S: State, R: Rules>(
     concept: u32,
 ) -> Result<GroundedLine, NoMemory>
     requires { HasMost (R.context rules.now) (S.facts state.now) node concept }
-    ensures { IfOk result
+    ensures serves { IfOk result
         (λ g. ServesClash (R.context rules.now) (S.facts state.now) (line_of g.line) g.grounds.items) }
+    ensures line { let w = R.context rules.now in IfOk result
+        (λ g. NamesFirst w (S.facts state.now) (shape_of w.table concept) node concept (line_of g.line)) }
 {
     match rules.shape(concept) {
         Shape::Max(count, role, filler) => line_of_overrun(

@@ -5,4 +5,3 @@ pub returns : goal.returns
 returns g c =
     too_many (g.R.Rules.context c.args.rules.now) (g.S.State.facts c.args.state.now) c.args.node c.args.concept
     c.args.count c.args.role c.args.filler c.requires c.in_ok-ends.ends.items c.in_ok-ends.ensures
-    c.truncate.new.self.items c.truncate.ensures.items
