@@ -16,15 +16,17 @@ use Rattle.calculus_specs.specs.Reading.{is_fact_listed, are_listed}
 use Rattle.tableau_specs.specs.declared.Item.{Item}
 use Rattle.tableau_specs.specs.Items.{facts_of}
 use Rattle.tableau_specs.specs.Steps.{SearchContext}
-use Rattle.tableau_specs.specs.Reached.{context_of, IsReached}
+use Rattle.tableau_specs.specs.Reached.{start, context_of, IsReached}
 use Rattle.tableau_specs.proofs.Listed.{reached_listed}
 use Rattle.search_laws.specs.Closure.{IsClosure}
-use Rattle.search_laws.specs.BoundLaws.{FewStepsAtFirst, FewMarks}
+use Rattle.search_laws.specs.KeptSteps.{step_counts}
+use Rattle.search_laws.specs.BoundLaws.{mark_count, AreAtFirst, TrailsKeepSteps, FewOfEachKind, FewStepsAtFirst}
+use Rattle.search_laws.specs.BoundLaws.{FewMarks}
 use Rattle.search_laws.proofs.ClosureConcepts.{concepts_in_closure}
 use Rattle.search_laws.proofs.Numbers.{numbers_of, is_number, few_numbers}
 use Rattle.search_laws.proofs.Rising.{is_has, AreIn, had, given_most, joined_most, parted_most}
 use Rattle.search_laws.proofs.Given.{so_count, so_most, counts_so, counts_all, numbered, given_among}
-use Rattle.search_laws.proofs.Tally.{tally}
+use Rattle.search_laws.proofs.Tally.{first_most, marks_most, tally}
 use Rattle.search_laws.proofs.KeptSteps.{keeping, ones}
 
 -- what a fact of a listed trail gives is listed
@@ -59,6 +61,35 @@ split_two v c = grind arith
 split_square : (v c : ℕ) → v * (v + c + 1) ≡ v * v + v * c + v
 split_square v c = grind arith
 
+pub few_of_each_kind : FewOfEachKind
+few_of_each_kind q cs facts table rows k trail closed all_facts r ns grown =
+    let w : SearchContext = context_of q table rows in
+    let a = r.sub_number in
+    let b = r.not_sup_number in
+    let ds = numbers_of table cs in
+    let v = node_count_from q.first (facts_of trail) in
+    let ts = map (numbered table) facts in
+    let t =
+    tally w q.at a b r.at_first ds (so_count ts) (counts_so w ts (given_among table r.is_table q rows facts all_facts))
+    v ns trail grown (omega arith) (numbers_in q cs table rows k trail closed r) in
+    let raised = t.raised in
+    let g = given_most ds v (facts_of trail) in
+    let m = mul_le v (length ds) (length cs) (few_numbers table cs r.is_table) in
+    let s = so_most ts (facts_of trail) in
+    let l = length-map facts (numbered table) in
+    record {
+      adding = omega (arith, raised.adding);
+      giving = omega (arith, raised.giving);
+      making = omega (arith, raised.making);
+      joining = omega (arith, raised.joining, joined_most ds v (facts_of trail));
+      parting = omega (arith, raised.parting, parted_most ds v (facts_of trail));
+    }
+
+pub trails_keep_steps : TrailsKeepSteps
+trails_keep_steps q table rows k trail r =
+    let keep = keeping (context_of q table rows) q.at r.sub_number r.not_sup_number k trail r.follows in
+    (keep.numbers, keep.grown)
+
 pub few_steps_at_first : FewStepsAtFirst
 few_steps_at_first q cs facts table rows k trail closed all_facts r first =
     let w : SearchContext = context_of q table rows in
@@ -68,10 +99,14 @@ few_steps_at_first q cs facts table rows k trail closed all_facts r first =
     let v = node_count_from q.first (facts_of trail) in
     let keep = keeping w q.at a b k trail r.follows in
     let ts = map (numbered table) facts in
+    let counts = counts_so w ts (given_among table r.is_table q rows facts all_facts) in
     let t =
-    tally w q.at a b r.at_first ds (so_count ts) (counts_so w ts (given_among table r.is_table q rows facts all_facts))
-    v keep.numbers trail keep.grown (omega arith) (numbers_in q cs table rows k trail closed r) in
-    let some = t.at_first_steps first in
+    tally w q.at a b r.at_first ds (so_count ts) counts v keep.numbers trail keep.grown (omega arith)
+    (numbers_in q cs table rows k trail closed r) in
+    let some =
+    first_most w q.at a b r.at_first ds (so_count ts) counts v keep.numbers
+    (step_counts w (start q.at a b) keep.numbers trail keep.grown) (mark_count trail) (AreAtFirst trail)
+    (facts_of trail) t first in
     let all = keep.all_are_kept (ones w q.at a b keep.numbers trail keep.grown first) in
     let g = given_most ds v (facts_of trail) in
     let j = joined_most ds v (facts_of trail) in
@@ -92,7 +127,10 @@ few_marks q cs table rows k trail closed r =
     let t =
     tally w q.at a b r.at_first ds (λ fs. length fs) (counts_all w) v keep.numbers trail keep.grown (omega arith)
     (numbers_in q cs table rows k trail closed r) in
-    let some = t.mark_steps in
+    let some =
+    marks_most w q.at a b r.at_first ds (λ fs. length fs) (counts_all w) v keep.numbers
+    (step_counts w (start q.at a b) keep.numbers trail keep.grown) (mark_count trail) (AreAtFirst trail)
+    (facts_of trail) t in
     let g = given_most ds v (facts_of trail) in
     let j = joined_most ds v (facts_of trail) in
     let p = parted_most ds v (facts_of trail) in

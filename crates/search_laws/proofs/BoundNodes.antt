@@ -5,18 +5,16 @@ use Rattle.std.specs.List.{list_any}
 use Rattle.std.proofs.lemmas.Bool.{cases_Bool, cases_lt, leb-true, false_from_ne_true}
 use Rattle.std.proofs.lemmas.Nat.{mul-le}
 use Rattle.ontology_limits.specs.Below.{count_below}
-use Rattle.calculus_specs.specs.Shape.{Shape, shape_of}
+use Rattle.calculus_specs.specs.Shape.{shape_of}
 use Rattle.calculus_specs.specs.declared.facts.Fact.{Fact}
-use Rattle.calculus_specs.specs.declared.facts.Fact.TheVariants.{Has, Edge, Apart, Same}
 use Rattle.calculus_specs.specs.State.{node_count_from, fresh_facts}
-use Rattle.tableau_specs.specs.declared.Branch.{Branch}
-use Rattle.tableau_specs.specs.Steps.{SearchContext, IsAlternative}
-use Rattle.tableau_specs.specs.Steps.IsAlternative.{of_union, of_filler, of_complement, of_joining, of_parting}
+use Rattle.tableau_specs.specs.Steps.{SearchContext}
 use Rattle.search_laws.proofs.Counting.{count_agree, count_longer, count_no_more}
 use Rattle.search_laws.proofs.Sums.{sum_below, sum_le, sum_more, count_in, in_le, in_more, in_most}
-use Rattle.tableau_specs.proofs.GenerateLines.{count-append, count-fresh}
+use Rattle.tableau_specs.proofs.GenerateLines.{count-fresh}
 use Rattle.search_laws.proofs.Counts.{count_front}
-use Rattle.search_laws.proofs.Level.{level, level_from, level-append, fresh_old, fresh_new}
+use Rattle.search_laws.proofs.Plain.{IsPlain, plain_count}
+use Rattle.search_laws.proofs.Level.{level, plain_level, fresh_old, fresh_new}
 use Rattle.search_laws.proofs.Asked.{by_role, with_concept, is_met, met_stays, IsMaking, met_after}
 
 -- ---- longer sums
@@ -53,63 +51,30 @@ sum_passing (suc n) m p f le = elim (cases_Bool (p n)) [
     add_none : (k : ℕ) → k + 0 ≡ k
     add_none k = omega arith
 
--- ---- facts that make no node
-
-abbrev pub IsPlain : Fact ℕ → Type 0
-IsPlain (Edge r x y) = ⊥
-IsPlain (Has x c) = Unit {0}
-IsPlain (Apart x y) = Unit {0}
-IsPlain (Same x y) = Unit {0}
-
-pub plain_count : (first : ℕ) (fs : List (Fact ℕ)) (f : Fact ℕ) → IsPlain f
-    → node_count_from first (fs ++ f ∷ []) ≡ node_count_from first fs
-plain_count first fs f h = omega (arith, count-append first fs (f ∷ []), one f h, count_front first [] fs)
-  where
-    one : (f : Fact ℕ) → IsPlain f → node_count_from first (f ∷ []) ≡ first
-    one (Has x c) h = refl
-    one (Apart x y) h = refl
-    one (Same x y) h = refl
-    one (Edge r x y) h = absurd h
-
-pub plain_level : (fs : List (Fact ℕ)) (f : Fact ℕ) → IsPlain f → (v : ℕ) → level (fs ++ f ∷ []) v ≡ level fs v
-plain_level fs f h v = level-append fs (f ∷ []) v ∙ one f h
-  where
-    one : (f : Fact ℕ) → IsPlain f → level_from (level fs) (f ∷ []) v ≡ level fs v
-    one (Has x c) h = refl
-    one (Apart x y) h = refl
-    one (Same x y) h = refl
-    one (Edge r x y) h = absurd h
-
-pub alternative_plain : (table : List Shape) (b : Branch) (k : ℕ) (f : Fact ℕ) → IsAlternative table b k f → IsPlain f
-alternative_plain table b k f (of_union x c k' d parts sh read) = tt
-alternative_plain table b k f (of_filler y e) = tt
-alternative_plain table b k f (of_complement y e d neg) = tt
-alternative_plain table b k f (of_joining y z) = tt
-alternative_plain table b k f (of_parting y z) = tt
-
 -- ---- nodes by their levels
 
 module _ (w : SearchContext) (ds : List ℕ) where
   -- the nodes at most h deep
   abbrev pub deep : ℕ → List (Fact ℕ) → ℕ
-  deep h fs = count_below (node_count_from w.first fs) (λ z. leb (level fs z) h)
+  deep h fs = count_below (node_count_from w.first fs) (λ z. leb (level w.first fs z) h)
 
   -- what nodes at most h deep have asked for and got
   abbrev met_at : ℕ → List (Fact ℕ) → ℕ → ℕ
-  met_at h fs x = cond (leb (level fs x) h) (count_in ds (is_met w fs x)) 0
+  met_at h fs x = cond (leb (level w.first fs x) h) (count_in ds (is_met w fs x)) 0
 
   abbrev pub filled : ℕ → List (Fact ℕ) → ℕ
   filled h fs = sum_below (node_count_from w.first fs) (met_at h fs)
 
   pub filled_most : (h : ℕ) (fs : List (Fact ℕ)) → filled h fs ≤ deep h fs * length ds
   filled_most h fs =
-      sum_passing (node_count_from w.first fs) (length ds) (λ x. leb (level fs x) h) (λ x. count_in ds (is_met w fs x))
-      (λ x. in_most ds (is_met w fs x))
+      sum_passing (node_count_from w.first fs) (length ds) (λ x. leb (level w.first fs x) h)
+      (λ x. count_in ds (is_met w fs x)) (λ x. in_most ds (is_met w fs x))
 
-  met_at_stays : (h : ℕ) (fs gs : List (Fact ℕ)) (x : ℕ) → level (fs ++ gs) x ≡ level fs x
+  met_at_stays : (h : ℕ) (fs gs : List (Fact ℕ)) (x : ℕ) → level w.first (fs ++ gs) x ≡ level w.first fs x
       → met_at h fs x ≤ met_at h (fs ++ gs) x
   met_at_stays h fs gs x same =
-      rw same (by_test (leb (level fs x) h) (in_le ds (is_met w fs x) (is_met w (fs ++ gs) x) (met_stays w fs gs x)))
+      rw same
+      (by_test (leb (level w.first fs x) h) (in_le ds (is_met w fs x) (is_met w (fs ++ gs) x) (met_stays w fs gs x)))
     where
       by_test : {a b : ℕ} → (t : Bool) → a ≤ b → cond t a 0 ≤ cond t b 0
       by_test true le = le
@@ -117,7 +82,8 @@ module _ (w : SearchContext) (ds : List ℕ) where
 
   -- more facts fill no less
   filled_le : (h : ℕ) (fs gs : List (Fact ℕ))
-      → ((v : ℕ) → v < node_count_from w.first fs → level (fs ++ gs) v ≡ level fs v) → filled h fs ≤ filled h (fs ++ gs)
+      → ((v : ℕ) → v < node_count_from w.first fs → level w.first (fs ++ gs) v ≡ level w.first fs v)
+      → filled h fs ≤ filled h (fs ++ gs)
   filled_le h fs gs same =
       let n = node_count_from w.first fs in
       let m = node_count_from w.first (fs ++ gs) in
@@ -127,8 +93,8 @@ module _ (w : SearchContext) (ds : List ℕ) where
       omega arith
 
   filled_more : (h : ℕ) (fs gs : List (Fact ℕ)) (x c : ℕ)
-      → ((v : ℕ) → v < node_count_from w.first fs → level (fs ++ gs) v ≡ level fs v) → x < node_count_from w.first fs
-      → level fs x ≤ h → list_any (eqb c) ds ≡ true
+      → ((v : ℕ) → v < node_count_from w.first fs → level w.first (fs ++ gs) v ≡ level w.first fs v)
+      → x < node_count_from w.first fs → level w.first fs x ≤ h → list_any (eqb c) ds ≡ true
       → is_met w fs x c ≡ false → is_met w (fs ++ gs) x c ≡ true → filled h fs + 1 ≤ filled h (fs ++ gs)
   filled_more h fs gs x c same lt low at out here =
       let n = node_count_from w.first fs in
@@ -136,28 +102,30 @@ module _ (w : SearchContext) (ds : List ℕ) where
       let count = count_front w.first fs gs in
       let up = in_more ds (is_met w fs x) (is_met w (fs ++ gs) x) c at (met_stays w fs gs x) out here in
       let a : met_at h fs x ≡ count_in ds (is_met w fs x) =
-      ap (λ (b : Bool). cond b (count_in ds (is_met w fs x)) 0) (le-leb (level fs x) h low) in
+      ap (λ (b : Bool). cond b (count_in ds (is_met w fs x)) 0) (le-leb (level w.first fs x) h low) in
       let b : met_at h (fs ++ gs) x ≡ count_in ds (is_met w (fs ++ gs) x) =
       ap (λ (b : Bool). cond b (count_in ds (is_met w (fs ++ gs) x)) 0)
-      (le-leb (level (fs ++ gs) x) h (omega (arith, same x lt, low))) in
+      (le-leb (level w.first (fs ++ gs) x) h (omega (arith, same x lt, low))) in
       let first =
       sum_more n (met_at h fs) (met_at h (fs ++ gs)) x lt (λ z mt. met_at_stays h fs gs z (same z mt)) (omega arith) in
       let more = sum_longer n (m - n) m (met_at h (fs ++ gs)) (omega arith) in
       omega arith
 
-  deep_plain : (h : ℕ) (fs : List (Fact ℕ)) (f : Fact ℕ) → IsPlain f → deep h (fs ++ f ∷ []) ≡ deep h fs
+  deep_plain : (h : ℕ) (fs : List (Fact ℕ)) (f : Fact ℕ) → IsPlain w.first f → deep h (fs ++ f ∷ []) ≡ deep h fs
   deep_plain h fs f p =
-      ap (λ (n : ℕ). count_below n (λ z. leb (level (fs ++ f ∷ []) z) h)) (plain_count w.first fs f p)
-      ∙ count_agree (node_count_from w.first fs) (λ z. leb (level (fs ++ f ∷ []) z) h) (λ z. leb (level fs z) h)
-      (λ z lt. ap (λ (k : ℕ). leb k h) (plain_level fs f p z))
+      ap (λ (n : ℕ). count_below n (λ z. leb (level w.first (fs ++ f ∷ []) z) h)) (plain_count w.first fs f p)
+      ∙ count_agree (node_count_from w.first fs) (λ z. leb (level w.first (fs ++ f ∷ []) z) h)
+      (λ z. leb (level w.first fs z) h)
+      (λ z lt. ap (λ (k : ℕ). leb k h) (plain_level w.first fs f p z))
 
   deep_old : (h : ℕ) (fs : List (Fact ℕ)) (x s e n : ℕ)
       → count_below (node_count_from w.first fs)
-      (λ z. leb (level (fs ++ fresh_facts x s e (node_count_from w.first fs) n) z) h)
+      (λ z. leb (level w.first (fs ++ fresh_facts x s e (node_count_from w.first fs) n) z) h)
       ≡ deep h fs
   deep_old h fs x s e n =
       count_agree (node_count_from w.first fs)
-      (λ z. leb (level (fs ++ fresh_facts x s e (node_count_from w.first fs) n) z) h) (λ z. leb (level fs z) h)
+      (λ z. leb (level w.first (fs ++ fresh_facts x s e (node_count_from w.first fs) n) z) h)
+      (λ z. leb (level w.first fs z) h)
       (λ z lt. ap (λ (k : ℕ). leb k h) (fresh_old w.first fs x s e n z lt))
 
   -- new nodes count where the node above them is less deep
@@ -167,19 +135,19 @@ module _ (w : SearchContext) (ds : List ℕ) where
       let gs = fresh_facts x s e (node_count_from w.first fs) (suc n) in
       let longer =
       count_longer (node_count_from w.first fs) (suc n) (node_count_from w.first (fs ++ gs))
-      (λ z. leb (level (fs ++ gs) z) h) (count-fresh w.first fs x s e (suc n)) in
+      (λ z. leb (level w.first (fs ++ gs) z) h) (count-fresh w.first fs x s e (suc n)) in
       omega (arith, deep_old h fs x s e (suc n))
 
-  deep_make_none : (h : ℕ) (fs : List (Fact ℕ)) (x s e n : ℕ) → x < node_count_from w.first fs → h ≤ level fs x
+  deep_make_none : (h : ℕ) (fs : List (Fact ℕ)) (x s e n : ℕ) → x < node_count_from w.first fs → h ≤ level w.first fs x
       → deep h (fs ++ fresh_facts x s e (node_count_from w.first fs) (suc n)) ≡ deep h fs
   deep_make_none h fs x s e n lt high =
       let gs = fresh_facts x s e (node_count_from w.first fs) (suc n) in
       let count = count-fresh w.first fs x s e (suc n) in
       count_no_more (node_count_from w.first fs) (suc n) (node_count_from w.first (fs ++ gs))
-      (λ z. leb (level (fs ++ gs) z) h) count (λ y from before.
+      (λ z. leb (level w.first (fs ++ gs) z) h) count (λ y from before.
       let up = fresh_new w.first fs x s e (suc n) y lt from (omega arith) in
-      false_from_ne_true (leb (level (fs ++ gs) y) h)
-      (λ k. absurd (omega (arith, leb-true (level (fs ++ gs) y) h k, up))))
+      false_from_ne_true (leb (level w.first (fs ++ gs) y) h)
+      (λ k. absurd (omega (arith, leb-true (level w.first (fs ++ gs) y) h k, up))))
       ∙ deep_old h fs x s e (suc n)
 
   -- ---- the count
@@ -190,7 +158,8 @@ module _ (w : SearchContext) (ds : List ℕ) where
   room (suc h) fs = filled h fs
 
   room_le : (h : ℕ) (fs gs : List (Fact ℕ))
-      → ((v : ℕ) → v < node_count_from w.first fs → level (fs ++ gs) v ≡ level fs v) → room h fs ≤ room h (fs ++ gs)
+      → ((v : ℕ) → v < node_count_from w.first fs → level w.first (fs ++ gs) v ≡ level w.first fs v)
+      → room h fs ≤ room h (fs ++ gs)
   room_le zero fs gs same = omega arith
   room_le (suc h) fs gs same = filled_le h fs gs same
 
@@ -202,12 +171,14 @@ module _ (w : SearchContext) (ds : List ℕ) where
       let k = mul-le g (a + 1) g b (omega arith) le in let e : g * (a + 1) ≡ g * a + g = grind arith in omega arith
 
   abbrev pub Fits : ℕ → ℕ → List (Fact ℕ) → Type 0
-  Fits g h fs = deep h fs ≤ 1 + g * room h fs
+  Fits g h fs = deep h fs ≤ w.first + g * room h fs
 
-  pub fits_plain : (g h : ℕ) (fs : List (Fact ℕ)) (f : Fact ℕ) → IsPlain f → Fits g h fs → Fits g h (fs ++ f ∷ [])
+  pub fits_plain : (g h : ℕ) (fs : List (Fact ℕ)) (f : Fact ℕ) → IsPlain w.first f → Fits g h fs
+      → Fits g h (fs ++ f ∷ [])
   fits_plain g h fs f p k =
       let d = deep_plain h fs f p in
-      let r = times_le g (room h fs) (room h (fs ++ f ∷ [])) (room_le h fs (f ∷ []) (λ v lt. plain_level fs f p v)) in
+      let r =
+      times_le g (room h fs) (room h (fs ++ f ∷ [])) (room_le h fs (f ∷ []) (λ v lt. plain_level w.first fs f p v)) in
       omega arith
 
   pub fits_make : (g h : ℕ) (fs new : List (Fact ℕ)) (k : IsMaking w fs new) → ((s : ℕ) → w.theory.below s s ≡ true)
@@ -215,11 +186,11 @@ module _ (w : SearchContext) (ds : List ℕ) where
   fits_make g h fs new k itself few at fits =
       let s = by_role (shape_of w.table k.by) in
       let e = with_concept (shape_of w.table k.by) in
-      let same : (v : ℕ) → v < node_count_from w.first fs → level (fs ++ new) v ≡ level fs v =
-      λ v lt. ap (λ (gs : List (Fact ℕ)). level (fs ++ gs) v) k.is_new
+      let same : (v : ℕ) → v < node_count_from w.first fs → level w.first (fs ++ new) v ≡ level w.first fs v =
+      λ v lt. ap (λ (gs : List (Fact ℕ)). level w.first (fs ++ gs) v) k.is_new
       ∙ fresh_old w.first fs k.at s e (suc k.more) v lt in
       let after = met_after w fs new k itself in
-      elim (cases_lt (level fs k.at) h) [
+      elim (cases_lt (level w.first fs k.at) h) [
         | inr high ↦
             let d =
             ap (λ (gs : List (Fact ℕ)). deep h (fs ++ gs)) k.is_new
@@ -229,8 +200,8 @@ module _ (w : SearchContext) (ds : List ℕ) where
         | inl low ↦ rises h low same after fits
       ]
     where
-      rises : (h : ℕ) → level fs k.at < h
-          → ((v : ℕ) → v < node_count_from w.first fs → level (fs ++ new) v ≡ level fs v)
+      rises : (h : ℕ) → level w.first fs k.at < h
+          → ((v : ℕ) → v < node_count_from w.first fs → level w.first (fs ++ new) v ≡ level w.first fs v)
           → is_met w (fs ++ new) k.at k.by ≡ true → Fits g h fs → Fits g h (fs ++ new)
       rises zero lt same after fits' = absurd (omega arith)
       rises (suc h') lt same after fits' =

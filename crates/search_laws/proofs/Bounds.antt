@@ -25,7 +25,7 @@ use Rattle.tableau_specs.specs.declared.Branch.TheVariants.{Or, Choose, Pair}
 use Rattle.tableau_specs.specs.declared.Item.{Item}
 use Rattle.tableau_specs.specs.declared.Item.TheVariants.{Fact as Says, Mark}
 use Rattle.tableau_specs.specs.Items.{facts_of}
-use Rattle.tableau_specs.specs.Steps.{SearchContext, IsGiven, MayBranch, IsAlternative}
+use Rattle.tableau_specs.specs.Steps.{SearchContext, MayBranch, IsAlternative}
 use Rattle.tableau_specs.specs.Steps.MayBranch.{on_union, on_filler, on_pair}
 use Rattle.tableau_specs.specs.Steps.IsAlternative.{of_union, of_filler, of_complement, of_joining, of_parting}
 use Rattle.tableau_specs.specs.Reached.{start, context_of, IsReached}
@@ -33,16 +33,19 @@ use Rattle.tableau_specs.proofs.TreeShaped.{origin_is_node, origin_of_parent}
 use Rattle.tableau_specs.proofs.Listed.{listed}
 use Rattle.tableau_specs.proofs.Reached.{reached_built}
 use Rattle.search_laws.specs.Closure.{IsClosure, asked_by, choices_of, most_made, most_parts, node_bound, step_bound}
-use Rattle.search_laws.specs.BoundLaws.{HasNoFacts, HasPath, RolesAreBelowThemselves, children, PathsAreShort}
-use Rattle.search_laws.specs.BoundLaws.{FewChildren, FewNodes, FewSteps, LegalRunsAreBounded}
+use Rattle.search_laws.specs.Closure.{nodes_of, steps_of}
+use Rattle.search_laws.specs.KeptSteps.{step_counts}
+use Rattle.search_laws.specs.BoundLaws.{mark_count, AreAtFirst, HasPath, RolesAreBelowThemselves, children}
+use Rattle.search_laws.specs.BoundLaws.{PathsAreShort, FewChildren, FewNodes, FewSteps, LegalRunsAreBounded}
 use Rattle.search_laws.specs.BoundLaws.HasPath.{from_first, below}
 use Rattle.calculus_specs.proofs.Unique.{part_list-parts_of}
-use Rattle.search_laws.proofs.Grown.{IsGrown, facts_of-append}
-use Rattle.search_laws.proofs.Grown.IsGrown.{at_first, by_add, by_give, by_make, by_choice}
+use Rattle.search_laws.specs.KeptSteps.{IsGrown}
+use Rattle.search_laws.proofs.Grown.{facts_of-append}
+use Rattle.search_laws.specs.KeptSteps.IsGrown.{at_first, by_add, by_give, by_make, by_choice}
 use Rattle.search_laws.proofs.Rising.{AreIn, in_front, given_most, joined_most, parted_most}
-use Rattle.search_laws.proofs.Given.{IsGiveCount}
+use Rattle.search_laws.proofs.Given.{so_count, so_most, counts_so, numbered, given_among}
 use Rattle.search_laws.proofs.GivenFacts.{member_among, among_member, facts_of_none, fact_contained}
-use Rattle.search_laws.proofs.Tally.{tally, facts_after}
+use Rattle.search_laws.proofs.Tally.{kept_most, tally, facts_after}
 use Rattle.search_laws.proofs.KeptSteps.{keeping, one_step}
 use Rattle.search_laws.proofs.Numbers.{numbers_of, few_numbers}
 use Rattle.search_laws.proofs.Level.{levels_built}
@@ -54,7 +57,8 @@ use Rattle.search_laws.proofs.Sums.{count_in, in_most}
 use Rattle.search_laws.proofs.Asked.{is_met}
 use Rattle.search_laws.proofs.Children.{born}
 use Rattle.search_laws.proofs.BoundComputed.{closure_is_computed}
-use Rattle.search_laws.specs.ComputedClosure.{given_concept, transitive_roles, given_facts, closure_of, IsComputed}
+use Rattle.search_laws.specs.ComputedClosure.{HasFacts, given_concept, transitive_roles, given_facts, closure_of}
+use Rattle.search_laws.specs.ComputedClosure.{IsComputed}
 use Rattle.search_laws.specs.ComputedClosure.{ClosureOfAxiomsIsComputed}
 use Rattle.ontology_limits.specs.RoleAxiom.{RoleAxiom}
 use Rattle.ontology_limits.specs.RoleAxiom.TheVariants.{Inclusion, Equivalence, Transitivity}
@@ -193,26 +197,17 @@ power_le c d le = pow-le-pow_right (omega arith) le
 base_le : (b m n : ℕ) → m ≤ n → (b + 1) ^ m ≤ (b + 1) ^ n
 base_le b m n le = pow-le-pow_right (omega arith) le
 
--- no fact is given in a search for what no axiom gives a fact of
-none_given : (q : Question) (table : List Shape) (rows : List Row) → HasNoFacts q → (f : Fact ℕ)
-    → ¬ IsGiven (context_of q table rows) f
-none_given q table rows none f g = (let h = sym (none g.axiom_number g.place) ∙ g.is_there in cc)
-
-counts_none : (w : SearchContext) → ((f : Fact ℕ) → ¬ IsGiven w f) → IsGiveCount w (λ fs. 0)
-counts_none w none = record { not_less = λ fs gs. omega arith; more = λ fs f given out. absurd (none f given) }
-
 pub paths_are_short : PathsAreShort
-paths_are_short q cs table rows k trail no_facts closed r x n path =
+paths_are_short q cs table rows k trail closed r x n path =
     let w : SearchContext = context_of q table rows in
-    let none = none_given q table rows no_facts in
     let ds = numbers_of table cs in
     let fs = facts_of trail in
     let keep = keeping w q.at r.sub_number r.not_sup_number k trail r.follows in
     let built = reached_built w q.at r.sub_number r.not_sup_number k trail r.at_first r.follows in
     let all = numbers_in q cs table rows k trail closed r in
-    let l = (levels_built w none trail built).1 in
+    let l = (levels_built w trail built).1 in
     let h =
-    low w none q.at r.sub_number r.not_sup_number ds keep.numbers trail keep.grown built all x
+    low w q.at r.sub_number r.not_sup_number ds keep.numbers trail keep.grown built all x
     (path_node q.first fs x n path) in
     let p = power_le (length ds) (length cs) (few_numbers table cs r.is_table) in
     omega (arith, path_level q.first fs l x n path)
@@ -244,38 +239,41 @@ module _ (q : Question) (cs : List Concept) (table : List Shape) (rows : List Ro
       let turn : length cs * most_made cs ≡ most_made cs * length cs = grind arith in
       omega arith
 
-  abbrev m : ℕ
-  m = node_bound (length cs) (most_made cs)
+  few : (k : ℕ) (trail : List Item) → IsReached q table rows k trail
+      → node_count_from q.first (facts_of trail) ≤ nodes_of q.first cs
+  few k trail r =
+      let ds = numbers_of table cs in
+      let a = r.sub_number in
+      let b = r.not_sup_number in
+      let fs = facts_of trail in
+      let keep = keeping context q.at a b k trail r.follows in
+      let built = reached_built context q.at a b k trail r.at_first r.follows in
+      let all = numbers_in q cs table rows k trail closed r in
+      let l = (levels_built context trail built).1 in
+      let some = made_some cs in
+      let lows = low context q.at a b ds keep.numbers trail keep.grown built all in
+      let fit =
+      λ (h : ℕ). fits context q.at a b ds (most_made cs) some itself r.is_table.begins_with_top
+      (asked_few context cs r.is_table) h keep.numbers trail keep.grown all in
+      let le = few_numbers table cs r.is_table in
+      let nodes =
+      nodes_few context q.at a b ds (most_made cs) some itself r.is_table.begins_with_top
+      (asked_few context cs r.is_table) fs (length cs) le l fit lows in
+      let p = power_le (length ds) (length cs) le in
+      let higher = base_le (length cs * most_made cs) (2 ^ length ds) (2 ^ length cs + 2) (omega arith) in
+      let each =
+      mul_le q.first ((length cs * most_made cs + 1) ^ (2 ^ length ds)) (node_bound (length cs) (most_made cs))
+      (omega arith) in
+      omega arith
 
-  abbrev most : ℕ
-  most = m * (m + length cs + 2)
+  -- ---- all steps
 
-  -- ---- where node 0 is the only first node, and no fact is given
+  module _ (facts : List (Fact Concept)) (all_facts : HasFacts q facts) where
+    abbrev m : ℕ
+    m = nodes_of q.first cs
 
-  module _ (one : q.first ≡ 1) (no_facts : HasNoFacts q) where
-    few : (k : ℕ) (trail : List Item) → IsReached q table rows k trail → node_count_from q.first (facts_of trail) ≤ m
-    few k trail r =
-        let none = none_given q table rows no_facts in
-        let ds = numbers_of table cs in
-        let a = r.sub_number in
-        let b = r.not_sup_number in
-        let fs = facts_of trail in
-        let keep = keeping context q.at a b k trail r.follows in
-        let built = reached_built context q.at a b k trail r.at_first r.follows in
-        let all = numbers_in q cs table rows k trail closed r in
-        let l = (levels_built context none trail built).1 in
-        let some = made_some cs in
-        let lows = low context none q.at a b ds keep.numbers trail keep.grown built all in
-        let fit =
-        λ (h : ℕ). fits context none q.at a b ds one (most_made cs) some itself r.is_table.begins_with_top
-        (asked_few context cs r.is_table) h keep.numbers trail keep.grown all in
-        let le = few_numbers table cs r.is_table in
-        let nodes =
-        nodes_few context none q.at a b ds one (most_made cs) some itself r.is_table.begins_with_top
-        (asked_few context cs r.is_table) fs (length cs) le l fit lows in
-        let p = power_le (length ds) (length cs) le in
-        let q = base_le (length cs * most_made cs) (2 ^ length ds) (2 ^ length cs + 2) (omega arith) in
-        omega arith
+    abbrev most : ℕ
+    most = m * (m + length cs + 2) + length facts
 
     -- a reached trail keeps few steps
     short : (k : ℕ) (trail : List Item) (r : IsReached q table rows k trail) (ns : List ℕ)
@@ -284,14 +282,20 @@ module _ (q : Question) (cs : List Concept) (table : List Shape) (rows : List Ro
         let ds = numbers_of table cs in
         let fs = facts_of trail in
         let v = node_count_from q.first fs in
-        let counts = counts_none context (none_given q table rows no_facts) in
+        let ts = map (numbered table) facts in
+        let counts = counts_so context ts (given_among table r.is_table q rows facts all_facts) in
         let t =
-        tally context q.at r.sub_number r.not_sup_number r.at_first ds (λ gs. 0) counts v ns trail grown (omega arith)
-        (numbers_in q cs table rows k trail closed r) in
-        let some = t.steps in
+        tally context q.at r.sub_number r.not_sup_number r.at_first ds (so_count ts) counts v ns trail grown
+        (omega arith) (numbers_in q cs table rows k trail closed r) in
+        let some =
+        kept_most context q.at r.sub_number r.not_sup_number r.at_first ds (so_count ts) counts v ns
+        (step_counts context (start q.at r.sub_number r.not_sup_number) ns trail grown) (mark_count trail)
+        (AreAtFirst trail) fs t in
         let g = given_most ds v fs in
         let j = joined_most ds v fs in
         let p = parted_most ds v fs in
+        let s = so_most ts fs in
+        let l = length-map facts (numbered table) in
         let c = mul_le v (length ds) (length cs) (few_numbers table cs r.is_table) in
         let e : v * (v + length cs + 2) ≡ v * v + v * length cs + v + v = split v (length cs) in
         let nodes = few k trail r in
@@ -336,7 +340,7 @@ module _ (q : Question) (cs : List Concept) (table : List Shape) (rows : List Ro
         (short (suc k) trail r next.numbers next.grown) in
         record { numbers = next.numbers; grown = next.grown; climbed = omega (arith, c.climbed) }
 
-    all_steps : (k : ℕ) (trail : List Item) → IsReached q table rows k trail → k ≤ step_bound cs
+    all_steps : (k : ℕ) (trail : List Item) → IsReached q table rows k trail → k ≤ steps_of q.first (length facts) cs
     all_steps k trail r =
         let c = climb k trail r in
         let digits =
@@ -345,12 +349,11 @@ module _ (q : Question) (cs : List Concept) (table : List Shape) (rows : List Ro
         omega (arith, c.climbed, value_below (most_parts cs) most c.numbers digits)
 
 pub few_nodes : FewNodes
-few_nodes q cs table rows k trail one no_facts itself closed r =
-    few q cs table rows itself closed one no_facts k trail r
+few_nodes q cs table rows k trail itself closed r = few q cs table rows itself closed k trail r
 
 pub few_steps : FewSteps
-few_steps q cs table rows k trail one no_facts itself closed r =
-    all_steps q cs table rows itself closed one no_facts k trail r
+few_steps q cs facts table rows k trail itself closed all_facts r =
+    all_steps q cs table rows itself closed facts all_facts k trail r
 
 pub few_children : FewChildren
 few_children q cs table rows k trail itself closed r x = few_below q cs table rows itself closed k trail r x
@@ -377,8 +380,26 @@ module _ (n : ℕ) (axioms : List Numbered) (ks : List ℕ) (q : Query) where
       (λ c. (λ m. member_among n axioms ks q c m, λ h. among_member n axioms ks q c h))
 
   -- where no individual is listed, no fact is given
-  no_facts : n ≡ 0 → HasNoFacts (question_of n axioms ks q)
-  no_facts none a p = facts_of_none n axioms ks none a p
+  no_facts : n ≡ 0 → HasFacts (question_of n axioms ks q) []
+  no_facts none a p f e = (let h = sym (facts_of_none n axioms ks none a p) ∙ e in cc)
+
+  -- and there is one first node
+  one_tree : n ≡ 0 → steps_of (n + 1) 0 (closure_of n axioms ks q) ≡ step_bound (closure_of n axioms ks q)
+  one_tree none =
+      let m = node_bound (length (closure_of n axioms ks q)) (most_made (closure_of n axioms ks q)) in
+      let one : (n + 1) * m ≡ m = ap (λ (k : ℕ). (k + 1) * m) none ∙ single m in
+      ap
+      (λ (v : ℕ). (most_parts (closure_of n axioms ks q) + 1)
+      ^ (v * (v + length (closure_of n axioms ks q) + 2) + 0))
+      one
+      ∙ ap (λ (e : ℕ). (most_parts (closure_of n axioms ks q) + 1) ^ e)
+      (no_more (m * (m + length (closure_of n axioms ks q) + 2)))
+    where
+      single : (m : ℕ) → (0 + 1) * m ≡ m
+      single m = omega arith
+
+      no_more : (e : ℕ) → e + 0 ≡ e
+      no_more e = omega arith
 
   pub is_computed : IsComputed n axioms ks q
   is_computed = record { facts = λ a p f e. fact_contained n axioms ks a p f e; concepts = closed_of_axioms }
@@ -392,10 +413,13 @@ legal_runs_are_bounded n axioms ks q table rows k trail r =
     let cs = closure_of n axioms ks q in
     let facts = given_facts n axioms ks in
     let c = is_computed n axioms ks q in
+    let itself = below_itself axioms ks in
     record {
       all_steps =
-          λ none. few_steps asked cs table rows k trail (omega (arith, none)) (no_facts n axioms ks q none)
-          (below_itself axioms ks) c.concepts r;
+          λ none. subst (λ (s : ℕ). k ≤ s) (one_tree n axioms ks q none)
+          (few_steps asked cs [] table rows k trail itself c.concepts (no_facts n axioms ks q none) r);
+      all_steps_of_trees = few_steps asked cs facts table rows k trail itself c.concepts c.facts r;
+      nodes = few_nodes asked cs table rows k trail itself c.concepts r;
       steps_at_first = few_steps_at_first asked cs facts table rows k trail c.concepts c.facts r;
       marks = few_marks asked cs table rows k trail c.concepts r;
     }

@@ -2,55 +2,36 @@
 use Rattle.std.proofs.Common.{◌≡◌, ℕ, zero, suc, ◌+◌, ◌*◌, ◌<◌, ◌≤◌, eqb, ltb, cond, Bool, true, false, List, [], ◌∷◌}
 use Rattle.std.proofs.Common.{◌++◌, Option, Some, None, refl, ap, ◌∙◌, sym, subst, arith, inl, inr, lt-ltb}
 use Rattle.std.specs.List.{list_any}
-use Rattle.std.proofs.lemmas.Bool.{cases_Bool, cases_eq, cases_lt, and_parts, ltb-true, ne_eqb}
+use Rattle.std.proofs.lemmas.Bool.{cases_Bool, cases_eq, cases_lt, ne_eqb}
 use Rattle.ontology_limits.specs.Below.{count_below}
 use Rattle.calculus_specs.specs.Shape.{shape_of}
 use Rattle.calculus_specs.specs.Shape.Shape.{top, at_least}
 use Rattle.calculus_specs.specs.declared.facts.Fact.{Fact}
-use Rattle.calculus_specs.specs.declared.facts.Fact.TheVariants.{Has, Edge, Apart, Same}
-use Rattle.calculus_specs.specs.State.{node_count_from, first_origin, parent_from, speaks_below, new_nodes, apart_from}
+use Rattle.calculus_specs.specs.declared.facts.Fact.TheVariants.{Has}
+use Rattle.calculus_specs.specs.State.{node_count_from, first_origin, parent_from, new_nodes, apart_from}
 use Rattle.calculus_specs.specs.State.{pairwise_apart, fresh_facts}
 use Rattle.tableau_specs.specs.declared.Item.{Item}
 use Rattle.tableau_specs.specs.declared.Item.TheVariants.{Fact as Says, Mark}
 use Rattle.tableau_specs.specs.Items.{facts_of}
 use Rattle.tableau_specs.specs.Steps.{SearchContext}
 use Rattle.tableau_specs.specs.Reached.{start}
-use Rattle.tableau_specs.proofs.TreeShaped.{no_origin, none_or_some, first_le, count-edge}
-use Rattle.tableau_specs.proofs.Legal.{given_on_first}
+use Rattle.tableau_specs.proofs.TreeShaped.{no_origin, none_or_some}
 use Rattle.search_laws.proofs.Counting.{count_agree, count_longer, count_no_more}
 use Rattle.search_laws.specs.BoundLaws.{is_at, children}
-use Rattle.search_laws.proofs.Grown.{IsGrown, facts_of-append}
-use Rattle.search_laws.proofs.Grown.IsGrown.{at_first, by_add, by_give, by_make, by_choice}
+use Rattle.search_laws.specs.KeptSteps.{IsGrown}
+use Rattle.search_laws.proofs.Grown.{facts_of-append}
+use Rattle.search_laws.specs.KeptSteps.IsGrown.{at_first, by_add, by_give, by_make, by_choice}
 use Rattle.search_laws.proofs.Sums.{count_in, in_le, in_more}
 use Rattle.search_laws.proofs.Rising.{AreIn, in_front}
 use Rattle.tableau_specs.proofs.GenerateLines.{count-fresh}
 use Rattle.search_laws.proofs.Tally.{facts_after}
 use Rattle.search_laws.proofs.Asked.{by_role, with_concept, is_met, met_stays, IsMaking, making, met_after}
-use Rattle.search_laws.proofs.BoundNodes.{IsPlain, plain_count, alternative_plain, times_le, times_more}
+use Rattle.search_laws.proofs.Plain.{IsPlain, plain_count, alternative_plain, given_plain, origin-append, origin_keeps}
+use Rattle.search_laws.proofs.Plain.{plain_origin}
+use Rattle.search_laws.proofs.BoundNodes.{times_le, times_more}
 use Rattle.search_laws.proofs.BoundFew.{made_by, made_few}
 
 -- ---- where edges begin
-
-origin-append : (fs gs : List (Fact ℕ)) (z : ℕ) → first_origin fs z ≡ None
-    → first_origin (fs ++ gs) z ≡ first_origin gs z
-origin-append [] gs z h = refl
-origin-append (Has x c ∷ fs) gs z h = origin-append fs gs z h
-origin-append (Apart x y ∷ fs) gs z h = origin-append fs gs z h
-origin-append (Same x y ∷ fs) gs z h = origin-append fs gs z h
-origin-append (Edge r x y ∷ fs) gs z h = elim (cases_Bool (eqb y z)) [
-  | inl hit ↦ (let k : Some x ≡ None = rw hit at h in cc)
-  | inr miss ↦ rw miss (origin-append fs gs z (rw miss at h))
-]
-
-origin_keeps : (fs gs : List (Fact ℕ)) (z p : ℕ) → first_origin fs z ≡ Some p → first_origin (fs ++ gs) z ≡ Some p
-origin_keeps [] gs z p h = cc
-origin_keeps (Has x c ∷ fs) gs z p h = origin_keeps fs gs z p h
-origin_keeps (Apart x y ∷ fs) gs z p h = origin_keeps fs gs z p h
-origin_keeps (Same x y ∷ fs) gs z p h = origin_keeps fs gs z p h
-origin_keeps (Edge r x y ∷ fs) gs z p h = elim (cases_Bool (eqb y z)) [
-  | inl hit ↦ rw hit (rw hit at h)
-  | inr miss ↦ rw miss (origin_keeps fs gs z p (rw miss at h))
-]
 
 apart_origin : (y z n : ℕ) (rest : List (Fact ℕ)) (v : ℕ)
     → first_origin (apart_from y z n ++ rest) v ≡ first_origin rest v
@@ -85,44 +66,13 @@ at_by first x z a b e = elim (cases_lt z first) [
   | inr high ↦ ap (λ (o : Option ℕ). is_at x (cond (ltb z first) None o)) (e high)
 ]
 
--- a fact that makes no node, and leads to none that has a parent
-record MakesNone (first : ℕ) (fs : List (Fact ℕ)) (f : Fact ℕ) : Type 0 where
-  nodes : node_count_from first (fs ++ f ∷ []) ≡ node_count_from first fs
-  no_edge : (z : ℕ) → first ≤ z → first_origin (f ∷ []) z ≡ None
-
-plain_makes_none : (first : ℕ) (fs : List (Fact ℕ)) (f : Fact ℕ) → IsPlain f → MakesNone first fs f
-plain_makes_none first fs f p = record { nodes = plain_count first fs f p; no_edge = λ z from. none f p z }
-  where
-    none : (g : Fact ℕ) → IsPlain g → (z : ℕ) → first_origin (g ∷ []) z ≡ None
-    none (Has v c) h z = refl
-    none (Apart v u) h z = refl
-    none (Same v u) h z = refl
-    none (Edge r v u) h z = absurd h
-
-given_makes_none : (first : ℕ) (fs : List (Fact ℕ)) (f : Fact ℕ) → speaks_below first f ≡ true → MakesNone first fs f
-given_makes_none first fs (Has x c) h = plain_makes_none first fs (Has x c) tt
-given_makes_none first fs (Apart x y) h = plain_makes_none first fs (Apart x y) tt
-given_makes_none first fs (Same x y) h = plain_makes_none first fs (Same x y) tt
-given_makes_none first fs (Edge r x y) h =
-    let low = ltb-true y first (and_parts (ltb x first) (ltb y first) h).1 in
-    record {
-      nodes = omega (arith, low, count-edge first fs r x y, first_le first fs);
-      no_edge =
-          λ z from. ap (λ (b : Bool). cond b (Some x) None) (ne_eqb y z (λ e. absurd (omega (arith, e, low, from))));
-    }
-
-children_same : (first : ℕ) (fs : List (Fact ℕ)) (f : Fact ℕ) → MakesNone first fs f → (x : ℕ)
+children_same : (first : ℕ) (fs : List (Fact ℕ)) (f : Fact ℕ) → IsPlain first f → (x : ℕ)
     → children first (fs ++ f ∷ []) x ≡ children first fs x
-children_same first fs f m x =
-    ap (λ (n : ℕ). count_below n (λ z. is_at x (parent_from first (fs ++ f ∷ []) z))) m.nodes
+children_same first fs f p x =
+    ap (λ (n : ℕ). count_below n (λ z. is_at x (parent_from first (fs ++ f ∷ []) z))) (plain_count first fs f p)
     ∙ count_agree (node_count_from first fs) (λ z. is_at x (parent_from first (fs ++ f ∷ []) z))
     (λ z. is_at x (parent_from first fs z))
-    (λ z lt. at_by first x z (first_origin (fs ++ f ∷ []) z) (first_origin fs z) (same z))
-  where
-    same : (z : ℕ) → first ≤ z → first_origin (fs ++ f ∷ []) z ≡ first_origin fs z
-    same z from = none_or_some (first_origin fs z) (first_origin (fs ++ f ∷ []) z ≡ first_origin fs z)
-        (λ q e. origin_keeps fs (f ∷ []) z q e ∙ sym e)
-        (λ e. origin-append fs (f ∷ []) z e ∙ m.no_edge z from ∙ sym e)
+    (λ z lt. at_by first x z (first_origin (fs ++ f ∷ []) z) (first_origin fs z) (plain_origin first fs f p z))
 
 module _ (first : ℕ) (fs : List (Fact ℕ)) (x s e n : ℕ) where
   abbrev fresh : List (Fact ℕ)
@@ -172,7 +122,7 @@ module _ (w : SearchContext) (ds : List ℕ) (most x : ℕ) where
   abbrev Born : List (Fact ℕ) → Type 0
   Born fs = children w.first fs x ≤ most * count_in ds (is_met w fs x)
 
-  born_more : (fs : List (Fact ℕ)) (f : Fact ℕ) → MakesNone w.first fs f → Born fs → Born (fs ++ f ∷ [])
+  born_more : (fs : List (Fact ℕ)) (f : Fact ℕ) → IsPlain w.first f → Born fs → Born (fs ++ f ∷ [])
   born_more fs f m b =
       let same = children_same w.first fs f m x in
       let up =
@@ -219,13 +169,12 @@ module _ (w : SearchContext) (ds : List ℕ) (most x : ℕ) where
         let e = facts_after old (Has y d ∷ []) in
         let all' = in_front ds (facts_of old) (Has y d ∷ []) (subst (AreIn ds) e all) in
         subst Born (sym e)
-        (born_more (facts_of old) (Has y d) (plain_makes_none w.first (facts_of old) (Has y d) tt) (born ms old g all'))
+        (born_more (facts_of old) (Has y d) tt (born ms old g all'))
     born ns trail (by_give ms old f g is_given out) all =
         let e = facts_after old (f ∷ []) in
         let all' = in_front ds (facts_of old) (f ∷ []) (subst (AreIn ds) e all) in
         subst Born (sym e)
-        (born_more (facts_of old) f (given_makes_none w.first (facts_of old) f (given_on_first w f is_given))
-        (born ms old g all'))
+        (born_more (facts_of old) f (given_plain w f is_given) (born ms old g all'))
     born ns trail (by_make ms old new g makes) all =
         let e = facts_after old new in
         let all' = in_front ds (facts_of old) new (subst (AreIn ds) e all) in
@@ -239,6 +188,5 @@ module _ (w : SearchContext) (ds : List ℕ) (most x : ℕ) where
         facts_of-append old (Mark c ∷ Says f ∷ []) in
         let all' = in_front ds (facts_of old) (f ∷ []) (subst (AreIn ds) e all) in
         subst Born (sym e)
-        (born_more (facts_of old) f
-        (plain_makes_none w.first (facts_of old) f (alternative_plain w.table c.branch c.alternative f alt))
+        (born_more (facts_of old) f (alternative_plain w.first w.table c.branch c.alternative f alt)
         (born ms old g all'))

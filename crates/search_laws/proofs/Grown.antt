@@ -1,33 +1,21 @@
--- The steps that a trail keeps: those that were not taken back. Each stands for a number, that of the alternative that
--- its mark has, or 1 where it has no mark.
-use Rattle.std.proofs.Common.{◌≡◌, ℕ, zero, suc, ◌<◌, ◌⊎◌, false, List, [], ◌∷◌, ◌++◌, take, Some, refl, ap, ◌∙◌, sym}
+-- Where the steps that a trail keeps stand.
+use Rattle.std.proofs.Common.{◌≡◌, ℕ, zero, suc, ◌<◌, ◌⊎◌, List, [], ◌∷◌, ◌++◌, take, Some, refl, ap, ◌∙◌, sym}
 use Rattle.std.proofs.Common.{subst, arith, inl, inr, append_assoc}
 use Rattle.std.specs.List.{slice_get}
 use Rattle.std.proofs.lemmas.List.{append-nil}
 use Rattle.calculus_specs.specs.Shape.{Shape}
 use Rattle.calculus_specs.specs.declared.facts.Fact.{Fact}
 use Rattle.calculus_specs.specs.declared.facts.Fact.TheVariants.{Has}
-use Rattle.calculus_specs.specs.State.{has, is_so}
 use Rattle.tableau_specs.specs.declared.Branch.{Branch}
 use Rattle.tableau_specs.specs.declared.Choice.{Choice}
 use Rattle.tableau_specs.specs.declared.Item.{Item}
 use Rattle.tableau_specs.specs.declared.Item.TheVariants.{Fact as Says, Mark}
 use Rattle.tableau_specs.specs.Items.{facts_of, says}
-use Rattle.tableau_specs.specs.Steps.{SearchContext, IsGiven, Adds, Generates, MayBranch, IsAlternative}
+use Rattle.tableau_specs.specs.Steps.{SearchContext, MayBranch, IsAlternative}
 use Rattle.tableau_specs.specs.Steps.IsAlternative.{of_union, of_filler, of_complement, of_joining, of_parting}
 use Rattle.tableau_specs.specs.Reached.{start}
-
-pub data IsGrown (w : SearchContext) (first : List Item) : List ℕ → List Item → Type 0 where
-  at_first : IsGrown w first [] first
-  by_add : (ds : List ℕ) (old : List Item) (x d : ℕ) → IsGrown w first ds old → Adds w (facts_of old) x d
-      → has (facts_of old) x d ≡ false → IsGrown w first (ds ++ 1 ∷ []) (old ++ Says (Has x d) ∷ [])
-  by_give : (ds : List ℕ) (old : List Item) (f : Fact ℕ) → IsGrown w first ds old → IsGiven w f
-      → is_so (facts_of old) f ≡ false → IsGrown w first (ds ++ 1 ∷ []) (old ++ Says f ∷ [])
-  by_make : (ds : List ℕ) (old : List Item) (new : List (Fact ℕ)) → IsGrown w first ds old
-      → Generates w (facts_of old) new → IsGrown w first (ds ++ 1 ∷ []) (old ++ says new)
-  by_choice : (ds : List ℕ) (old : List Item) (c : Choice) (f : Fact ℕ) → IsGrown w first ds old
-      → MayBranch w (facts_of old) c.branch → IsAlternative w.table c.branch c.alternative f
-      → IsGrown w first (ds ++ c.alternative ∷ []) (old ++ Mark c ∷ Says f ∷ [])
+use Rattle.search_laws.specs.KeptSteps.{IsGrown}
+use Rattle.search_laws.specs.KeptSteps.IsGrown.{at_first, by_add, by_give, by_make, by_choice}
 
 -- ---- lists
 

@@ -8,8 +8,9 @@ use Rattle.tableau_specs.specs.Steps.{SearchContext, IsLegal, IsAlternative, nex
 use Rattle.tableau_specs.specs.Steps.IsLegal.{add, give, generate, choose, back}
 use Rattle.tableau_specs.specs.Reached.{start, Follows}
 use Rattle.search_laws.specs.BoundLaws.{AreAtFirst}
-use Rattle.search_laws.proofs.Grown.{IsGrown, cut, AreOnes, ones_front, ones_back, alternatives_from_one}
-use Rattle.search_laws.proofs.Grown.IsGrown.{at_first, by_add, by_give, by_make, by_choice}
+use Rattle.search_laws.specs.KeptSteps.{IsGrown}
+use Rattle.search_laws.proofs.Grown.{cut, AreOnes, ones_front, ones_back, alternatives_from_one}
+use Rattle.search_laws.specs.KeptSteps.IsGrown.{at_first, by_add, by_give, by_make, by_choice}
 use Rattle.search_laws.proofs.Tally.{first_front, first_back}
 
 ones_more : (ns ms : List ℕ) → AreOnes ns → AreOnes ms → AreOnes (ns ++ ms)

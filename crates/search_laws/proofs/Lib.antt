@@ -13,6 +13,7 @@ pub mod Tally
 pub mod KeptSteps
 pub mod Numbers
 pub mod BoundLaws
+pub mod Plain
 pub mod Level
 pub mod Codes
 pub mod Paths

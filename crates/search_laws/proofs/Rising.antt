@@ -1,6 +1,6 @@
 -- Numbers that a trail's steps raise: of the concepts given to nodes, of the nodes that were joined to a lesser one,
 -- and of the pairs of nodes that were set apart.
-use Rattle.std.proofs.Common.{◌≡◌, ℕ, ◌+◌, ◌*◌, ◌<◌, ◌≤◌, ◌&&◌, ◌⊎◌, not, Bool, true, false, eqb, List, [], ◌∷◌, ◌++◌}
+use Rattle.std.proofs.Common.{◌≡◌, ℕ, ◌+◌, ◌*◌, ◌<◌, ◌≤◌, ◌&&◌, not, Bool, true, false, eqb, List, [], ◌∷◌, ◌++◌}
 use Rattle.std.proofs.Common.{length, refl, ap, ◌∙◌, sym, subst, arith, inl, inr, eq-eqb, append_assoc}
 use Rattle.std.proofs.lemmas.List.{append-nil}
 use Rattle.std.specs.List.{list_any, Contains}
@@ -272,25 +272,26 @@ finds_new w fs b (on_pair x c n s e y z lt h sh more cy cz ne apart) =
       apart,
     )
 
--- one of the numbers rises; that of pairs set apart by no first alternative
+-- the number rises that the fact is about; that of pairs set apart by no first alternative
 abbrev pub Rises : List ℕ → ℕ → List (Fact ℕ) → Fact ℕ → ℕ → Type 0
-Rises ds v fs f k = (given ds v fs + 1 ≤ given ds v (fs ++ f ∷ []))
-    ⊎ ((joined ds v fs + 1 ≤ joined ds v (fs ++ f ∷ []))
-    ⊎ ((parted ds v fs + 1 ≤ parted ds v (fs ++ f ∷ [])) × (k ≡ 2)))
+Rises ds v fs (Has x d) k = given ds v fs + 1 ≤ given ds v (fs ++ Has x d ∷ [])
+Rises ds v fs (Edge r x y) k = ⊥
+Rises ds v fs (Apart y z) k = (parted ds v fs + 1 ≤ parted ds v (fs ++ Apart y z ∷ [])) × (k ≡ 2)
+Rises ds v fs (Same y z) k = joined ds v fs + 1 ≤ joined ds v (fs ++ Same y z ∷ [])
 
 alternative_rises : (w : SearchContext) (ds : List ℕ) (v : ℕ) (fs : List (Fact ℕ)) (b : Branch) (k : ℕ) (f : Fact ℕ)
     → node_count_from w.first fs ≤ v → AreIn ds (fs ++ f ∷ []) → IsAlternative w.table b k f → IsNew w fs b
     → Rises ds v fs f k
 alternative_rises w ds v fs b k f le all (of_union x c k' d parts sh read) h =
-    inl (given_more ds v fs x d (omega (arith, h.0)) all
-    (h.1 d parts sh (k', slice_get_within parts k' d read, get_or_from_slice_get parts k' d d read)))
-alternative_rises w ds v fs b k f le all (of_filler y e) h = inl (given_more ds v fs y e (omega (arith, h.0)) all h.1)
+    given_more ds v fs x d (omega (arith, h.0)) all
+    (h.1 d parts sh (k', slice_get_within parts k' d read, get_or_from_slice_get parts k' d d read))
+alternative_rises w ds v fs b k f le all (of_filler y e) h = given_more ds v fs y e (omega (arith, h.0)) all h.1
 alternative_rises w ds v fs b k f le all (of_complement y e d neg) h =
-    inl (given_more ds v fs y d (omega (arith, h.0)) all (h.2 d neg))
+    given_more ds v fs y d (omega (arith, h.0)) all (h.2 d neg)
 alternative_rises w ds v fs b k f le all (of_joining y z) h =
-    inr (inl (joined_more ds v fs y z (omega (arith, h.0)) (omega (arith, h.1)) h.2 h.3 h.4))
+    joined_more ds v fs y z (omega (arith, h.0)) (omega (arith, h.1)) h.2 h.3 h.4
 alternative_rises w ds v fs b k f le all (of_parting y z) h =
-    inr (inr (parted_more ds v fs y z (omega (arith, h.0)) (omega (arith, h.1)) h.5, refl))
+    (parted_more ds v fs y z (omega (arith, h.0)) (omega (arith, h.1)) h.5, refl)
 
 pub choice_rises : (w : SearchContext) (ds : List ℕ) (v : ℕ) (fs : List (Fact ℕ)) (b : Branch) (k : ℕ) (f : Fact ℕ)
     → node_count_from w.first fs ≤ v → AreIn ds (fs ++ f ∷ []) → MayBranch w fs b → IsAlternative w.table b k f

@@ -1,5 +1,5 @@
--- Worked closures.
-use Rattle.std.specs.Prelude.{◌≡◌, false, ◌==◌, List, [], ◌∷◌, refl}
+-- Worked closures, bounds and kept steps.
+use Rattle.std.specs.Prelude.{◌≡◌, false, ◌==◌, List, [], ◌∷◌, ◌++◌, Some, refl}
 use Rattle.shq_terms.specs.Concept.{top, bottom, name, complement, union, some_of, all_of, at_least, at_most, parts_of}
 use Rattle.calculus_specs.specs.Rows.{Theory, inclusion_of}
 use Rattle.calculus_specs.specs.Rules.{on_any}
@@ -7,7 +7,14 @@ use Rattle.calculus_specs.specs.declared.facts.Fact.TheVariants.{Has, Edge, Same
 use Rattle.shq_terms.specs.declared.axioms.Axiom.TheVariants.{Member, Pair, SameAll}
 use Rattle.shq_terms.specs.declared.axioms.Numbered.{Numbered}
 use Rattle.shq_terms.specs.declared.axioms.On.TheVariants.{Any}
-use Rattle.search_laws.specs.Closure.{most_made, most_parts, node_bound}
+use Rattle.calculus_specs.specs.Shape.Shape.{top as top_shape}
+use Rattle.tableau_specs.specs.declared.Item.{Item}
+use Rattle.tableau_specs.specs.declared.Item.TheVariants.{Fact as Says}
+use Rattle.tableau_specs.specs.Reached.{start}
+use Rattle.tableau_specs.specs.Steps.{SearchContext}
+use Rattle.search_laws.specs.Closure.{most_made, most_parts, node_bound, nodes_of}
+use Rattle.search_laws.specs.KeptSteps.{IsGrown, no_steps, one_giving, step_counts}
+use Rattle.search_laws.specs.KeptSteps.IsGrown.{at_first, by_give}
 use Rattle.search_laws.specs.ComputedClosure.{given_facts, closure, closure_of}
 
 -- each class 10 has some class 10 by role 7
@@ -48,6 +55,10 @@ other_is_in = refl
 pub nodes_of_one : node_bound 1 1 ≡ 16
 nodes_of_one = refl
 
+-- two individuals and the node in question are the roots of three trees
+pub nodes_of_three_trees : nodes_of 3 (name 10 ∷ []) ≡ 48
+nodes_of_three_trees = refl
+
 pub generates_three : most_made (closure (on_any one_transitive (at_least 3 7 (name 10)) bottom) (9 ∷ []) []) ≡ 3
 generates_three = refl
 
@@ -73,3 +84,27 @@ one_fact = refl
 pub member_is_in : closure_of 2 of_individuals (1 ∷ 2 ∷ 3 ∷ []) (record { sub = top; sup = bottom; on = Any })
     ≡ top ∷ some_of 7 (name 10) ∷ name 10 ∷ []
 member_is_in = refl
+
+-- ---- kept steps
+
+-- an axiom gives that role 7 leads from individual 0 to individual 1
+abbrev linked : SearchContext
+linked = record {
+  theory = one_transitive;
+  table = top_shape ∷ [];
+  rows = [];
+  first = 3;
+  fact_of = λ a p. Some (Edge 7 0 1);
+}
+
+abbrev linked_trail : List Item
+linked_trail = start 2 0 0 ++ Says (Edge 7 0 1) ∷ []
+
+-- a trail that keeps one step, which puts the edge
+abbrev grown : IsGrown linked (start 2 0 0) (1 ∷ []) linked_trail
+grown =
+    by_give [] (start 2 0 0) (Edge 7 0 1) at_first
+    (record { axiom_number = 1; place = 1; is_there = refl; listed = refl; on_first = refl }) refl
+
+pub one_gives : step_counts linked (start 2 0 0) (1 ∷ []) linked_trail grown ≡ one_giving no_steps
+one_gives = refl

@@ -16,8 +16,9 @@ use Rattle.calculus_specs.specs.State.{node_count_from, parent_from, has}
 use Rattle.tableau_specs.specs.declared.Item.{Item}
 use Rattle.tableau_specs.specs.declared.Item.TheVariants.{Fact as Says, Mark}
 use Rattle.tableau_specs.specs.Items.{facts_of}
-use Rattle.tableau_specs.specs.Reached.{IsReached}
-use Rattle.search_laws.specs.Closure.{IsInClosure, IsClosure, most_made, node_bound, step_bound}
+use Rattle.tableau_specs.specs.Reached.{start, context_of, IsReached}
+use Rattle.search_laws.specs.KeptSteps.{IsGrown, StepCounts, step_counts}
+use Rattle.search_laws.specs.Closure.{IsInClosure, IsClosure, most_made, step_bound, nodes_of, steps_of}
 
 -- ---- concepts
 
@@ -40,6 +41,32 @@ AreAtFirst [] = Unit {0}
 AreAtFirst (Says f ∷ is) = AreAtFirst is
 AreAtFirst (Mark c ∷ is) = (c.alternative ≡ 1) × AreAtFirst is
 
+-- ---- steps that a trail keeps
+
+-- each reached trail keeps some
+abbrev pub TrailsKeepSteps : Type 0
+TrailsKeepSteps = (q : Question) (table : List Shape) (rows : List Row) (k : ℕ) (trail : List Item)
+    → (r : IsReached q table rows k trail)
+    → (ds : List ℕ) × IsGrown (context_of q table rows) (start q.at r.sub_number r.not_sup_number) ds trail
+
+-- so many steps of each kind at most, where the closure has c concepts, the trail v nodes, and axioms give f facts
+pub record AreFewOfEach (c v f : ℕ) (n : StepCounts) : Type 0 where
+  pub adding : n.adding ≤ v * c
+  pub giving : n.giving ≤ f
+  pub making : n.making ≤ v
+  pub joining : n.joining ≤ v
+  pub parting : n.parting ≤ v * v
+
+abbrev pub FewOfEachKind : Type 0
+FewOfEachKind =
+    (q : Question) (cs : List Concept) (facts : List (Fact Concept)) (table : List Shape) (rows : List Row) (k : ℕ)
+    (trail : List Item)
+    → IsClosure q cs → HasFacts q facts → (r : IsReached q table rows k trail)
+    → (ds : List ℕ)
+    → (grown : IsGrown (context_of q table rows) (start q.at r.sub_number r.not_sup_number) ds trail)
+    → AreFewOfEach (length cs) (node_count_from q.first (facts_of trail)) (length facts)
+    (step_counts (context_of q table rows) (start q.at r.sub_number r.not_sup_number) ds trail grown)
+
 -- where no mark has gone on to a later alternative, the steps are at most so many; each given fact is put once at most
 abbrev pub FewStepsAtFirst : Type 0
 FewStepsAtFirst =
@@ -56,10 +83,6 @@ FewMarks = (q : Question) (cs : List Concept) (table : List Shape) (rows : List 
 
 -- ---- nodes
 
--- no axiom gives a fact: none speaks of an individual
-abbrev pub HasNoFacts : Question → Type 0
-HasNoFacts q = (a p : ℕ) → q.fact_of a p ≡ None
-
 -- a first node is one without a parent
 pub record IsFirst (first : ℕ) (fs : List (Fact ℕ)) (x : ℕ) : Type 0 where
   pub is_node : x < node_count_from first fs
@@ -70,11 +93,10 @@ pub data HasPath (first : ℕ) (fs : List (Fact ℕ)) : ℕ → ℕ → Type 0 w
   from_first : (x : ℕ) → IsFirst first fs x → HasPath first fs x 1
   below : (x p n : ℕ) → parent_from first fs x ≡ Some p → HasPath first fs p n → HasPath first fs x (suc n)
 
--- where no fact is given, paths are short; where facts are given, a node that was made may be joined to a first node,
--- below which paths grow anew
+-- paths are short, whatever facts are given
 abbrev pub PathsAreShort : Type 0
 PathsAreShort = (q : Question) (cs : List Concept) (table : List Shape) (rows : List Row) (k : ℕ) (trail : List Item)
-    → HasNoFacts q → IsClosure q cs → IsReached q table rows k trail
+    → IsClosure q cs → IsReached q table rows k trail
     → (x n : ℕ) → HasPath q.first (facts_of trail) x n → n ≤ 2 ^ length cs + 1
 
 -- each role is below itself
@@ -95,19 +117,21 @@ FewChildren = (q : Question) (cs : List Concept) (table : List Shape) (rows : Li
     → RolesAreBelowThemselves q.theory → IsClosure q cs → IsReached q table rows k trail
     → (x : ℕ) → children q.first (facts_of trail) x ≤ length cs * most_made cs
 
--- a trail has few nodes, where a new edge is one below its own role, node 0 is the only first node, and no fact is
--- given
+-- a trail has few nodes for each first node, where a new edge is one below its own role
 abbrev pub FewNodes : Type 0
 FewNodes = (q : Question) (cs : List Concept) (table : List Shape) (rows : List Row) (k : ℕ) (trail : List Item)
-    → q.first ≡ 1 → HasNoFacts q → RolesAreBelowThemselves q.theory → IsClosure q cs → IsReached q table rows k trail
-    → node_count_from q.first (facts_of trail) ≤ node_bound (length cs) (most_made cs)
+    → RolesAreBelowThemselves q.theory → IsClosure q cs → IsReached q table rows k trail
+    → node_count_from q.first (facts_of trail) ≤ nodes_of q.first cs
 
 -- ---- steps
 
+-- a search takes few steps; the list has each given fact
 abbrev pub FewSteps : Type 0
-FewSteps = (q : Question) (cs : List Concept) (table : List Shape) (rows : List Row) (k : ℕ) (trail : List Item)
-    → q.first ≡ 1 → HasNoFacts q → RolesAreBelowThemselves q.theory → IsClosure q cs → IsReached q table rows k trail
-    → k ≤ step_bound cs
+FewSteps =
+    (q : Question) (cs : List Concept) (facts : List (Fact Concept)) (table : List Shape) (rows : List Row) (k : ℕ)
+    (trail : List Item)
+    → RolesAreBelowThemselves q.theory → IsClosure q cs → HasFacts q facts → IsReached q table rows k trail
+    → k ≤ steps_of q.first (length facts) cs
 
 -- ---- over axioms
 
@@ -116,6 +140,8 @@ FewSteps = (q : Question) (cs : List Concept) (table : List Shape) (rows : List 
 pub record IsBounded (n : ℕ) (axioms : List Numbered) (ks : List ℕ) (q : Query) (k : ℕ) (trail : List Item) :
     Type 0 where
   pub all_steps : n ≡ 0 → k ≤ step_bound (closure_of n axioms ks q)
+  pub all_steps_of_trees : k ≤ steps_of (n + 1) (length (given_facts n axioms ks)) (closure_of n axioms ks q)
+  pub nodes : node_count_from (n + 1) (facts_of trail) ≤ nodes_of (n + 1) (closure_of n axioms ks q)
   pub steps_at_first : AreAtFirst trail
       → k ≤ node_count_from (n + 1) (facts_of trail) * (length (closure_of n axioms ks q) + 2)
       + length (given_facts n axioms ks)

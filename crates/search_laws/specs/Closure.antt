@@ -64,7 +64,8 @@ abbrev pub most_parts : List Concept → ℕ
 most_parts [] = 2
 most_parts (c ∷ cs) = max (choices_of c) (most_parts cs)
 
--- a trail has at most so many nodes, where the closure has c concepts and a step makes at most g nodes
+-- a tree of a trail has at most so many nodes, where the closure has c concepts and a step makes at most g nodes; where
+-- node 0 is the only first node, the trail is one tree
 abbrev pub node_bound : ℕ → ℕ → ℕ
 node_bound c g = (c * g + 1) ^ (2 ^ c + 2)
 
@@ -74,3 +75,12 @@ steps_below b m c = (b + 1) ^ (m * (m + c + 2))
 
 abbrev pub step_bound : List Concept → ℕ
 step_bound cs = steps_below (most_parts cs) (node_bound (length cs) (most_made cs)) (length cs)
+
+-- each first node is the root of a tree: a trail has at most so many nodes, where there are so many first nodes
+abbrev pub nodes_of : ℕ → List Concept → ℕ
+nodes_of first cs = first * node_bound (length cs) (most_made cs)
+
+-- a search takes at most so many steps, where there are so many first nodes and given facts
+abbrev pub steps_of : ℕ → ℕ → List Concept → ℕ
+steps_of first facts cs =
+    (most_parts cs + 1) ^ (nodes_of first cs * (nodes_of first cs + length cs + 2) + facts)

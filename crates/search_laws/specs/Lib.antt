@@ -2,6 +2,7 @@ pub mod Theories
 pub mod TrailLaws
 pub mod Closure
 pub mod ComputedClosure
+pub mod KeptSteps
 pub mod BoundLaws
 pub mod BoundExamples
 pub mod Elements

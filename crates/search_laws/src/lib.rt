@@ -1,8 +1,8 @@
 //! Laws of every search, whatever the order of its steps: what holds of trails that legal steps reach.
 //!
 //! - `trail_laws`: what bounds and counter-models both need of reached trails.
-//! - `bound_laws`: how many nodes, marks and kept steps a trail has, and that where there are no individuals every
-//!   legal search ends, and after how many steps.
+//! - `bound_laws`: how many nodes, marks and kept steps a trail has, and that every legal search ends, and after how
+//!   many steps.
 //! - `counter_model_laws`: a saturated trail describes a finite interpretation that meets the axioms and refutes the
 //!   query.
 //! - `reuse_laws`: what the run of one search shows of other queries (Haarslev, Möller and Turhan, 2001).
@@ -14,9 +14,9 @@ mod reuse_laws;
 mod trail_laws;
 
 pub use bound_laws::{
-    concepts_are_in_the_closure, few_children, few_marks, few_nodes, few_steps,
+    concepts_are_in_the_closure, few_children, few_marks, few_nodes, few_of_each_kind, few_steps,
     few_steps_without_going_back, legal_runs_are_bounded, paths_are_short, the_closure_is_computed,
-    the_closure_of_axioms_is_computed,
+    the_closure_of_axioms_is_computed, trails_keep_steps,
 };
 pub use counter_model_laws::{
     assertions_are_met, chains_stay_within, computed_interpretations_are_built, elements_are_few,
