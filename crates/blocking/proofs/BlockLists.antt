@@ -1,5 +1,5 @@
 -- Blocks of the nodes from 0 on, and which of them stand.
-use Rattle.std.proofs.Common.{◌≡◌, ℕ, zero, suc, ◌+◌, ◌-◌, ◌<◌, ◌≤◌, min, cond, eqb, Bool, List, [], ◌∷◌, ◌++◌, length}
+use Rattle.std.proofs.Common.{◌≡◌, ℕ, zero, suc, ◌+◌, ◌-◌, ◌<◌, ◌≤◌, ◌&&◌, min, cond, eqb, Bool, List, [], ◌∷◌, ◌++◌, length}
 use Rattle.std.proofs.Common.{take, get_or, Some, None, refl, ap, sym, ◌∙◌, subst, arith, inl, inr, add-one}
 use Rattle.std.specs.Prelude.{nat_lt}
 use Rattle.std.proofs.lemmas.Bool.{cases_Bool, cases_lt, lt-ltb}
@@ -12,10 +12,11 @@ use Rattle.calculus_specs.specs.Joins.{rep}
 use Rattle.calculus_specs.specs.State.{node_count_from, first_origin, parent_from, has, HaveParentsBefore}
 use Rattle.tableau_specs.specs.declared.Block.{Block}
 use Rattle.tableau_specs.specs.declared.Block.TheVariants.{Clear, Under}
-use Rattle.tableau_specs.specs.Blocked.{is_parent_clear, blocked_from, blocks_to, block_of}
+use Rattle.tableau_specs.specs.Blocked.{is_clear, is_parent_clear, blocked_from, blocks_to, block_of}
 use Rattle.tableau_specs.proofs.Agreeing.{blocks_left_by_all, nodes_left_by_all}
 use Rattle.blocking.specs.Followed.{Printed, printed_more, printed_first, IsSound, AreSound, IsFollowed, AreBlocksBelow}
 use Rattle.blocking.specs.Followed.{AreFirstBlocks, IsCurrent}
+use Rattle.blocking.specs.Hinted.{KnownNode, known_at, nothing_known}
 use Rattle.blocking.specs.Laws.{GoingOnKeepsBlocks, GoingBackKeepsBlocks, CurrentIsBelow, LessIsBelow, NothingIsBelow}
 
 -- ---- the blocks of the nodes from 0 on
@@ -75,7 +76,7 @@ same-blocks_to first fs gs (suc n) h =
     let last = h n (omega arith) in
     λ i. rest i ++ last i ∷ []
 
-taken_again : (xs : List Block) (k n : ℕ) → k ≤ n → take k (take n xs) ≡ take k xs
+pub taken_again : (xs : List Block) (k n : ℕ) → k ≤ n → take k (take n xs) ≡ take k xs
 taken_again xs zero n le = refl
 taken_again [] (suc k) zero le = refl
 taken_again [] (suc k) (suc n) le = refl
@@ -84,16 +85,16 @@ taken_again (x ∷ xs) (suc k) (suc n) le = ap (λ (ys : List Block). x ∷ ys) 
 
 -- ---- fewer nodes
 
-fewer_sound : (first : ℕ) (fs : List (Fact ℕ)) (n k : ℕ) (prints : List (List ℕ)) → AreSound first fs n prints → k ≤ n
-    → AreSound first fs k prints
-fewer_sound first fs n k prints s le =
+fewer_sound : (first : ℕ) (fs : List (Fact ℕ)) (n k : ℕ) (ks : List KnownNode) → AreSound first fs n ks → k ≤ n
+    → AreSound first fs k ks
+fewer_sound first fs n k ks s le =
     record { enough = omega (arith, s.enough); each = λ z lt. s.each z (omega arith) }
 
 pub less_below : LessIsBelow
 less_below first fs n k p h le = record {
   within = omega (arith, h.within);
   first_blocks = sym (taken_again p.blocks k n le) ∙ ap (take k) h.first_blocks ∙ take-blocks_to first fs n k le;
-  sound = fewer_sound first fs n k p.prints h.sound le;
+  sound = fewer_sound first fs n k p.known h.sound le;
 }
 
 pub followed_below : (first : ℕ) (fs : List (Fact ℕ)) (n k : ℕ) (p : Printed) → IsFollowed first fs n p → k ≤ n
@@ -101,7 +102,7 @@ pub followed_below : (first : ℕ) (fs : List (Fact ℕ)) (n k : ℕ) (p : Print
 followed_below first fs n k p h le within = record {
   within = within;
   first_blocks = ap (take k) h.all_blocks ∙ take-blocks_to first fs n k le;
-  sound = fewer_sound first fs n k p.prints h.sound le;
+  sound = fewer_sound first fs n k p.known h.sound le;
 }
 
 pub current_below : CurrentIsBelow
@@ -161,12 +162,12 @@ module _ (first : ℕ) (fs gs : List (Fact ℕ)) (n k : ℕ) (p : Printed)
     (reps : (x : ℕ) → x < k → rep fs x ≡ rep gs x)
     (concepts : (x c : ℕ) → x < k → has fs x c ≡ has gs x c) (le : k ≤ n) (within : k ≤ node_count_from first gs)
     (h : AreBlocksBelow first fs n p) where
-  sound_too : (z : ℕ) → z < k → IsSound first gs z (get_or p.prints z [])
+  sound_too : (z : ℕ) → z < k → IsSound first gs z (known_at p.known z)
   sound_too z lt =
       let s = h.sound.each z (omega arith) in
       record {
-        words = s.words;
-        shows = λ own clear c held. s.shows (reps z lt ∙ own) (blocks z lt ∙ clear) c (concepts z c lt ∙ held);
+        labelled = λ c. s.labelled c ∙ concepts z c lt;
+        may_block = s.may_block ∙ (λ i. eqb (reps z lt i) z && is_clear (blocks z lt i));
       }
 
   moved : AreBlocksBelow first gs k p
@@ -200,10 +201,11 @@ pub followed_first : (first : ℕ) (fs : List (Fact ℕ)) (n : ℕ) (p : Printed
     → IsFollowed first fs n (printed_first n p)
 followed_first first fs n p h = record {
   all_blocks = h.first_blocks;
-  all_prints = length-take-le n p.prints h.sound.enough;
+  all_known = length-take-le n p.known h.sound.enough;
   sound = record {
-    enough = omega (arith, length-take-le n p.prints h.sound.enough);
-    each = λ z lt. subst (IsSound first fs z) (sym (get_or-take n p.prints z [] lt)) (h.sound.each z lt);
+    enough = omega (arith, length-take-le n p.known h.sound.enough);
+    each =
+        λ z lt. subst (IsSound first fs z) (sym (get_or-take n p.known z nothing_known lt)) (h.sound.each z lt);
   };
 }
 
@@ -220,34 +222,34 @@ enough_blocks first fs n p h = elim (cases_lt (length p.blocks) n) [
     length-take-most (suc k) [] = omega arith
     length-take-most (suc k) (x ∷ xs) = omega (arith, length-take-most k xs)
 
-pub followed_more : (first : ℕ) (fs : List (Fact ℕ)) (n : ℕ) (p q : Printed) (block : Block) (print : List ℕ)
-    → IsFollowed first fs n p → block ≡ block_of first fs n → IsSound first fs n print → q ≡ printed_more p block print
-    → IsFollowed first fs (n + 1) q
-followed_more first fs n p q block print h is s put =
+pub followed_more : (first : ℕ) (fs : List (Fact ℕ)) (n : ℕ) (p q : Printed) (block : Block) (known : KnownNode)
+    → IsFollowed first fs n p → block ≡ block_of first fs n → IsSound first fs n known
+    → q ≡ printed_more p block known → IsFollowed first fs (n + 1) q
+followed_more first fs n p q block known h is s put =
     let more : q.blocks ≡ blocks_to first fs (suc n) =
     ap (λ (v : Printed). v.blocks) put ∙ (λ i. h.all_blocks i ++ is i ∷ []) in
-    let prints : q.prints ≡ p.prints ++ print ∷ [] = ap (λ (v : Printed). v.prints) put in
-    let long : length q.prints ≡ n + 1 =
-    omega (arith, ap length prints, length-append p.prints (print ∷ []), h.all_prints) in
+    let all : q.known ≡ p.known ++ known ∷ [] = ap (λ (v : Printed). v.known) put in
+    let long : length q.known ≡ n + 1 =
+    omega (arith, ap length all, length-append p.known (known ∷ []), h.all_known) in
     record {
       all_blocks = more ∙ ap (blocks_to first fs) (sym (add-one n));
-      all_prints = long;
+      all_known = long;
       sound = record {
         enough = omega (arith, long);
         each =
-            λ z lt. subst (λ (ps : List (List ℕ)). IsSound first fs z (get_or ps z [])) (sym prints)
+            λ z lt. subst (λ (ks : List KnownNode). IsSound first fs z (known_at ks z)) (sym all)
             (elim (cases_lt z n) [
               | inl less ↦
                   subst (IsSound first fs z)
-                  (sym (get_or_append_left p.prints (print ∷ []) [] z (omega (arith, less, h.all_prints))))
+                  (sym (get_or_append_left p.known (known ∷ []) nothing_known z (omega (arith, less, h.all_known))))
                   (h.sound.each z less)
               | inr least ↦
                   let same : z ≡ n = omega arith in
                   let none : z - n ≡ 0 = omega arith in
-                  let there : get_or (p.prints ++ print ∷ []) z [] ≡ print =
-                  get_or-append_right p.prints (print ∷ []) n z [] h.all_prints least
-                  ∙ ap (λ (k : ℕ). get_or (print ∷ []) k []) none in
-                  subst (IsSound first fs z) (sym there) (subst (λ (v : ℕ). IsSound first fs v print) (sym same) s)
+                  let there : known_at (p.known ++ known ∷ []) z ≡ known =
+                  get_or-append_right p.known (known ∷ []) n z nothing_known h.all_known least
+                  ∙ ap (λ (k : ℕ). get_or (known ∷ []) k nothing_known) none in
+                  subst (IsSound first fs z) (sym there) (subst (λ (v : ℕ). IsSound first fs v known) (sym same) s)
             ]);
       };
     }

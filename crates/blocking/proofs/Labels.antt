@@ -17,7 +17,7 @@ use Rattle.calculus_specs.specs.declared.facts.Fact.{Fact}
 use Rattle.calculus_specs.specs.State.{label}
 use Rattle.calculus_specs.specs.Listed.{IsLabel}
 use Rattle.calculus_specs.proofs.State.{any-label}
-use Rattle.blocking.specs.Followed.{IsPrintOf, IsPrintWithin, ShowsAll}
+use Rattle.blocking.specs.Followed.{IsPrintOf, IsPrintWithin}
 
 abbrev pub is_in : ℕ → List ℕ → Bool
 is_in c cs = list_any (λ d. eqb d c) cs
@@ -88,10 +88,11 @@ module _ (fs : List (Fact ℕ)) (x : ℕ) (cs : List ℕ) (is : IsLabel fs x cs)
       let q : ℕ → Bool = λ c. eqb (c % 256) k in
       sym (same_any cs (label fs x) same_label q) ∙ any_front q n cs (sym (shows k) ∙ h)
 
-  -- what a node has is shown by the print of all of them
-  pub shown : (print : List ℕ) → IsPrintOf cs print → ShowsAll fs x print
-  shown print shows c h =
-      shows (c % 256) ∙ any_at (λ d. eqb (d % 256) (c % 256)) c cs (is c ∙ h) (eq-eqb (c % 256) (c % 256) refl)
+-- each of some concepts has its bit in their print
+pub shown : (cs print : List ℕ) → IsPrintOf cs print → (c : ℕ) → is_in c cs ≡ true
+    → set.contains (number_set print) (c % 256) ≡ true
+shown cs print shows c h =
+    shows (c % 256) ∙ any_at (λ d. eqb (d % 256) (c % 256)) c cs h (eq-eqb (c % 256) (c % 256) refl)
 
 -- where a list's concepts are all shown by another print, their own print is part of it
 pub all_shown : (p : ℕ → Bool) (cs print other : List ℕ) → IsPrintWithin cs print → list_all p cs ≡ true

@@ -1,4 +1,5 @@
 pub mod Labels
+pub mod Hinted
 pub mod BlockLists
 pub mod Sieve
 pub mod Touched

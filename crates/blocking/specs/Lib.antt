@@ -1,3 +1,4 @@
+pub mod Hinted
 pub mod Followed
 pub mod Changed
 pub mod Laws

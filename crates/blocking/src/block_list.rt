@@ -1,46 +1,56 @@
-// The blocks of a tree's nodes, and prints of what they have.
-ghost use Rattle.std.specs.Prelude.{◌≡◌, ℕ, ◌+◌, ◌^◌, ◌<◌, ◌≤◌, length, take, slice_index, slice_index_or, false, ◌↔◌};
-ghost use Rattle.std.specs.Prelude.{IsTrue, OnOk, OnErr};
+// The blocks of a tree's nodes, and what is known of each node.
+ghost use Rattle.std.specs.Prelude.{◌≡◌, ℕ, ◌+◌, ◌%◌, ◌==◌, ◌&&◌, ◌<◌, ◌≤◌, length, true, false, List, [], ◌∷◌, ◌↔◌, IsTrue, IfSome, OnOk, OnErr};
+ghost use Rattle.std.specs.Prelude.{slice_index_or};
 ghost use Rattle.std.specs.List.{list_all};
-ghost use Rattle.lane_sieve.specs.Words.{places};
+ghost use Rattle.std.specs.FinSet as set;
+ghost use Rattle.lane_sieve.specs.Sets.{number_set};
+ghost use Rattle.calculus_specs.specs.Joins.{rep};
 ghost use Rattle.calculus_specs.specs.State.{node_count_from, has as has_concept, label as label_of, is_label_part};
 ghost use Rattle.calculus_specs.specs.State.{parent_from};
 ghost use Rattle.tableau_specs.specs.declared.Block.TheVariants.{Clear, By, Under};
-ghost use Rattle.tableau_specs.specs.Blocked.{is_parent_clear, may_block, is_clear as is_clear_of, block_of};
+ghost use Rattle.tableau_specs.specs.Blocked.{is_parent_clear, may_block, is_clear as is_clear_of, block_of, blocked_from};
 ghost use Rattle.completion_tree.specs.Trail.{facts_in};
-ghost use Rattle.blocking.specs.Followed.{no_prints, printed_more, printed_first, IsPrintWithin, ShowsAll, IsSound};
-ghost use Rattle.blocking.specs.Followed.{IsFollowed, AreBlocksBelow, AreFirstBlocks, IsCurrent, blocked_among};
+ghost use Rattle.blocking.specs.Followed.{no_prints, printed_first, IsPrintWithin, IsBound, blocked_among};
+ghost use Rattle.blocking.specs.Followed.{IsFollowed, AreBlocksBelow, AreFirstBlocks, IsCurrent};
+ghost use Rattle.blocking.specs.Hinted.{known_of, known_with, is_among, IsHint, IsHintBound, IsShown};
 
+use crate::hints::{Hints, Known};
 use crate::print::{full_print, print_of};
 use crate::{Block, BlockEffort};
 use calculus_specs::NoMemory;
 use completion_tree::Tree;
-use lane_sieve::{Lanes, candidates};
 use std::alloc::{Allocator, Global};
 use std::marker::Model;
 
 // No more concepts than these are looked through for a print.
 const MANY: usize = 512;
 
-/// The blocks of a tree's nodes, and a print of what each has.
+/// The blocks of a tree's nodes, and what is known of each node.
 #[derive(Drop)]
 pub struct Blocks {
+    heap: Global,
     blocks: Vec<Block>,
-    prints: Lanes,
+    // Of these nodes, and maybe of others behind them, as they were when their blocks were found last.
+    hints: Hints,
     // Room for the places that the sieve finds.
     found: Vec<u32>,
     effort: BlockEffort,
 }
 
 impl Model for Blocks {
-    ghost use Rattle.std.specs.Prelude.{◌≡◌, ◌≤◌, length};
+    ghost use Rattle.std.specs.Prelude.{◌≤◌, length, take};
     ghost use Rattle.blocking.specs.Followed.{Printed};
+    ghost use Rattle.blocking.specs.Hinted.{AreExact};
 
     ghost Value = { Printed };
 
-    ghost view = { λ p. record { blocks = p.blocks.items; prints = p.prints } };
+    ghost view = { λ p. record {
+      blocks = p.blocks.items;
+      known = take (length p.blocks.items) p.hints.known;
+    } };
 
-    ghost invariant = { λ p. (length p.prints ≡ length p.blocks.items) × (length p.prints ≤ length p.found.items) };
+    ghost invariant = { λ p. (length p.blocks.items ≤ length p.hints.known)
+        × (length p.hints.known ≤ length p.found.items) × AreExact p.hints.known (length p.blocks.items) };
 }
 
 impl Blocks {
@@ -49,8 +59,9 @@ impl Blocks {
         ensures { result ≡ no_prints }
     {
         Blocks {
+            heap: alloc,
             blocks: Vec::new(alloc),
-            prints: Lanes::new(alloc),
+            hints: Hints::new(alloc),
             found: Vec::new(alloc),
             effort: BlockEffort::new(),
         }
@@ -70,6 +81,7 @@ impl Blocks {
         for node in from..tree.nodes() {
             self.follow_node(tree, node)?;
         }
+        self.settle();
         Ok(())
     }
 
@@ -77,7 +89,8 @@ impl Blocks {
     pub fn len(&self) -> u32
         ensures { result ≡ length self.now.blocks }
     {
-        self.prints.len()
+        let _ = self.hints.len();
+        self.blocks.len() as u32
     }
 
     /// What was done to find blocks. No contract speaks of these counts.
@@ -109,14 +122,20 @@ impl Blocks {
         self.follow(tree, len)
     }
 
-    // Keeps what there is of the nodes below `len` alone.
+    // Keeps the blocks of the nodes below `len` alone, where they are there.
     fn cut(&mut self, len: u32)
-        requires blocks { len ≤ length self.old.blocks }
-        requires prints { len ≤ length self.old.prints }
+        requires { len ≤ length self.old.blocks }
         ensures { self.new ≡ printed_first len self.old }
     {
         self.blocks.truncate(len as usize);
-        self.prints.cut(len);
+    }
+
+    // Forgets what is known of nodes of which there is no block.
+    fn settle(&mut self)
+        ensures { self.new ≡ self.old }
+    {
+        let len = self.len();
+        self.hints.settle(len);
     }
 
     // Finds the block of one node more.
@@ -130,33 +149,14 @@ impl Blocks {
         ensures followed { OnOk result (IsFollowed tree.now.first (facts_in tree.now.entries) (node + 1) self.new) }
         ensures unchanged { OnErr result (self.new ≡ self.old) }
     {
-        let block = self.find(tree, node, print_to_ask(tree, node));
-        self.put(block, print_to_keep(tree, node, block))
+        let block = self.find(tree, node);
+        self.put_block(tree, node, block)
     }
 
-    // Puts the block and the print of one node more last.
-    fn put(&mut self, block: Block, print: [u64; 4]) -> Result<(), NoMemory>
-        ensures put { OnOk result (self.new ≡ printed_more self.old block print) }
-        ensures unchanged { OnErr result (self.new ≡ self.old) }
-    {
-        let len = self.prints.len();
-        if self.found.len() == len as usize {
-            self.found.push(0)?;
-        }
-        self.prints.push(print)?;
-        if self.blocks.push(block).is_err() {
-            self.prints.cut(len);
-            return Err(NoMemory);
-        }
-        Ok(())
-    }
-
-    // The block of the node behind those that are there, which has what this print shows.
-    fn find<A: Allocator + Copy>(&mut self, tree: &Tree<A>, node: u32, print: [u64; 4]) -> Block
+    // The block of the node behind those that are there.
+    fn find<A: Allocator + Copy>(&mut self, tree: &Tree<A>, node: u32) -> Block
         requires node { node < node_count_from tree.now.first (facts_in tree.now.entries) }
         requires followed { IsFollowed tree.now.first (facts_in tree.now.entries) node self.old }
-        requires print { IsPrintWithin (label_of (facts_in tree.now.entries) node) print }
-        requires words { length print ≡ 4 }
         ensures block { result ≡ block_of tree.now.first (facts_in tree.now.entries) node }
         ensures unchanged { self.new ≡ self.old }
     {
@@ -167,42 +167,211 @@ impl Blocks {
         if !has_clear_parent(tree, self.blocks.as_slice(), node) {
             return Block::Under;
         }
+        self.find_behind(tree, node)
+    }
+
+    // The same, of a node that is no first one and whose parent is clear.
+    fn find_behind<A: Allocator + Copy>(&mut self, tree: &Tree<A>, node: u32) -> Block
+        requires node { node < node_count_from tree.now.first (facts_in tree.now.entries) }
+        requires followed { IsFollowed tree.now.first (facts_in tree.now.entries) node self.old }
+        ensures block { result ≡ blocked_from (facts_in tree.now.entries) self.old.blocks node 0 node }
+        ensures unchanged { self.new ≡ self.old }
+    {
+        match bound_of(&self.hints, tree.label(node), node) {
+            Some(bound) => {
+                let blocks = self.blocks.as_slice();
+                lowered(tree, blocks, self.hints.changed(), node, bound)
+            }
+            None => self.find_anywhere(tree, node, print_to_ask(tree, node)),
+        }
+    }
+
+    // The same, by a look through the prints of all nodes: the node has what this print shows.
+    fn find_anywhere<A: Allocator + Copy>(
+        &mut self,
+        tree: &Tree<A>,
+        node: u32,
+        print: [u64; 4],
+    ) -> Block
+        requires node { node < node_count_from tree.now.first (facts_in tree.now.entries) }
+        requires followed { IsFollowed tree.now.first (facts_in tree.now.entries) node self.old }
+        requires print { IsPrintWithin (label_of (facts_in tree.now.entries) node) print }
+        requires words { length print ≡ 4 }
+        ensures block { result ≡ blocked_from (facts_in tree.now.entries) self.old.blocks node 0 node }
+        ensures unchanged { self.new ≡ self.old }
+    {
         self.effort = self.effort.with_sieve();
-        let count = sift(&print, &self.prints, &mut self.found);
+        let count = self.hints.sift(&print, &mut self.found);
         first_blocking(tree, self.blocks.as_slice(), &self.found[..count], node)
+    }
+
+    // Puts the block of one node more, and what is known of the node.
+    fn put_block<A: Allocator + Copy>(
+        &mut self,
+        tree: &Tree<A>,
+        node: u32,
+        block: Block,
+    ) -> Result<(), NoMemory>
+        requires node { node < node_count_from tree.now.first (facts_in tree.now.entries) }
+        requires followed { IsFollowed tree.now.first (facts_in tree.now.entries) node self.old }
+        requires block { block ≡ block_of tree.now.first (facts_in tree.now.entries) node }
+        ensures followed { OnOk result (IsFollowed tree.now.first (facts_in tree.now.entries) (node + 1) self.new) }
+        ensures unchanged { OnErr result (self.new ≡ self.old) }
+    {
+        let may_block = can_block(tree, node, block);
+        let hint = hint_of(tree, node, block);
+        make_room(&mut self.found, node)?;
+        self.blocks.push(block)?;
+        match put_known(
+            self.heap,
+            &mut self.hints,
+            tree.label(node),
+            node,
+            may_block,
+            hint,
+        ) {
+            Ok(()) => Ok(()),
+            Err(error) => {
+                self.blocks.truncate(node as usize);
+                Err(error)
+            }
+        }
     }
 }
 
-// Writes the places of the prints that have this one in them to the front, and answers how many these are.
-fn sift(print: &[u64; 4], prints: &Lanes, found: &mut Vec<u32>) -> usize
-    requires { length prints.now ≤ length found.old.items }
-    ensures found { take result found.new.items ≡ places 0 print.now prints.now }
-    ensures within { result ≤ length found.new.items }
-    ensures length { length found.new.items ≡ length found.old.items }
-    ensures fits { (i : ℕ) → slice_index print.now i < 2 ^ 64 }
+// Has room for one place more than so many.
+fn make_room(found: &mut Vec<u32>, count: u32) -> Result<(), NoMemory>
+    ensures more { length found.old.items ≤ length found.new.items }
+    ensures room { OnOk result (count ≤ length found.old.items → count + 1 ≤ length found.new.items) }
 {
-    candidates(*print, prints, found.as_mut_slice())
+    if found.len() == count as usize {
+        found.push(0)?;
+    }
+    Ok(())
 }
 
-// The print that is kept of the node, which has this block: of what can block no other node an empty one, which has no
-// print in it.
-fn print_to_keep<A: Allocator + Copy>(tree: &Tree<A>, node: u32, block: Block) -> [u64; 4]
-    requires { block ≡ block_of tree.now.first (facts_in tree.now.entries) node }
-    ensures { IsSound tree.now.first (facts_in tree.now.entries) node result }
+// Knows this of a node.
+fn put_known(
+    heap: Global,
+    hints: &mut Hints,
+    label: &[u32],
+    node: u32,
+    may_block: bool,
+    hint: Block,
+) -> Result<(), NoMemory>
+    requires there { node ≤ length hints.old.known }
+    requires hint { IsHint hints.old.known [] node label.now hint }
+    ensures put { OnOk result (hints.new.known ≡ known_with hints.old.known node (known_of label.now may_block hint)) }
+    ensures unchanged { OnErr result (hints.new.known ≡ hints.old.known) }
 {
-    if is_clear_block(block) && tree.representative(node) == node {
-        print_of_all(tree, node)
+    if hints.has_label(node, label) && hints.may_block(node) == may_block {
+        hints.renew(node, hint);
+        return Ok(());
+    }
+    let known = Known::new(heap, label, may_block, hint)?;
+    hints.put(node, known, print_to_keep(label, may_block))
+}
+
+// Whether a node with this block can block others: a clear representative.
+fn can_block<A: Allocator + Copy>(tree: &Tree<A>, node: u32, block: Block) -> bool
+    ensures { result ≡ ((rep (facts_in tree.now.entries) node == node) && is_clear_of block) }
+{
+    tree.representative(node) == node && is_clear_block(block)
+}
+
+// What the block of a node says of nodes before it. That of a first node says nothing, since it is clear in any case.
+fn hint_of<A: Allocator + Copy>(tree: &Tree<A>, node: u32, block: Block) -> Block
+    ensures first { node < tree.now.first → result ≡ Under }
+    ensures other { tree.now.first ≤ node → result ≡ block }
+{
+    if node < tree.first() {
+        Block::Under
+    } else {
+        block
+    }
+}
+
+// A number below which no node blocks this one but maybe one that has changed: the node that blocked it before, or its
+// own number. There is none where its label or the node that blocked it has changed, or where its parent was not clear.
+fn bound_of(hints: &Hints, label: &[u32], node: u32) -> Option<u32>
+    ensures { IfSome result (IsHintBound hints.now.known hints.now.changed node label.now) }
+{
+    if !hints.has_label(node, label) {
+        return None;
+    }
+    match hints.hint(node) {
+        Block::Clear => Some(node),
+        Block::By(other) if !hints.has_changed(other) => Some(other),
+        Block::By(_) => None,
+        Block::Under => None,
+    }
+}
+
+// The block of a node that none of the nodes below this one blocks but maybe some of these.
+fn lowered<A: Allocator + Copy>(
+    tree: &Tree<A>,
+    blocks: &[Block],
+    changed: &[u32],
+    node: u32,
+    bound: u32,
+) -> Block
+    requires { IsBound (facts_in tree.now.entries) blocks.now node changed.now bound }
+    ensures { result ≡ blocked_from (facts_in tree.now.entries) blocks.now node 0 node }
+{
+    let mut least = bound;
+    for other in changed {
+        least = lower(tree, blocks, node, least, *other);
+    }
+    block_before(node, least)
+}
+
+// The lesser of a bound and another node, where that blocks the node.
+fn lower<A: Allocator + Copy>(
+    tree: &Tree<A>,
+    blocks: &[Block],
+    node: u32,
+    bound: u32,
+    other: u32,
+) -> u32
+    ensures { (left : List ℕ) → IsBound (facts_in tree.now.entries) blocks.now node (other ∷ left) bound
+        → IsBound (facts_in tree.now.entries) blocks.now node left result }
+{
+    if other < bound && may_block_node(tree, blocks, node, other) {
+        other
+    } else {
+        bound
+    }
+}
+
+// The block of a node that is blocked by this one, if it comes before it, and else by none.
+fn block_before(node: u32, least: u32) -> Block
+    ensures by { least < node → result ≡ By least }
+    ensures clear { node ≤ least → result ≡ Clear }
+{
+    if least < node {
+        Block::By(least)
+    } else {
+        Block::Clear
+    }
+}
+
+// The print that is kept of a node with these concepts: where it can block no other node an empty one, which has no
+// print in it.
+fn print_to_keep(label: &[u32], may_block: bool) -> [u64; 4]
+    ensures { IsShown may_block label.now result }
+{
+    if may_block {
+        print_of_all(label)
     } else {
         [0; 4]
     }
 }
 
-// A print with the bit of each concept that a node has. Where there are many, nearly every bit is one of theirs.
-fn print_of_all<A: Allocator + Copy>(tree: &Tree<A>, node: u32) -> [u64; 4]
+// A print with the bit of each of these concepts. Where there are many, nearly every bit is one of theirs.
+fn print_of_all(label: &[u32]) -> [u64; 4]
     ensures words { length result ≡ 4 }
-    ensures shows { ShowsAll (facts_in tree.now.entries) node result }
+    ensures shows { (c : ℕ) → is_among c label.now ≡ true → set.contains (number_set result) (c % 256) ≡ true }
 {
-    let label = tree.label(node);
     if label.len() > MANY {
         return full_print();
     }

@@ -16,6 +16,7 @@
 mod block_list;
 mod changed;
 mod effort;
+mod hints;
 mod laws;
 mod print;
 

@@ -9,8 +9,8 @@ on_err : {T E : Type 0} (r : Result T E) (P : Type 0) → P → OnErr r P
 on_err (Ok x) P h = tt
 on_err (Err e) P h = h
 
-pub cut-requires-clause-blocks : goal.cut-requires-clause-blocks
-cut-requires-clause-blocks g c =
+pub cut-requires : goal.cut-requires
+cut-requires g c =
     enough_blocks c.args.tree.now.first (facts_in c.args.tree.now.entries) c.args.from c.args.self.now c.requires
 
 pub returns-in_err-follow_node-clause-kept : goal.returns-in_err-follow_node-clause-kept

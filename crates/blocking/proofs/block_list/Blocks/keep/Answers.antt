@@ -4,8 +4,8 @@ use Rattle.completion_tree.specs.Trail.{facts_in}
 use Rattle.blocking.proofs.BlockLists.{enough_blocks, first_kept}
 use Rattle.blocking.proofs.block_list.Blocks.keep.Goals as goal
 
-pub cut-requires-clause-blocks : goal.cut-requires-clause-blocks
-cut-requires-clause-blocks g c =
+pub cut-requires : goal.cut-requires
+cut-requires g c =
     enough_blocks c.args.tree.now.first (facts_in c.args.tree.now.entries) c.args.len c.args.self.now c.requires
 
 pub returns-clause-first : goal.returns-clause-first
