@@ -57,7 +57,7 @@ impl<'b, A: Allocator + Copy> Progress<'b, A> {
             marks: Vec::new(heap),
             clash,
             steps: 0,
-            agenda: Agenda::new(heap),
+            agenda: Agenda::new(heap, at),
             effort: Effort::new(),
         })
     }

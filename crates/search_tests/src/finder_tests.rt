@@ -200,7 +200,7 @@ fn goes_as_it_should(
 
 fn go_by_rules(heap: Global, rules: &SearchRules<'_>, walk: Walk) -> Result<bool, NoMemory> {
     let mut tree = Tree::new_in(heap, rules.first())?;
-    let mut agenda = Agenda::new(heap);
+    let mut agenda = Agenda::new(heap, 0);
     let outcome = goes_as_it_should(heap, &mut agenda, &mut tree, rules, walk);
     drop(agenda);
     drop(tree);

@@ -2,6 +2,7 @@
 ghost use Rattle.std.specs.Prelude.{◌≡◌, ◌<◌, IfSome};
 ghost use Rattle.step_finders.specs.Reasons.{IsAddition};
 
+use crate::nearness::Nearness;
 use blocking::{Item, Tree};
 use calculus_specs::Fact;
 use std::alloc::Allocator;
@@ -29,23 +30,28 @@ pub(crate) fn first_addition<A: Allocator + Copy, S: State, R: Rules>(
     (tree.len(), None)
 }
 
-/// The first of the first nodes from this one on to which a row that is used at each node adds a concept, and what; or
-/// the number of first nodes.
+/// The first rank from `from` on and below `to`, in the order of nearness, of a first node to which a row that is used at
+/// each node adds a concept, and what; or `to`.
 pub(crate) fn first_general<S: State, R: Rules>(
     state: &S,
     rules: &R,
-    from: u32,
-) -> (u32, Option<Addition>)
+    nearness: &Nearness,
+    from: usize,
+    to: usize,
+) -> (usize, Option<Addition>)
     requires one_first { S.first state.now ≡ (R.context rules.now).first }
     ensures { IfSome result.1 (IsAddition (R.context rules.now) (S.facts state.now) (R.files rules.now)) }
 {
-    for node in from..rules.first() {
-        match in_general(state, rules, node) {
-            Some(addition) => return (node, Some(addition)),
+    for rank in from..to {
+        match nearness.node(rank) {
+            Some(node) => match in_general(state, rules, node) {
+                Some(addition) => return (rank, Some(addition)),
+                None => {}
+            },
             None => {}
         }
     }
-    (rules.first(), None)
+    (to, None)
 }
 
 // What the entry adds.

@@ -8,6 +8,7 @@ use crate::branchings::{Wanted, first_branching};
 use crate::forced::first_forced;
 use crate::givings::first_giving;
 use crate::makings::{Held, first_below_first, first_held, first_making};
+use crate::nearness::Nearness;
 use crate::watched::UnionIndex;
 use blocking::{Tree, least_changed};
 use std::alloc::{Allocator, Global};
@@ -16,10 +17,12 @@ use step_finders::{Rules, State, StateWithBlocks, Step};
 // Up to which entry of the trail, from 0, a search has looked for each kind of step.
 #[derive(Clone, Copy, Debug, PartialEq, Eq)]
 struct Cursors {
-    // Up to which of the given facts it has looked for one that is not so.
+    // The last ring of given facts that is open.
+    ring: usize,
+    // Up to which of the given facts, by nearness, it has looked for one that is not so.
     given: usize,
-    // Up to which of the first nodes it has looked for what rows add that are used at each node.
-    general: u32,
+    // Up to which of the first nodes, by nearness, it has looked for what rows add that are used at each node.
+    general: usize,
     additions: u32,
     forced: u32,
     pairs: u32,
@@ -38,6 +41,7 @@ impl Cursors {
     // At the first entry.
     fn start() -> Cursors {
         Cursors {
+            ring: 0,
             given: 0,
             general: 0,
             additions: 0,
@@ -62,18 +66,23 @@ pub struct Agenda {
     saved: Vec<Cursors>,
     // The entries that were passed over since their nodes were not clear, in order.
     held: Vec<Held>,
+    // The node in question, and in which order facts are given around it, once a step was looked for.
+    at: u32,
+    nearness: Nearness,
     index: UnionIndex,
     // How many entries were looked at, each once for each kind of step.
     looks: u64,
 }
 
 impl Agenda {
-    /// Nothing was looked at. It takes no memory.
-    pub fn new(heap: Global) -> Agenda {
+    /// Nothing was looked at; the search asks of the first node `at`. It takes no memory.
+    pub fn new(heap: Global, at: u32) -> Agenda {
         Agenda {
             cursors: Cursors::start(),
             saved: Vec::new(heap),
             held: Vec::new(heap),
+            at,
+            nearness: Nearness::none(heap),
             index: UnionIndex::new(heap),
             looks: 0,
         }
@@ -118,9 +127,8 @@ impl Agenda {
         self.looks = self.looks.wrapping_add(count);
     }
 
-    /// A step that can be made whatever is blocked, where one is seen at the facts that were not looked at before:
-    /// given facts before all others; then concepts; then a part of a union of which at most one part does not clash at
-    /// once; then whether two successors are one, where there may be too many. Of each kind, the oldest.
+    /// A step that can be made whatever is blocked, where one is seen at the facts that were not looked at before. These
+    /// are the phases of a look, in their order; the first step that one of them finds is taken, of each the oldest.
     ///
     /// # Errors
     ///
@@ -136,166 +144,32 @@ impl Agenda {
         ensures { IfOk result
             (λ found. IfSome found (IsStep (R.context rules.now) (S.facts state.now) (R.files rules.now))) }
     {
-        let (place, giving) = first_giving(state, rules, self.cursors.given);
-        self.cursors.given = place;
-        match giving {
-            Some(given) => Ok(Some(Step::Give(given))),
-            None => self.next_general(heap, tree, state, rules),
+        if let Some(step) = self.given(heap, state, rules)? {
+            return Ok(Some(step));
         }
+        if let Some(step) = self.general(state, rules) {
+            return Ok(Some(step));
+        }
+        if let Some(step) = self.addition(tree, state, rules) {
+            return Ok(Some(step));
+        }
+        if let Some(step) = self.forced(tree, state, rules)? {
+            return Ok(Some(step));
+        }
+        if let Some(step) = self.outwards(state, rules) {
+            return Ok(Some(step));
+        }
+        if let Some(step) = self.pair(heap, tree, state, rules)? {
+            return Ok(Some(step));
+        }
+        if let Some(step) = self.below_first(heap, tree, state, rules)? {
+            return Ok(Some(step));
+        }
+        self.first_union(heap, tree, state, rules)
     }
 
-    // A concept that each node has, at a first node, or what comes after that.
-    fn next_general<A: Allocator + Copy, S: State, R: Rules>(
-        &mut self,
-        heap: Global,
-        tree: &Tree<A>,
-        state: &S,
-        rules: &R,
-    ) -> Result<Option<Step>, NoMemory>
-        requires one_first { S.first state.now ≡ (R.context rules.now).first }
-        ensures { IfOk result
-            (λ found. IfSome found (IsStep (R.context rules.now) (S.facts state.now) (R.files rules.now))) }
-    {
-        let (node, addition) = first_general(state, rules, self.cursors.general);
-        self.cursors.general = node;
-        match addition {
-            Some(addition) => Ok(Some(Step::Add(addition))),
-            None => self.next_addition(heap, tree, state, rules),
-        }
-    }
-
-    // A concept that an entry adds, or what comes after that.
-    fn next_addition<A: Allocator + Copy, S: State, R: Rules>(
-        &mut self,
-        heap: Global,
-        tree: &Tree<A>,
-        state: &S,
-        rules: &R,
-    ) -> Result<Option<Step>, NoMemory>
-        requires one_first { S.first state.now ≡ (R.context rules.now).first }
-        ensures { IfOk result
-            (λ found. IfSome found (IsStep (R.context rules.now) (S.facts state.now) (R.files rules.now))) }
-    {
-        let (place, addition) = first_addition(tree, state, rules, self.cursors.additions);
-        self.count_looks(self.cursors.additions, place);
-        self.cursors.additions = place;
-        match addition {
-            Some(addition) => Ok(Some(Step::Add(addition))),
-            None => self.next_forced(heap, tree, state, rules),
-        }
-    }
-
-    // A part of a union of which at most one part does not clash at once, or what comes after that.
-    fn next_forced<A: Allocator + Copy, S: State, R: Rules>(
-        &mut self,
-        heap: Global,
-        tree: &Tree<A>,
-        state: &S,
-        rules: &R,
-    ) -> Result<Option<Step>, NoMemory>
-        requires one_first { S.first state.now ≡ (R.context rules.now).first }
-        ensures { IfOk result
-            (λ found. IfSome found (IsStep (R.context rules.now) (S.facts state.now) (R.files rules.now))) }
-    {
-        let (place, forced) = first_forced(
-            tree,
-            state,
-            rules,
-            &mut self.index,
-            self.cursors.forced,
-        )?;
-        self.count_looks(self.cursors.forced, place);
-        self.cursors.forced = place;
-        match forced {
-            Some(choosing) => Ok(Some(Step::Choose(choosing))),
-            None => self.next_pair(heap, tree, state, rules),
-        }
-    }
-
-    // Whether two successors are one, or what comes after that.
-    fn next_pair<A: Allocator + Copy, S: State, R: Rules>(
-        &mut self,
-        heap: Global,
-        tree: &Tree<A>,
-        state: &S,
-        rules: &R,
-    ) -> Result<Option<Step>, NoMemory>
-        requires one_first { S.first state.now ≡ (R.context rules.now).first }
-        ensures { IfOk result
-            (λ found. IfSome found (IsStep (R.context rules.now) (S.facts state.now) (R.files rules.now))) }
-    {
-        let (place, pair) = first_branching(
-            heap,
-            tree,
-            state,
-            rules,
-            Wanted::Pair,
-            self.cursors.pairs,
-        )?;
-        self.count_looks(self.cursors.pairs, place);
-        self.cursors.pairs = place;
-        match pair {
-            Some(choosing) => Ok(Some(Step::Choose(choosing))),
-            None if rules.first() == 1 => Ok(None),
-            None => self.next_below_first(heap, tree, state, rules),
-        }
-    }
-
-    // New nodes below first nodes, or what comes after that. Here and in what follows first nodes are those of
-    // individuals: what is said of one of them mostly changes no other, but the blocks of all nodes after it would have
-    // to be found again.
-    fn next_below_first<A: Allocator + Copy, S: State, R: Rules>(
-        &mut self,
-        heap: Global,
-        tree: &Tree<A>,
-        state: &S,
-        rules: &R,
-    ) -> Result<Option<Step>, NoMemory>
-        requires one_first { S.first state.now ≡ (R.context rules.now).first }
-        ensures { IfOk result
-            (λ found. IfSome found (IsStep (R.context rules.now) (S.facts state.now) (R.files rules.now))) }
-    {
-        let from = self.cursors.first_makings;
-        let (place, making) = first_below_first(heap, tree, state, rules, from)?;
-        self.count_looks(from, place);
-        self.cursors.first_makings = place;
-        match making {
-            Some(new) => Ok(Some(Step::Generate(new))),
-            None => self.next_first_union(heap, tree, state, rules),
-        }
-    }
-
-    // A part of a union of a first node.
-    fn next_first_union<A: Allocator + Copy, S: State, R: Rules>(
-        &mut self,
-        heap: Global,
-        tree: &Tree<A>,
-        state: &S,
-        rules: &R,
-    ) -> Result<Option<Step>, NoMemory>
-        requires one_first { S.first state.now ≡ (R.context rules.now).first }
-        ensures { IfOk result
-            (λ found. IfSome found (IsStep (R.context rules.now) (S.facts state.now) (R.files rules.now))) }
-    {
-        let (place, union) = first_branching(
-            heap,
-            tree,
-            state,
-            rules,
-            Wanted::FirstPart,
-            self.cursors.first_unions,
-        )?;
-        self.count_looks(self.cursors.first_unions, place);
-        self.cursors.first_unions = place;
-        match union {
-            Some(choosing) => Ok(Some(Step::Choose(choosing))),
-            None => Ok(None),
-        }
-    }
-
-    /// A step that can be made where none is seen that can be made whatever is blocked: new nodes first, those of nodes
-    /// last that were not clear when they were looked at; then unions, and last which successors have a filler. Of each
-    /// kind, the oldest.
+    /// A step that can be made where none is seen that can be made whatever is blocked. These are the phases that come
+    /// behind the others.
     ///
     /// # Errors
     ///
@@ -311,24 +185,211 @@ impl Agenda {
         ensures { IfOk result
             (λ found. IfSome found (IsStep (R.context rules.now) (S.facts state.now) (R.files rules.now))) }
     {
-        let (place, making) = first_making(
-            heap,
-            tree,
-            state,
-            rules,
-            &mut self.held,
-            self.cursors.makings,
-        )?;
-        self.count_looks(self.cursors.makings, place);
-        self.cursors.makings = place;
-        match making {
-            Some(new) => Ok(Some(Step::Generate(new))),
-            None => self.next_held(heap, tree, state, rules),
+        if let Some(step) = self.making(heap, tree, state, rules)? {
+            return Ok(Some(step));
+        }
+        if let Some(step) = self.held(heap, tree, state, rules)? {
+            return Ok(Some(step));
+        }
+        if let Some(step) = self.union(heap, tree, state, rules)? {
+            return Ok(Some(step));
+        }
+        self.most(heap, tree, state, rules)
+    }
+
+    // A given fact that is not so, of the rings that are open.
+    fn given<S: State, R: Rules>(
+        &mut self,
+        heap: Global,
+        state: &S,
+        rules: &R,
+    ) -> Result<Option<Step>, NoMemory>
+        requires one_first { S.first state.now ≡ (R.context rules.now).first }
+        ensures { IfOk result
+            (λ found. IfSome found (IsStep (R.context rules.now) (S.facts state.now) (R.files rules.now))) }
+    {
+        if !self.nearness.is_made() {
+            self.nearness = Nearness::around(heap, rules, self.at)?;
+        }
+        let to = self.nearness.facts_within(self.cursors.ring);
+        let (rank, given) = first_giving(state, rules, &self.nearness, self.cursors.given, to);
+        self.cursors.given = rank;
+        match given {
+            Some(given) => Ok(Some(Step::Give(given))),
+            None => Ok(None),
         }
     }
 
-    // New nodes below one that was not clear when it was looked at, or what comes after them.
-    fn next_held<A: Allocator + Copy, S: StateWithBlocks, R: Rules>(
+    // A concept that each node has, at a first node of these rings.
+    fn general<S: State, R: Rules>(&mut self, state: &S, rules: &R) -> Option<Step>
+        requires one_first { S.first state.now ≡ (R.context rules.now).first }
+        ensures { IfSome result (IsStep (R.context rules.now) (S.facts state.now) (R.files rules.now)) }
+    {
+        let to = self.nearness.nodes_within(self.cursors.ring);
+        let (rank, addition) = first_general(
+            state,
+            rules,
+            &self.nearness,
+            self.cursors.general,
+            to,
+        );
+        self.cursors.general = rank;
+        Some(Step::Add(addition?))
+    }
+
+    // The next given fact that is not so, of whichever ring, up to which all are open then. Where there is none, all
+    // are, and a concept is looked for that each node has. Where all were open before, nothing is looked for.
+    fn outwards<S: State, R: Rules>(&mut self, state: &S, rules: &R) -> Option<Step>
+        requires one_first { S.first state.now ≡ (R.context rules.now).first }
+        ensures { IfSome result (IsStep (R.context rules.now) (S.facts state.now) (R.files rules.now)) }
+    {
+        if self.cursors.ring >= self.nearness.ring_count() {
+            return None;
+        }
+        let to = self.nearness.fact_count();
+        let (rank, given) = first_giving(state, rules, &self.nearness, self.cursors.given, to);
+        self.cursors.given = rank;
+        self.cursors.ring = self.nearness.ring_of(rank, self.cursors.ring);
+        match given {
+            Some(given) => Some(Step::Give(given)),
+            None => self.general(state, rules),
+        }
+    }
+
+    // A concept that an entry adds.
+    fn addition<A: Allocator + Copy, S: State, R: Rules>(
+        &mut self,
+        tree: &Tree<A>,
+        state: &S,
+        rules: &R,
+    ) -> Option<Step>
+        requires one_first { S.first state.now ≡ (R.context rules.now).first }
+        ensures { IfSome result (IsStep (R.context rules.now) (S.facts state.now) (R.files rules.now)) }
+    {
+        let (place, addition) = first_addition(tree, state, rules, self.cursors.additions);
+        self.count_looks(self.cursors.additions, place);
+        self.cursors.additions = place;
+        Some(Step::Add(addition?))
+    }
+
+    // A part of a union of which at most one part does not clash at once.
+    fn forced<A: Allocator + Copy, S: State, R: Rules>(
+        &mut self,
+        tree: &Tree<A>,
+        state: &S,
+        rules: &R,
+    ) -> Result<Option<Step>, NoMemory>
+        requires one_first { S.first state.now ≡ (R.context rules.now).first }
+        ensures { IfOk result
+            (λ found. IfSome found (IsStep (R.context rules.now) (S.facts state.now) (R.files rules.now))) }
+    {
+        let from = self.cursors.forced;
+        let (place, forced) = first_forced(tree, state, rules, &mut self.index, from)?;
+        self.count_looks(from, place);
+        self.cursors.forced = place;
+        match forced {
+            Some(choosing) => Ok(Some(Step::Choose(choosing))),
+            None => Ok(None),
+        }
+    }
+
+    // Whether two successors are one, where there may be too many.
+    fn pair<A: Allocator + Copy, S: State, R: Rules>(
+        &mut self,
+        heap: Global,
+        tree: &Tree<A>,
+        state: &S,
+        rules: &R,
+    ) -> Result<Option<Step>, NoMemory>
+        requires one_first { S.first state.now ≡ (R.context rules.now).first }
+        ensures { IfOk result
+            (λ found. IfSome found (IsStep (R.context rules.now) (S.facts state.now) (R.files rules.now))) }
+    {
+        let from = self.cursors.pairs;
+        let (place, pair) = first_branching(heap, tree, state, rules, Wanted::Pair, from)?;
+        self.count_looks(from, place);
+        self.cursors.pairs = place;
+        match pair {
+            Some(choosing) => Ok(Some(Step::Choose(choosing))),
+            None => Ok(None),
+        }
+    }
+
+    // New nodes below first nodes, where there are individuals, whose nodes these are. A first node is clear, whatever
+    // its label is, so they are made before blocks are looked at.
+    fn below_first<A: Allocator + Copy, S: State, R: Rules>(
+        &mut self,
+        heap: Global,
+        tree: &Tree<A>,
+        state: &S,
+        rules: &R,
+    ) -> Result<Option<Step>, NoMemory>
+        requires one_first { S.first state.now ≡ (R.context rules.now).first }
+        ensures { IfOk result
+            (λ found. IfSome found (IsStep (R.context rules.now) (S.facts state.now) (R.files rules.now))) }
+    {
+        if rules.first() == 1 {
+            return Ok(None);
+        }
+        let from = self.cursors.first_makings;
+        let (place, making) = first_below_first(heap, tree, state, rules, from)?;
+        self.count_looks(from, place);
+        self.cursors.first_makings = place;
+        match making {
+            Some(new) => Ok(Some(Step::Generate(new))),
+            None => Ok(None),
+        }
+    }
+
+    // A part of a union of a first node, where there are individuals.
+    fn first_union<A: Allocator + Copy, S: State, R: Rules>(
+        &mut self,
+        heap: Global,
+        tree: &Tree<A>,
+        state: &S,
+        rules: &R,
+    ) -> Result<Option<Step>, NoMemory>
+        requires one_first { S.first state.now ≡ (R.context rules.now).first }
+        ensures { IfOk result
+            (λ found. IfSome found (IsStep (R.context rules.now) (S.facts state.now) (R.files rules.now))) }
+    {
+        if rules.first() == 1 {
+            return Ok(None);
+        }
+        let from = self.cursors.first_unions;
+        let (place, union) = first_branching(heap, tree, state, rules, Wanted::FirstPart, from)?;
+        self.count_looks(from, place);
+        self.cursors.first_unions = place;
+        match union {
+            Some(choosing) => Ok(Some(Step::Choose(choosing))),
+            None => Ok(None),
+        }
+    }
+
+    // New nodes below a node that is clear.
+    fn making<A: Allocator + Copy, S: StateWithBlocks, R: Rules>(
+        &mut self,
+        heap: Global,
+        tree: &Tree<A>,
+        state: &S,
+        rules: &R,
+    ) -> Result<Option<Step>, NoMemory>
+        requires one_first { S.first state.now ≡ (R.context rules.now).first }
+        ensures { IfOk result
+            (λ found. IfSome found (IsStep (R.context rules.now) (S.facts state.now) (R.files rules.now))) }
+    {
+        let from = self.cursors.makings;
+        let (place, making) = first_making(heap, tree, state, rules, &mut self.held, from)?;
+        self.count_looks(from, place);
+        self.cursors.makings = place;
+        match making {
+            Some(new) => Ok(Some(Step::Generate(new))),
+            None => Ok(None),
+        }
+    }
+
+    // New nodes below one that was not clear when it was looked at.
+    fn held<A: Allocator + Copy, S: StateWithBlocks, R: Rules>(
         &mut self,
         heap: Global,
         tree: &Tree<A>,
@@ -346,13 +407,13 @@ impl Agenda {
             Some(new) => Ok(Some(Step::Generate(new))),
             None => {
                 self.cursors.touched = u32::MAX;
-                self.next_union(heap, tree, state, rules)
+                Ok(None)
             }
         }
     }
 
-    // A part of a union, or what comes after that.
-    fn next_union<A: Allocator + Copy, S: State, R: Rules>(
+    // A part of a union.
+    fn union<A: Allocator + Copy, S: State, R: Rules>(
         &mut self,
         heap: Global,
         tree: &Tree<A>,
@@ -363,24 +424,18 @@ impl Agenda {
         ensures { IfOk result
             (λ found. IfSome found (IsStep (R.context rules.now) (S.facts state.now) (R.files rules.now))) }
     {
-        let (place, union) = first_branching(
-            heap,
-            tree,
-            state,
-            rules,
-            Wanted::Part,
-            self.cursors.unions,
-        )?;
-        self.count_looks(self.cursors.unions, place);
+        let from = self.cursors.unions;
+        let (place, union) = first_branching(heap, tree, state, rules, Wanted::Part, from)?;
+        self.count_looks(from, place);
         self.cursors.unions = place;
         match union {
             Some(choosing) => Ok(Some(Step::Choose(choosing))),
-            None => self.next_most(heap, tree, state, rules),
+            None => Ok(None),
         }
     }
 
     // Whether a successor has a filler.
-    fn next_most<A: Allocator + Copy, S: State, R: Rules>(
+    fn most<A: Allocator + Copy, S: StateWithBlocks, R: Rules>(
         &mut self,
         heap: Global,
         tree: &Tree<A>,
@@ -391,15 +446,9 @@ impl Agenda {
         ensures { IfOk result
             (λ found. IfSome found (IsStep (R.context rules.now) (S.facts state.now) (R.files rules.now))) }
     {
-        let (place, most) = first_branching(
-            heap,
-            tree,
-            state,
-            rules,
-            Wanted::Most,
-            self.cursors.mosts,
-        )?;
-        self.count_looks(self.cursors.mosts, place);
+        let from = self.cursors.mosts;
+        let (place, most) = first_branching(heap, tree, state, rules, Wanted::Most, from)?;
+        self.count_looks(from, place);
         self.cursors.mosts = place;
         match most {
             Some(choosing) => Ok(Some(Step::Choose(choosing))),

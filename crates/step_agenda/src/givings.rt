@@ -2,22 +2,42 @@
 ghost use Rattle.std.specs.Prelude.{◌≡◌, IfSome};
 ghost use Rattle.step_finders.specs.Giving.{IsGiving};
 
+use crate::nearness::Nearness;
 use step_finders::{Given, Rules, State, is_so};
 
-/// The first place from this one on, among the given facts, of one that is not so, and the fact; or how many there are.
+/// The first rank from `from` on and below `to`, in the order of nearness, of a given fact that is not so, and the fact;
+/// or `to`.
 pub(crate) fn first_giving<S: State, R: Rules>(
     state: &S,
     rules: &R,
+    nearness: &Nearness,
     from: usize,
+    to: usize,
 ) -> (usize, Option<Given>)
     requires one_first { S.first state.now ≡ (R.context rules.now).first }
     ensures { IfSome result.1 (IsGiving (R.context rules.now) (S.facts state.now)) }
 {
-    let given = rules.given();
-    for place in from..given.len() {
-        if !is_so(state, given[place].fact) {
-            return (place, Some(given[place]));
+    for rank in from..to {
+        match nearness.fact(rank) {
+            Some(place) => match unless_so(state, rules, place) {
+                Some(given) => return (rank, Some(given)),
+                None => {}
+            },
+            None => {}
         }
     }
-    (given.len(), None)
+    (to, None)
+}
+
+// The given fact at a place, if it is not so.
+fn unless_so<S: State, R: Rules>(state: &S, rules: &R, place: usize) -> Option<Given>
+    requires one_first { S.first state.now ≡ (R.context rules.now).first }
+    ensures { IfSome result (IsGiving (R.context rules.now) (S.facts state.now)) }
+{
+    let given = rules.given();
+    if place >= given.len() || is_so(state, given[place].fact) {
+        None
+    } else {
+        Some(given[place])
+    }
 }

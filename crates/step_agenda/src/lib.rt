@@ -14,9 +14,11 @@
 //! Solver", DAC 2001). What is found can be done. That nothing is found says nothing, since a join or a block that goes
 //! can make an old fact count again: then `step_finders::find_step` looks through everything.
 //!
-//! The facts that axioms give to individuals are put before anything else. An edge that is given may lead to a node of
-//! which more is known already than that it is there, so what it brings is looked for by all that its end has; and what
-//! comes to an individual is looked at from each individual with an edge to it, where other nodes have a parent alone.
+//! The facts that axioms give to individuals are put outwards from the node in question: those that name it first, and
+//! those of the next ring once nothing follows from these that needs no choice between two parts. An edge that is given
+//! may lead to a node of which more is known already than that it is there, so what it brings is looked for by all that
+//! its end has; and what comes to an individual is looked at from each individual with an edge to it, where other nodes
+//! have a parent alone.
 //!
 //! What needs no look at blocks is looked for first, so that blocks are found where nothing of it is left alone, and
 //! not after each step.
@@ -32,6 +34,7 @@ mod branchings;
 mod forced;
 mod givings;
 mod makings;
+mod nearness;
 mod pairs;
 mod tree_state;
 mod watched;
