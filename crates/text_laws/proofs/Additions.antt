@@ -159,15 +159,15 @@ all_more : (p : Numbered → Bool) (xs ys : List Numbered) → list_all p xs ≡
     → list_all p (xs ++ ys) ≡ true
 all_more p xs ys old new = list_all-append p xs ys ∙ and_from (list_all p xs) (list_all p ys) old new
 
-parts_more : (xs ys : List Numbered) → parts_held (xs ++ ys) ≡ parts_held xs + parts_held ys
+pub parts_more : (xs ys : List Numbered) → parts_held (xs ++ ys) ≡ parts_held xs + parts_held ys
 parts_more [] ys = omega arith
 parts_more (x ∷ xs) ys = omega (arith, parts_more xs ys)
 
-expressions_more : (xs ys : List Numbered) → expression_count (xs ++ ys) ≡ expression_count xs + expression_count ys
+pub expressions_more : (xs ys : List Numbered) → expression_count (xs ++ ys) ≡ expression_count xs + expression_count ys
 expressions_more [] ys = omega arith
 expressions_more (x ∷ xs) ys = omega (arith, expressions_more xs ys)
 
-parts_are : (xs : List Numbered) → parts_held xs ≡ part_count xs
+pub parts_are : (xs : List Numbered) → parts_held xs ≡ part_count xs
 parts_are xs = sym (held_total xs) ∙ part_total xs
 
 module _ (ps : List Prefix) (o : Listed) (text : List ℕ) (behind : Counts) (a : Axiom)

@@ -28,6 +28,7 @@ pub mod Names
 pub mod Queries
 pub mod InLimit
 pub mod Additions
+pub mod ReadAdded
 pub mod TextsBehind
 pub mod LastBracket
 pub mod LongerDocuments

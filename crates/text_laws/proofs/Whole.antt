@@ -157,7 +157,7 @@ union_whole (at_least n r c) cs = no_name (nat_le 2 (length cs)) (are_whole (par
 union_whole (at_most n r c) cs = no_name (nat_le 2 (length cs)) (are_whole (parts_of cs))
 union_whole (exactly n r c) cs = no_name (nat_le 2 (length cs)) (are_whole (parts_of cs))
 
-axiom_whole_is : (a : Axiom)
+pub axiom_whole_is : (a : Axiom)
     → is_whole_axiom a ≡ (is_readable a && (has_enough_items a && axiom_has_counts_within 100 a))
 axiom_whole_is (SubClassOf c d) =
     (λ i. whole_is c i && whole_is d i)

@@ -1,21 +1,22 @@
--- What is written of an ontology, and of class expressions over its names, is read again.
-use Rattle.std.specs.Prelude.{◌≡◌, ℕ, ◌+◌, ◌^◌, ◌≤◌, List, map, length, Some, codes}
+-- What is written of an ontology, and of class expressions, queries and axioms over its names, is read again.
+use Rattle.std.specs.Prelude.{◌≡◌, ℕ, ◌+◌, ◌^◌, ◌≤◌, true, List, map, length, Some, codes}
 use Rattle.shq_terms.specs.Concept.{Concept, top, bottom}
-use Rattle.shq_terms.specs.Listed.{Listed}
+use Rattle.shq_terms.specs.Listed.{Listed, with_axiom}
 use Rattle.shq_terms.specs.declared.axioms.Axiom.{Axiom}
 use Rattle.shq_terms.specs.declared.axioms.Axiom.TheVariants.{SubClassOf, Member}
 use Rattle.shq_terms.specs.declared.axioms.Numbered.{Numbered}
 use Rattle.shq_terms.specs.declared.axioms.On.{On}
 use Rattle.shq_terms.specs.declared.axioms.On.TheVariants.{Any, Individual}
 use Rattle.shq_terms.specs.declared.axioms.Query.{Query}
-use Rattle.ontology_limits.specs.Limits.{IsInLimit}
+use Rattle.ontology_limits.specs.Limits.{IsOntologyInLimit, IsInLimit}
 use Rattle.ofn_expressions.specs.Names.{Prefix, prefix_iri}
 use Rattle.ofn_reader.specs.DocumentContext.{DocumentContext}
 use Rattle.ofn_reader.specs.Documents.{IsDocument}
 use Rattle.ofn_reader.specs.Queries.{IsQuery, IsClass, query_start}
 use Rattle.ofn_writer.specs.Canonical.{concept_text, axiom_text, ontology_text}
-use Rattle.ofn_reader.specs.Held.{expressions, axiom_expressions}
-use Rattle.text_laws.specs.Writable.{brackets, axiom_brackets, CanBeWritten}
+use Rattle.ofn_reader.specs.Held.{expressions, axiom_expressions, expression_count, counts_of}
+use Rattle.ofn_reader.specs.Additions.{IsAddition}
+use Rattle.text_laws.specs.Writable.{brackets, axiom_brackets, is_readable, CanBeWritten}
 
 -- the axioms without their lines
 abbrev pub axioms_of : List Numbered → List Axiom
@@ -109,3 +110,16 @@ QueryTextsAreRead =
     → nodes + axiom_expressions (query_axiom q) ≤ 262144
     → IsQuery ps o.axioms (query_start o nodes) (query_text o q)
     (query_start o (nodes + axiom_expressions (query_axiom q))) q
+
+-- ---- axioms that are put into an ontology
+
+-- The text of an axiom of any kind over the names of an ontology is that axiom, and lists no other name, where the
+-- limits leave room for it: the ontology is within them with it, the class of a disjoint union is named, the text is
+-- short enough, at most 64 brackets are open at once, and its expressions fit beside those of the ontology. What is
+-- counted behind it is what the ontology then holds.
+abbrev pub AxiomTextsAreRead : Type 0
+AxiomTextsAreRead =
+    (o : Listed) (a : Axiom) (ps : List Prefix) → CanBeWritten o → IsOntologyInLimit (with_axiom o a 1) → KnowsOwl ps
+    → is_readable a ≡ true → length (axiom_text o a) ≤ 2 ^ 24 → axiom_brackets a ≤ 64
+    → expression_count o.axioms + axiom_expressions a ≤ 262144
+    → IsAddition ps o.axioms (counts_of o) (axiom_text o a) (counts_of (with_axiom o a 1)) a

@@ -22,6 +22,7 @@ pub use limit_laws::{
 pub use ofn_reader::{Context, Refusal, Which, read_class, read_ontology, read_query};
 pub use part_laws::parts_are_counted;
 pub use writing_laws::{
-    class_texts_are_read, documents_are_read_again, documents_can_be_written, documents_know_owl,
-    equal_texts_say_the_same, query_texts_are_read, written_ontologies_are_read,
+    axiom_texts_are_read, class_texts_are_read, documents_are_read_again, documents_can_be_written,
+    documents_know_owl, equal_texts_say_the_same, query_texts_are_read,
+    written_ontologies_are_read,
 };

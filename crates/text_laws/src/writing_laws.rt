@@ -1,8 +1,7 @@
-//! What is written of an ontology, and of class expressions over its names, is read again.
-// What is written of an ontology is read again.
+//! What is written of an ontology, and of class expressions, queries and axioms over its names, is read again.
 ghost use Rattle.text_laws.specs.WritingLaws.{WrittenOntologiesAreRead, DocumentsCanBeWritten, DocumentsAreReadAgain};
 ghost use Rattle.text_laws.specs.WritingLaws.{EqualTextsSayTheSame, DocumentsKnowOwl, ClassTextsAreRead};
-ghost use Rattle.text_laws.specs.WritingLaws.{QueryTextsAreRead};
+ghost use Rattle.text_laws.specs.WritingLaws.{QueryTextsAreRead, AxiomTextsAreRead};
 
 /// The canonical text of an ontology is a document (OWL 2 Structural Specification, section 3.7), which lists the same
 /// classes, roles and individuals in the same order, and the same axioms in the same order. The names of the ontology
@@ -42,4 +41,10 @@ pub fn class_texts_are_read()
 /// or that an individual is in a class.
 pub fn query_texts_are_read()
     ensures { QueryTextsAreRead }
+{}
+
+/// The text of an axiom over the names of an ontology, of each of the fourteen kinds, is read as that axiom where it is
+/// put into the ontology, with no new name.
+pub fn axiom_texts_are_read()
+    ensures { AxiomTextsAreRead }
 {}
