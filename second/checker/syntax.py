@@ -1,17 +1,16 @@
 """Tokens and brackets of a text in functional-style syntax (OWL 2 Structural Specification, sections 2.3 and 3.7)."""
 import re
 from collections import namedtuple
+from itertools import dropwhile
 
-MOST_OPEN = 64
-IRI, STRING = r'<[^<>"\x00-\x20\x7f]*', r'"(?:[^"\\]|\\["\\])*'
+MOST_OPEN, SHAPE = 64, "bad text shape"
+BAD = r"\udc80-\udcff"  # a byte that is no part of UTF-8, as it is read
+IRI, STRING = rf'<[^<>"\x00-\x20\x7f{BAD}]*', rf'"(?:[^"\\{BAD}]|\\["\\])*'
 TOKEN = re.compile(
-    rf'(?P<gap>[ \t\n\r]+|#[^\n\r]*)|(?P<open>\()|(?P<close>\))|(?P<equals>=)|(?P<iri>{IRI}>)|(?P<string>{STRING}")'
-    r'|(?P<tag>@[A-Za-z0-9-]+)|(?P<carets>\^\^)|(?P<name>[^\x00-\x20\x7f()=<>"#@^]+)'
+    rf'(?P<gap>[ \t\n\r]+|#[^\n\r{BAD}]*)|(?P<open>\()|(?P<close>\))|(?P<equals>=)|(?P<iri>{IRI}>)|(?P<string>{STRING}'
+    rf'")|(?P<tag>@[A-Za-z0-9-]+)|(?P<carets>\^\^)|(?P<name>[^\x00-\x20\x7f()=<>"#@^{BAD}]+)'
 )
-# The beginning of a token that the end of the text cuts off.
-CUT_TOKEN = re.compile(rf"(?:{IRI}|{STRING}\\?|@|\^)\Z")
-# A token, or a group with its items. Its kind is one of TOKEN, or literal, or group.
-Item = namedtuple("Item", "kind text line items", defaults=((),))
+BEFORE_BAD = re.compile(rf"(?:{IRI}|{STRING}\\?|@|\^)?(?=[{BAD}])")  # the beginning of a token before such a byte
 
 
 class Fault(Exception):
@@ -24,21 +23,35 @@ def need(holds, *said):
         raise Fault(*said)
 
 
-def tokens(data):
-    """The tokens up to the bracket that closes the group `Ontology`, the line of the end, and how many bytes they take.
+def ascend(items):
+    return all(one < other for one, other in zip(items, items[1:]))
 
-    A string with what belongs to it is one token, a literal.
-    """
-    try:
-        text, is_whole = data.decode("utf-8"), True
-    except UnicodeDecodeError as error:
-        text, is_whole = data[: error.start].decode("utf-8"), False
+
+class Item(namedtuple("Item", "kind text line items", defaults=((),))):
+    """A token, or a group with its items. Its kind is one of TOKEN, or group, or literal, a string with type or tag."""
+
+    def is_group(self, *keywords):
+        return self.kind == "group" and self.text in keywords
+
+    def behind_annotations(self):
+        """The items of a group without the annotations in front."""
+        return tuple(dropwhile(lambda it: it.is_group("Annotation"), self.items))
+
+    def check_keyword(self, known, outside):
+        need(not self.is_group(*outside), f"outside {self.text}", self.line)
+        need(self.is_group(*known), SHAPE, self.line)
+
+
+def tokens(data):
+    """The tokens up to the bracket that closes the group `Ontology`, the line of the end, and the bytes up to there."""
+    text = data.decode("utf-8", "surrogateescape")
     found, depth, is_document, line, place = [], 0, False, 1, int(text.startswith("\ufeff"))
     while place < len(text):
         match = TOKEN.match(text, place)
         if match is None:
-            need(not is_whole and CUT_TOKEN.match(text, place), "bad text token", line)
-            need(False, "bad text utf8", line + text.count("\n", place))
+            cut = BEFORE_BAD.match(text, place)
+            need(cut, "bad text token", line)
+            need(False, "bad text utf8", line + cut[0].count("\n"))
         kind = match.lastgroup
         if kind == "open" and not depth:
             is_document = [it[:2] for it in found[-1:]] == [("name", "Ontology")]
@@ -52,26 +65,25 @@ def tokens(data):
         place, line = match.end(), line + match[0].count("\n")
         if kind == "close" and is_document and not depth:
             break
-    else:
-        need(is_whole, "bad text utf8", line)
     return found, line, len(text[:place].encode("utf-8"))
 
 
 def read_items(data):
     """The items of a text, the line of its end, and how many bytes were read."""
     found, end_line, length = tokens(data)
-    groups, before = [(None, None, [])], None
+    groups, before = [Item("text", "", 1, [])], None
     for token in found:
+        items = groups[-1].items
         if token.kind == "open":
             need(len(groups) <= MOST_OPEN, "limit nesting", token.line)
-            name = groups[-1][2].pop() if before == "name" else Item(None, None, token.line)
-            groups.append((name.text, name.line, []))
+            name = items.pop() if before == "name" else token
+            groups.append(Item("group", name.text, name.line, []))
+            items.append(groups[-1])
         elif token.kind == "close":
             need(len(groups) > 1, "bad text balance", token.line)
-            text, line, items = groups.pop()
-            groups[-1][2].append(Item("group", text, line, tuple(items)))
+            groups.pop()
         else:
-            groups[-1][2].append(token)
+            items.append(token)
         before = token.kind
     need(len(groups) == 1, "bad text balance", end_line)
-    return groups[0][2], end_line, length
+    return groups[0].items, end_line, length

@@ -61,6 +61,14 @@ class Examples(unittest.TestCase):
                 status = 0 if said.startswith("accepted") else 1
                 self.assertEqual(by_command(job, *files, axiom), (said.encode("utf-8") + b"\n", status))
 
+    def test_each_certificate_and_audit_is_among_them(self):
+        """Each file of the examples that begins like a certificate or an audit is one that examples/run-all judges."""
+        judged = re.findall(r"(?m)^(?:check|audit) (\S+) (\S+) '", (EXAMPLES / "run-all").read_text("utf-8"))
+        begins = re.compile(r"((not )?entailed|(un)?satisfiable|audit)\n")
+        found = [it for it in EXAMPLES.rglob("*.txt") if begins.match(it.read_text("utf-8"))]
+        self.assertGreater(len(found), 10)
+        self.assertEqual({(it.parent.name, it.stem) for it in found} - set(judged), set())
+
     def test_refused_documents(self):
         for name, said in re.findall(r"(?m)^refuse (\S+) '([^']+)'$", (EXAMPLES / "run-all").read_text("utf-8")):
             with self.subTest(name=name):

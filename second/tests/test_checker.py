@@ -1,6 +1,6 @@
 """What the second checker promises by itself: its size, its time, its statuses, and that it shares nothing."""
+import ast
 import os
-import re
 import subprocess
 import sys
 import time
@@ -19,6 +19,14 @@ SubClassOf(:A :B)
 """
 
 
+def imported(text):
+    """The packages from which a module takes something."""
+    for node in ast.walk(ast.parse(text)):
+        names = [it.name for it in node.names] if isinstance(node, ast.Import) else []
+        names += [node.module] if isinstance(node, ast.ImportFrom) else []
+        yield from (it.split(".")[0] for it in names)
+
+
 def long_refutation(count):
     """A refutation of so many rule lines, with a branch that is open at its end."""
     front = ["entailed", "refutation", "axioms 1 2", "concept 1 name <http://e.org/A>"]
@@ -31,21 +39,23 @@ def long_refutation(count):
 
 class Text(unittest.TestCase):
     def test_it_is_small(self):
-        """It has at most 900 lines that are not blank."""
-        lines = [it for file in FILES for it in file.read_text("utf-8").splitlines() if it.strip()]
+        """It has at most 900 lines in all, blank ones and comments too, none of them longer than 120 characters."""
+        lines = [it for file in FILES for it in file.read_text("utf-8").splitlines()]
+        self.assertGreater(len(FILES), 8)
         self.assertLessEqual(len(lines), MOST_LINES)
+        self.assertLessEqual(max(map(len, lines)), 120)
 
     @unittest.skipUnless(hasattr(sys, "stdlib_module_names"), "this Python does not tell its modules")
     def test_it_stands_on_the_standard_library_alone(self):
         for file in FILES:
-            for name in re.findall(r"(?m)^\s*(?:from|import) ([a-z_]+)", file.read_text("utf-8")):
+            for name in imported(file.read_text("utf-8")):
                 self.assertTrue(name == "checker" or name in sys.stdlib_module_names, (file, name))
 
     def test_each_rule_says_its_premise(self):
         from checker import certificates, refutations
 
         for name in certificates.RULES:
-            rule = getattr(refutations.Rules, f"{name}_" if name in ("and", "or") else name)
+            rule = getattr(refutations.Refutation, f"rule_{name}")
             self.assertGreater(len(rule.__doc__), 20, name)
 
 
@@ -61,6 +71,16 @@ class Time(unittest.TestCase):
             self.assertEqual(found, (f"rejected line {end}\n".encode(), 1))
         self.assertLess(spent[100_000], 10)
         self.assertLess(spent[100_000], 3 * spent[50_000])
+
+    def test_branches_of_a_refutation(self):
+        """50,000 branches, each begun by one line and closed by another, take at most ten seconds of a processor."""
+        lines = ["entailed", "refutation", "axioms 2"]
+        lines += ["concept 1 name <http://e.org/A>", "concept 2 name <http://e.org/B>", "start"]
+        lines += [*["choose 0 1"] * 50_000, "row 0 2 1 1", "clash 0 2", *["clash 0 1"] * 50_000, "end"]
+        behind = "".join(it + "\n" for it in lines).encode("utf-8")
+        begun = time.process_time()
+        self.assertEqual(by_checker("check", CHAIN, behind, "SubClassOf(:A :B)"), (b"accepted entailed\n", 0))
+        self.assertLess(time.process_time() - begun, 10)
 
     def test_elements_without_a_line_cost_nothing(self):
         behind = b"not entailed\nmodel 4294967295\nclass <http://e.org/A> 7\nclass <http://e.org/B> 7\n"
