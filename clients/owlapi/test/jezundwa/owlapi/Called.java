@@ -9,6 +9,9 @@ import org.semanticweb.owlapi.model.OWLOntology;
 
 /** The program under test, which the system property {@code jezundwa.program} names. */
 final class Called {
+    /** In milliseconds; a machine that proves beside the tests may be slow, and what hangs has to end. */
+    static final long LONGEST = 300_000;
+
     private Called() {}
 
     static JezundwaConfiguration configuration() {
@@ -41,11 +44,15 @@ final class Called {
 
     /** For tests of many calls, which are left to the long form. */
     static void requireLongForm() {
-        assumeTrue("only the long form tries it: clients/test --long", Boolean.getBoolean("jezundwa.long"));
+        assumeTrue("only the long form tries it: clients/test --long", isLongForm());
     }
 
     /** How many random ontologies a test takes: few in the gate. */
     static int many(int inGate, int atLength) {
-        return Boolean.getBoolean("jezundwa.long") ? atLength : inGate;
+        return isLongForm() ? atLength : inGate;
+    }
+
+    static boolean isLongForm() {
+        return Boolean.getBoolean("jezundwa.long");
     }
 }

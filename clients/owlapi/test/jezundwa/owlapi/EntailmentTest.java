@@ -1,6 +1,5 @@
 package jezundwa.owlapi;
 
-import static org.junit.Assert.assertEquals;
 import static org.junit.Assert.assertFalse;
 import static org.junit.Assert.assertThrows;
 import static org.junit.Assert.assertTrue;
@@ -8,6 +7,7 @@ import static org.junit.Assume.assumeTrue;
 
 import java.util.List;
 import java.util.Set;
+import java.util.stream.IntStream;
 import org.junit.Test;
 import org.semanticweb.owlapi.model.OWLAxiom;
 import org.semanticweb.owlapi.model.OWLOntology;
@@ -183,7 +183,7 @@ public class EntailmentTest {
         assumeTrue("konclude is not installed", Konclude.isHere());
         int compared = 0;
         int entailed = 0;
-        for (int seed = 0; seed < Called.many(8, 300); seed++) {
+        for (int seed : seeds()) {
             Ontologies.Maker maker = new Ontologies.Maker(seed, seed % 2 == 1);
             OWLOntology ontology = maker.ontology();
             List<OWLAxiom> questions = maker.questions();
@@ -194,18 +194,26 @@ public class EntailmentTest {
                 continue;
             }
             JezundwaReasoner reasoner = Called.reasoner(ontology);
-            assertEquals("seed " + seed, expected != null, reasoner.isConsistent());
-            if (expected == null) {
+            Judge judge = new Judge(ontology, reasoner);
+            String message = "seed " + seed;
+            judge.compare(message, Judge.inconsistency(), expected == null, !reasoner.isConsistent());
+            if (expected == null || !reasoner.isConsistent()) {
                 continue;
             }
             List<Boolean> answers = Called.entailed(reasoner, questions);
             for (int at = 0; at < questions.size(); at++) {
-                assertEquals("seed " + seed + " " + questions.get(at), expected.get(at), answers.get(at));
+                judge.compare(message, questions.get(at), expected.get(at), answers.get(at));
             }
             compared += questions.size();
-            entailed += (int) expected.stream().filter(answer -> answer).count();
+            entailed += (int) answers.stream().filter(answer -> answer).count();
         }
         System.out.println("compared with Konclude: " + compared + " axioms, of which " + entailed + " follow");
         assertTrue(entailed > compared / 50 && entailed < compared);
+    }
+
+    /** In the gate a few, and 13, where Konclude says that more follows than does. */
+    private static List<Integer> seeds() {
+        return Called.isLongForm() ? IntStream.range(0, 300).boxed().toList()
+            : List.of(0, 1, 2, 3, 4, 5, 6, 7, 13);
     }
 }

@@ -159,7 +159,7 @@ public class ExplanationTest {
             for (Certificate certificate : explanations.certificates(Ontologies.axiom(statement))) {
                 ProgramAnswer answer = new ProgramCall(Called.configuration().command(),
                     List.of("check", certificate.statement()),
-                    OntologyDocument.bytes(certificate.document() + certificate.text())).run(60_000);
+                    OntologyDocument.bytes(certificate.document() + certificate.text())).run(Called.LONGEST);
                 assertEquals(statement, certificate.isOfEntailment() ? "accepted entailed" : "accepted not entailed",
                     answer.firstLine());
             }

@@ -9,6 +9,7 @@ import java.util.HashSet;
 import java.util.List;
 import java.util.Set;
 import java.util.concurrent.TimeUnit;
+import java.util.stream.Stream;
 import org.semanticweb.owlapi.apibinding.OWLManager;
 import org.semanticweb.owlapi.formats.FunctionalSyntaxDocumentFormat;
 import org.semanticweb.owlapi.model.IRI;
@@ -24,7 +25,7 @@ import org.semanticweb.owlapi.model.OWLOntology;
  * can have a member just where the axiom may fail; one classification tells of all of them.
  */
 final class Konclude {
-    private static final long LONGEST = 60;
+    private static final String PROGRAM = "Konclude";
     private static final OWLDataFactory FACTORY = OWLManager.getOWLDataFactory();
 
     /** Konclude ended without an answer: it was seen to crash on some ontologies. Such a case is passed over. */
@@ -39,7 +40,8 @@ final class Konclude {
     private Konclude() {}
 
     static boolean isHere() {
-        return new File("/usr/bin/Konclude").canExecute();
+        return Stream.of(System.getenv("PATH").split(File.pathSeparator))
+            .anyMatch(folder -> new File(folder, PROGRAM).canExecute());
     }
 
     /** Whether each axiom is entailed; null where the ontology is inconsistent. */
@@ -81,10 +83,10 @@ final class Konclude {
             Path output = folder.resolve("output.owl");
             ontology.getOWLOntologyManager().saveOntology(ontology, new FunctionalSyntaxDocumentFormat(),
                 IRI.create(input.toUri()));
-            Process process = new ProcessBuilder("/usr/bin/Konclude", "classification", "-w", "2", "-i",
+            Process process = new ProcessBuilder(PROGRAM, "classification", "-w", "2", "-i",
                 input.toString(), "-o", output.toString()).redirectErrorStream(true)
                 .redirectOutput(ProcessBuilder.Redirect.DISCARD).start();
-            boolean hasEnded = process.waitFor(LONGEST, TimeUnit.SECONDS);
+            boolean hasEnded = process.waitFor(Called.LONGEST, TimeUnit.MILLISECONDS);
             process.destroyForcibly().waitFor();
             try {
                 if (!hasEnded || process.exitValue() != 0 || !Files.exists(output)) {

@@ -4,6 +4,7 @@ import static org.junit.Assert.assertEquals;
 import static org.junit.Assert.assertFalse;
 import static org.junit.Assert.assertThrows;
 import static org.junit.Assert.assertTrue;
+import static org.junit.Assume.assumeTrue;
 
 import java.util.ArrayList;
 import java.util.HashSet;
@@ -19,10 +20,12 @@ import org.semanticweb.owlapi.model.OWLAxiom;
 import org.semanticweb.owlapi.model.OWLClass;
 import org.semanticweb.owlapi.model.OWLClassExpression;
 import org.semanticweb.owlapi.model.OWLDataFactory;
+import org.semanticweb.owlapi.model.OWLEquivalentClassesAxiom;
 import org.semanticweb.owlapi.model.OWLNamedIndividual;
 import org.semanticweb.owlapi.model.OWLObjectProperty;
 import org.semanticweb.owlapi.model.OWLObjectPropertyExpression;
 import org.semanticweb.owlapi.model.OWLOntology;
+import org.semanticweb.owlapi.model.OWLSubClassOfAxiom;
 import org.semanticweb.owlapi.model.parameters.Imports;
 import org.semanticweb.owlapi.reasoner.FreshEntitiesException;
 import org.semanticweb.owlapi.reasoner.FreshEntityPolicy;
@@ -258,6 +261,61 @@ public class ReasonerCallsTest {
                     individuals, other -> FACTORY.getOWLObjectPropertyAssertionAxiom(role, individual, other));
             }
         }
+    }
+
+    @Test
+    public void hierarchiesAsKoncludeWritesThem() {
+        assumeTrue("konclude is not installed", Konclude.isHere());
+        int compared = 0;
+        for (int seed = 0; seed < Called.many(4, 300); seed++) {
+            OWLOntology ontology = new Ontologies.Maker(7_000 + seed, seed % 2 == 1).ontology();
+            try {
+                compared += compareHierarchy("seed " + seed, ontology,
+                    written(Konclude.classified(ontology), ontology.getClassesInSignature()));
+            } catch (Konclude.NoAnswer crash) {
+                continue;
+            }
+        }
+        System.out.println("compared with Konclude's hierarchies: " + compared + " pairs of classes");
+        assertTrue(compared > 0);
+    }
+
+    /** Konclude writes a hierarchy as axioms between names; what is below Nothing is below all, and all below Thing. */
+    private static Closure<OWLClass> written(OWLOntology hierarchy, Set<OWLClass> types) {
+        Closure<OWLClass> closure = new Closure<>();
+        for (OWLClass type : types) {
+            closure.addBelow(type, THING);
+            closure.addBelow(NOTHING, type);
+        }
+        for (OWLAxiom axiom : hierarchy.getLogicalAxioms()) {
+            if (axiom instanceof OWLSubClassOfAxiom inclusion) {
+                closure.addBelow(inclusion.getSubClass().asOWLClass(), inclusion.getSuperClass().asOWLClass());
+            } else if (axiom instanceof OWLEquivalentClassesAxiom equivalence) {
+                closure.addEqual(
+                    equivalence.getClassExpressions().stream().map(OWLClassExpression::asOWLClass).toList());
+            }
+        }
+        return closure;
+    }
+
+    private static int compareHierarchy(String message, OWLOntology ontology, Closure<OWLClass> konclude) {
+        JezundwaReasoner reasoner = Called.reasoner(ontology);
+        Judge judge = new Judge(ontology, reasoner);
+        boolean isInconsistent = konclude.isBelow(THING, NOTHING);
+        judge.compare(message, Judge.inconsistency(), isInconsistent, !reasoner.isConsistent());
+        if (isInconsistent || !reasoner.isConsistent()) {
+            return 0;
+        }
+        Set<OWLClass> types = ontology.getClassesInSignature();
+        for (OWLClass type : types) {
+            Set<OWLClass> above = new HashSet<>(reasoner.getEquivalentClasses(type).getEntities());
+            above.addAll(reasoner.getSuperClasses(type, false).getFlattened());
+            for (OWLClass other : types) {
+                judge.compare(message, FACTORY.getOWLSubClassOfAxiom(type, other), konclude.isBelow(type, other),
+                    above.contains(other));
+            }
+        }
+        return types.size() * types.size();
     }
 
     /** Of a consistent ontology the hierarchy is the same with its assertions and without them. */
