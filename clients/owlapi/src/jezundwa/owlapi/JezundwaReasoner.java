@@ -107,7 +107,7 @@ public final class JezundwaReasoner implements OWLReasoner {
 
     private void takeChanges() {
         List<OWLOntologyChange> changes = pending.all();
-        if (pending.haveMeaning()) {
+        if (pending.haveMeaning() || !snapshot.isOf(root)) {
             snapshot = new Snapshot(root, configuration, runner);
         }
         pending.forget(changes.size());
@@ -181,13 +181,13 @@ public final class JezundwaReasoner implements OWLReasoner {
         return pendingAxioms(false);
     }
 
+    /** Also what an import brings or takes away is to be added or removed, though no change names it. */
     private Set<OWLAxiom> pendingAxioms(boolean isAdded) {
         return operation(current -> {
-            Set<OWLAxiom> now = new HashSet<>();
-            root.getImportsClosure().forEach(ontology -> now.addAll(ontology.getLogicalAxioms()));
-            Set<OWLAxiom> found = new LinkedHashSet<>(pending.axioms());
-            found.removeIf(axiom -> now.contains(axiom) != isAdded
-                || current.document().axioms().contains(axiom) == isAdded);
+            Set<OWLAxiom> now = OntologyDocument.logicalAxioms(root);
+            Set<OWLAxiom> taken = current.document().axioms();
+            Set<OWLAxiom> found = new LinkedHashSet<>(isAdded ? now : taken);
+            found.removeAll(isAdded ? taken : now);
             return found;
         });
     }

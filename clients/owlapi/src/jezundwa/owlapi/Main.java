@@ -11,6 +11,7 @@ import java.util.stream.Collectors;
 import org.semanticweb.owlapi.apibinding.OWLManager;
 import org.semanticweb.owlapi.formats.PrefixDocumentFormat;
 import org.semanticweb.owlapi.io.StringDocumentSource;
+import org.semanticweb.owlapi.io.UnparsableOntologyException;
 import org.semanticweb.owlapi.model.OWLAxiom;
 import org.semanticweb.owlapi.model.OWLClass;
 import org.semanticweb.owlapi.model.OWLDataFactory;
@@ -121,7 +122,7 @@ public final class Main {
             case "classify", "realize", "explain", "repair" -> { }
             default -> throw new IllegalArgumentException(words.get(0) + " is no job");
         }
-        ontology = OWLManager.createOWLOntologyManager().loadOntologyFromOntologyDocument(new File(words.get(1)));
+        ontology = read(new File(words.get(1)));
         factory = ontology.getOWLOntologyManager().getOWLDataFactory();
         JezundwaReasoner reasoner = new JezundwaReasonerFactory(configuration).createReasoner(ontology);
         if (!reasoner.coverage().isWhole()) {
@@ -132,6 +133,15 @@ public final class Main {
             case "realize" -> realize(reasoner);
             case "explain" -> explain(reasoner);
             default -> printSets("repair", new JezundwaExplanations(reasoner).repairs(axiom(words.get(2))));
+        }
+    }
+
+    /** Reads a file in whichever syntax it is. */
+    private static OWLOntology read(File file) throws OWLOntologyCreationException {
+        try {
+            return OWLManager.createOWLOntologyManager().loadOntologyFromOntologyDocument(file);
+        } catch (UnparsableOntologyException unreadable) {
+            throw new OWLRuntimeException(file + " is in no syntax that the OWL API reads", unreadable);
         }
     }
 
@@ -161,7 +171,7 @@ public final class Main {
             .collect(Collectors.joining(" "));
     }
 
-    private void explain(JezundwaReasoner reasoner) throws OWLOntologyCreationException {
+    private void explain(JezundwaReasoner reasoner) {
         JezundwaExplanations explanations = new JezundwaExplanations(reasoner);
         if (words.size() > 2) {
             printSets("reason", explanations.justifications(axiom(words.get(2))));
@@ -196,7 +206,7 @@ public final class Main {
     }
 
     /** Reads an axiom by the OWL API's own reader, as the one axiom of a document with the ontology's prefixes. */
-    private OWLAxiom axiom(String text) throws OWLOntologyCreationException {
+    private OWLAxiom axiom(String text) {
         StringBuilder document = new StringBuilder();
         OWLDocumentFormat format = ontology.getOWLOntologyManager().getOntologyFormat(ontology);
         if (format instanceof PrefixDocumentFormat prefixes) {
@@ -204,11 +214,15 @@ public final class Main {
                 document.append("Prefix(").append(name).append("=<").append(iri).append(">)\n"));
         }
         document.append("Ontology(\n").append(text).append("\n)\n");
-        OWLOntology read = OWLManager.createOWLOntologyManager()
-            .loadOntologyFromOntologyDocument(new StringDocumentSource(document.toString()));
-        if (read.getLogicalAxioms().size() != 1) {
-            throw new IllegalArgumentException("no axiom: " + text);
+        try {
+            OWLOntology read = OWLManager.createOWLOntologyManager()
+                .loadOntologyFromOntologyDocument(new StringDocumentSource(document.toString()));
+            if (read.getLogicalAxioms().size() == 1) {
+                return read.getLogicalAxioms().iterator().next();
+            }
+        } catch (OWLOntologyCreationException unreadable) {
+            // What each parser of the library says of the document is no help with one axiom.
         }
-        return read.getLogicalAxioms().iterator().next();
+        throw new IllegalArgumentException("no axiom: " + text);
     }
 }

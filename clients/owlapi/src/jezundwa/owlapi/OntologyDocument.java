@@ -20,7 +20,6 @@ import org.semanticweb.owlapi.model.OWLNamedIndividual;
 import org.semanticweb.owlapi.model.OWLObjectProperty;
 import org.semanticweb.owlapi.model.OWLOntology;
 import org.semanticweb.owlapi.model.parameters.Imports;
-import org.semanticweb.owlapi.reasoner.AxiomNotInProfileException;
 
 /**
  * The imports closure of an ontology at one moment, as the program is to read it: a declaration for each name, and then
@@ -61,8 +60,8 @@ final class OntologyDocument {
         terms = text.withoutAssertions();
     }
 
-    /** In a fixed order, so that the same ontology is always the same text. */
-    private static Set<OWLAxiom> logicalAxioms(OWLOntology root) {
+    /** The axioms of an ontology with its imports, in a fixed order, so that it is always the same text. */
+    static Set<OWLAxiom> logicalAxioms(OWLOntology root) {
         Set<OWLAxiom> all = new TreeSet<>();
         for (OWLOntology ontology : root.getImportsClosure()) {
             all.addAll(ontology.getLogicalAxioms());
@@ -94,8 +93,10 @@ final class OntologyDocument {
             List<String> found = new ArrayList<>();
             String written = written(entry.getValue(), found);
             if (!found.isEmpty()) {
-                refuse(policy, entry.getKey());
                 outside.put(entry.getKey(), found.get(0));
+                if (policy == OutsidePolicy.STRICT) {
+                    throw new OutsideAxiomException(entry.getKey(), found.get(0));
+                }
                 if (policy == OutsidePolicy.LEAVE_OUT) {
                     continue;
                 }
@@ -106,12 +107,6 @@ final class OntologyDocument {
         }
         axiomsByLine.put(line, null);
         return all.append(")\n").toString();
-    }
-
-    private static void refuse(OutsidePolicy policy, OWLAxiom axiom) {
-        if (policy == OutsidePolicy.STRICT) {
-            throw new AxiomNotInProfileException(axiom, PROFILE);
-        }
     }
 
     private String written(List<OWLAxiom> group, List<String> outside) {

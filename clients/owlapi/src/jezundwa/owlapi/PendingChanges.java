@@ -3,7 +3,6 @@ package jezundwa.owlapi;
 import java.util.ArrayList;
 import java.util.List;
 import java.util.Set;
-import org.semanticweb.owlapi.model.OWLAxiom;
 import org.semanticweb.owlapi.model.OWLDeclarationAxiom;
 import org.semanticweb.owlapi.model.OWLOntology;
 import org.semanticweb.owlapi.model.OWLOntologyChange;
@@ -38,11 +37,5 @@ final class PendingChanges implements OWLOntologyChangeListener {
     /** Forgets the first ones, which were taken over. */
     synchronized void forget(int count) {
         changes.subList(0, Math.min(count, changes.size())).clear();
-    }
-
-    /** The axioms with a meaning that are changed. */
-    synchronized List<OWLAxiom> axioms() {
-        return changes.stream().filter(OWLOntologyChange::isAxiomChange).map(OWLOntologyChange::getAxiom)
-            .filter(OWLAxiom::isLogicalAxiom).toList();
     }
 }

@@ -6,6 +6,7 @@ import java.util.LinkedHashSet;
 import java.util.List;
 import java.util.Map;
 import java.util.Set;
+import java.util.stream.Collectors;
 import org.semanticweb.owlapi.model.OWLClass;
 import org.semanticweb.owlapi.model.OWLDataFactory;
 import org.semanticweb.owlapi.model.OWLDataProperty;
@@ -13,6 +14,7 @@ import org.semanticweb.owlapi.model.OWLIndividual;
 import org.semanticweb.owlapi.model.OWLNamedIndividual;
 import org.semanticweb.owlapi.model.OWLObjectPropertyExpression;
 import org.semanticweb.owlapi.model.OWLOntology;
+import org.semanticweb.owlapi.model.OWLOntologyID;
 import org.semanticweb.owlapi.model.parameters.Imports;
 import org.semanticweb.owlapi.reasoner.InconsistentOntologyException;
 import org.semanticweb.owlapi.reasoner.Node;
@@ -22,6 +24,7 @@ final class Snapshot {
     private static final int FIRST_TYPE_WORD = 3;
 
     private final OWLDataFactory factory;
+    private final Set<OWLOntologyID> closure;
     private final OntologyDocument document;
     private final QuestionAsker asker;
     private final Reductions reductions;
@@ -34,6 +37,7 @@ final class Snapshot {
 
     Snapshot(OWLOntology root, JezundwaConfiguration configuration, CallRunner runner) {
         factory = root.getOWLOntologyManager().getOWLDataFactory();
+        closure = closure(root);
         document = new OntologyDocument(root, configuration, new Translator(configuration, runner));
         asker = new QuestionAsker(document, configuration, runner, factory);
         reductions = new Reductions(factory);
@@ -41,6 +45,15 @@ final class Snapshot {
             new LinkedHashSet<>(root.getIndividualsInSignature(Imports.INCLUDED)));
         objectProperties = ToldReader.objectProperties(root, document.axioms());
         dataProperties = ToldReader.dataProperties(root, document.axioms());
+    }
+
+    private static Set<OWLOntologyID> closure(OWLOntology root) {
+        return root.getImportsClosure().stream().map(OWLOntology::getOntologyID).collect(Collectors.toSet());
+    }
+
+    /** Whether an ontology imports what it did then: an import may be loaded without any change of the ontology. */
+    boolean isOf(OWLOntology root) {
+        return closure.equals(closure(root));
     }
 
     OWLDataFactory factory() {

@@ -27,17 +27,13 @@ final class ToldProperties<P extends OWLPropertyExpression> {
     }
 
     void add(P property) {
-        if (!top.contains(property) && !bottom.contains(property)) {
-            above.computeIfAbsent(property, unknown -> new LinkedHashSet<>());
-        }
+        above.computeIfAbsent(property, unknown -> new LinkedHashSet<>());
     }
 
     void addBelow(P below, P over) {
         add(below);
         add(over);
-        if (above.containsKey(below) && above.containsKey(over)) {
-            above.get(below).add(over);
-        }
+        above.get(below).add(over);
     }
 
     void addEqual(Collection<? extends P> properties) {
@@ -66,9 +62,9 @@ final class ToldProperties<P extends OWLPropertyExpression> {
     }
 
     private Hierarchy<P> build() {
-        Hierarchy<P> built = new Hierarchy<>(top, bottom);
         Map<P, Set<P>> reached = new HashMap<>();
         above.keySet().forEach(property -> reached.put(property, Hierarchy.reached(Set.of(property), above::get)));
+        Hierarchy<P> built = new Hierarchy<>(toNode.apply(allAboveTop(reached)), toNode.apply(allBelowBottom(reached)));
         for (P property : above.keySet()) {
             if (built.node(property) == null) {
                 Set<P> equal = new LinkedHashSet<>(reached.get(property));
@@ -77,7 +73,7 @@ final class ToldProperties<P extends OWLPropertyExpression> {
             }
         }
         for (Node<P> node : List.copyOf(built.allNodes())) {
-            if (!node.equals(top) && !node.equals(bottom)) {
+            if (!node.equals(built.top()) && !node.equals(built.bottom())) {
                 linkDirectly(built, node, reached);
             }
         }
@@ -85,11 +81,30 @@ final class ToldProperties<P extends OWLPropertyExpression> {
         return built;
     }
 
+    /** What is above the top is equal to it. */
+    private Set<P> allAboveTop(Map<P, Set<P>> reached) {
+        Set<P> equal = new LinkedHashSet<>(top.getEntities());
+        top.forEach(one -> equal.addAll(reached.getOrDefault(one, Set.of())));
+        return equal;
+    }
+
+    /** What is below the bottom is equal to it. */
+    private Set<P> allBelowBottom(Map<P, Set<P>> reached) {
+        Set<P> equal = new LinkedHashSet<>(bottom.getEntities());
+        reached.forEach((property, over) -> {
+            if (over.stream().anyMatch(bottom::contains)) {
+                equal.add(property);
+            }
+        });
+        return equal;
+    }
+
     private static <P extends OWLPropertyExpression> void linkDirectly(Hierarchy<P> built, Node<P> node,
             Map<P, Set<P>> reached) {
         Set<Node<P>> over = new LinkedHashSet<>();
         reached.get(node.getRepresentativeElement()).forEach(property -> over.add(built.node(property)));
         over.remove(node);
+        over.remove(built.top());
         for (Node<P> parent : over) {
             boolean isDirect = over.stream().noneMatch(other -> !other.equals(parent)
                 && reached.get(other.getRepresentativeElement()).contains(parent.getRepresentativeElement()));
@@ -102,20 +117,20 @@ final class ToldProperties<P extends OWLPropertyExpression> {
     /** The nodes below a property; one of which no axiom speaks has the bottom alone below it. */
     Set<Node<P>> below(P property, boolean isDirect) {
         Node<P> node = hierarchy().node(property);
-        Set<Node<P>> children = node == null ? Set.of(bottom) : hierarchy().children(node);
+        Set<Node<P>> children = node == null ? Set.of(hierarchy().bottom()) : hierarchy().children(node);
         return isDirect ? new LinkedHashSet<>(children) : hierarchy().andBelow(children);
     }
 
     Set<Node<P>> above(P property, boolean isDirect) {
         Node<P> node = hierarchy().node(property);
-        Set<Node<P>> parents = node == null ? Set.of(top) : hierarchy().parents(node);
+        Set<Node<P>> parents = node == null ? Set.of(hierarchy().top()) : hierarchy().parents(node);
         return isDirect ? new LinkedHashSet<>(parents) : hierarchy().andAbove(parents);
     }
 
     /** The nodes that have no pair in common with a property, as axioms say of it or of what is above it. */
     Set<Node<P>> disjoint(P property) {
-        Set<Node<P>> found = new LinkedHashSet<>(Set.of(bottom));
-        if (bottom.contains(property)) {
+        Set<Node<P>> found = new LinkedHashSet<>(Set.of(hierarchy().bottom()));
+        if (hierarchy().bottom().contains(property)) {
             return new LinkedHashSet<>(hierarchy().allNodes());
         }
         if (above.containsKey(property)) {

@@ -11,6 +11,7 @@ import java.util.Set;
 import java.util.concurrent.atomic.AtomicInteger;
 import org.junit.Test;
 import org.semanticweb.owlapi.apibinding.OWLManager;
+import org.semanticweb.owlapi.io.StringDocumentSource;
 import org.semanticweb.owlapi.model.AddImport;
 import org.semanticweb.owlapi.model.IRI;
 import org.semanticweb.owlapi.model.OWLAxiom;
@@ -83,6 +84,42 @@ public class ChangesTest {
         assertFalse(reasoner.isEntailed(A_IN_C));
         manager.addAxiom(imported, A_IN_C);
         assertFalse("a change of what is not imported", reasoner.isEntailed(A_IN_C));
+    }
+
+    @Test
+    public void whatAnImportBringsIsPending() throws OWLOntologyCreationException {
+        OWLOntologyManager manager = OWLManager.createOWLOntologyManager();
+        OWLOntology root = manager.createOntology(IRI.create("urn:root"));
+        manager.addAxiom(root, A_IN_B);
+        manager.addAxiom(manager.createOntology(IRI.create("urn:imported")), B_IN_C);
+        JezundwaReasoner reasoner = Called.reasoner(root);
+        var declaration = manager.getOWLDataFactory().getOWLImportsDeclaration(IRI.create("urn:imported"));
+        manager.applyChange(new AddImport(root, declaration));
+        assertEquals(Set.of(B_IN_C), reasoner.getPendingAxiomAdditions());
+        assertFalse(reasoner.isEntailed(A_IN_C));
+        reasoner.flush();
+        assertTrue(reasoner.isEntailed(A_IN_C));
+        manager.applyChange(new RemoveImport(root, declaration));
+        assertEquals(Set.of(B_IN_C), reasoner.getPendingAxiomRemovals());
+        assertEquals(Set.of(), reasoner.getPendingAxiomAdditions());
+        reasoner.flush();
+        assertFalse(reasoner.isEntailed(A_IN_C));
+    }
+
+    /** Loading is no change that a listener hears of. */
+    @Test
+    public void anImportMayBeLoadedAfterItsDeclaration() throws OWLOntologyCreationException {
+        OWLOntologyManager manager = OWLManager.createOWLOntologyManager();
+        OWLOntology root = manager.createOntology(IRI.create("urn:root"));
+        manager.addAxiom(root, A_IN_B);
+        manager.applyChange(new AddImport(root,
+            manager.getOWLDataFactory().getOWLImportsDeclaration(IRI.create("urn:imported"))));
+        JezundwaReasoner reasoner =
+            new JezundwaReasonerFactory().createNonBufferingReasoner(root, Called.configuration());
+        assertFalse(reasoner.isEntailed(A_IN_C));
+        manager.loadOntologyFromOntologyDocument(new StringDocumentSource(
+            "Ontology(<urn:imported> SubClassOf(<" + Ontologies.PREFIX + "B> <" + Ontologies.PREFIX + "C>))"));
+        assertTrue(reasoner.isEntailed(A_IN_C));
     }
 
     @Test

@@ -19,7 +19,6 @@ import org.semanticweb.owlapi.model.OWLClass;
 import org.semanticweb.owlapi.model.OWLDataFactory;
 import org.semanticweb.owlapi.model.OWLOntology;
 import org.semanticweb.owlapi.model.parameters.Imports;
-import org.semanticweb.owlapi.reasoner.AxiomNotInProfileException;
 
 /** Axioms outside of the language: refused, left out, or translated. */
 public class OutsideTest {
@@ -68,6 +67,12 @@ public class OutsideTest {
         "ClassAssertion(:A _:someone)", "SubObjectPropertyOf(:r owl:topObjectProperty)",
         "SubObjectPropertyOf(owl:bottomObjectProperty :r)", "DisjointUnion(owl:Thing :D :E)");
 
+    /** Axioms that are outside, about the names of random ontologies. */
+    private static final List<String> WITH_MEANING = List.of("SubClassOf(:A0 ObjectHasValue(:R0 :i0))",
+        "SubClassOf(:A1 ObjectOneOf(:i0 :i1))", "InverseObjectProperties(:R0 :R1)", "SymmetricObjectProperty(:R0)",
+        "SubClassOf(ObjectSomeValuesFrom(ObjectInverseOf(:R1) :A2) :A3)", "DataPropertyDomain(:p :A3)",
+        "SubClassOf(:A4 DataSomeValuesFrom(:p xsd:integer))");
+
     private static final String REST = "\nTransitiveObjectProperty(:t)\nSubClassOf(:A :B)\nSubClassOf(:B :C)";
 
     private static JezundwaReasoner reasoner(String text, OutsidePolicy policy) {
@@ -77,8 +82,14 @@ public class OutsideTest {
 
     @Test
     public void strictRefusesEachByName() {
-        OUTSIDE.forEach((text, construct) -> assertEquals(Ontologies.axiom(text), assertThrows(text,
-            AxiomNotInProfileException.class, () -> reasoner(text + REST, OutsidePolicy.STRICT)).getAxiom()));
+        OUTSIDE.forEach((text, construct) -> {
+            OutsideAxiomException refused = assertThrows(text, OutsideAxiomException.class,
+                () -> reasoner(text + REST, OutsidePolicy.STRICT));
+            assertEquals(Ontologies.axiom(text), refused.getAxiom());
+            assertEquals(text, construct, refused.construct());
+            String message = refused.getMessage();
+            assertTrue(message, message.startsWith(construct + " is outside of the language"));
+        });
     }
 
     @Test
@@ -145,12 +156,9 @@ public class OutsideTest {
     @Test
     public void neverMoreThanKoncludeOnTheWhole() {
         assumeTrue("konclude is not installed", Konclude.isHere());
-        List<OutsidePolicy> policies = new ArrayList<>(List.of(OutsidePolicy.LEAVE_OUT));
-        if (hasTranslator()) {
-            policies.add(OutsidePolicy.APPROXIMATE);
-        }
+        List<OutsidePolicy> policies = policies();
         int found = 0;
-        for (int seed = 0; seed < Called.many(3, 100); seed++) {
+        for (int seed = 0; seed < Called.many(3, 300); seed++) {
             OWLOntology ontology = withOutside(seed);
             List<OWLAxiom> questions = inclusions(ontology);
             List<Boolean> expected;
@@ -160,32 +168,56 @@ public class OutsideTest {
                 continue;
             }
             for (OutsidePolicy policy : policies) {
-                JezundwaReasoner reasoner = new JezundwaReasonerFactory().createReasoner(ontology,
-                    Called.configuration().withOutside(policy));
-                String message = "seed " + seed + " " + policy;
-                if (expected == null || !reasoner.isConsistent()) {
-                    assertTrue(message, expected == null);
+                JezundwaConfiguration configuration = Called.configuration().withOutside(policy);
+                if (policy == OutsidePolicy.STRICT && choice(seed) != 0) {
+                    assertThrows(OutsideAxiomException.class,
+                        () -> new JezundwaReasonerFactory().createReasoner(ontology, configuration));
                     continue;
                 }
-                List<Boolean> answers = Called.entailed(reasoner, questions);
-                for (int at = 0; at < answers.size(); at++) {
-                    assertTrue(message + " " + questions.get(at), !answers.get(at) || expected.get(at));
-                    found += answers.get(at) ? 1 : 0;
-                }
+                found += compare("seed " + seed + " " + policy, ontology, questions, expected,
+                    new JezundwaReasonerFactory().createReasoner(ontology, configuration));
             }
         }
         assertTrue(found > 0);
     }
 
+    private static List<OutsidePolicy> policies() {
+        return hasTranslator() ? List.of(OutsidePolicy.values())
+            : List.of(OutsidePolicy.STRICT, OutsidePolicy.LEAVE_OUT);
+    }
+
+    /** How many questions follow; each of these has to follow for Konclude too. */
+    private static int compare(String message, OWLOntology ontology, List<OWLAxiom> questions, List<Boolean> expected,
+            JezundwaReasoner reasoner) {
+        Judge judge = new Judge(ontology, reasoner);
+        boolean isConsistent = reasoner.isConsistent();
+        if (!isConsistent) {
+            judge.compare(message, Judge.inconsistency(), expected == null, true);
+        }
+        if (!isConsistent || expected == null) {
+            return 0;
+        }
+        List<Boolean> answers = Called.entailed(reasoner, questions);
+        int found = 0;
+        for (int at = 0; at < answers.size(); at++) {
+            if (answers.get(at)) {
+                judge.compare(message, questions.get(at), expected.get(at), true);
+                found++;
+            }
+        }
+        return found;
+    }
+
+    /** Which of the axioms that are outside an ontology has, as bits: each choice is that of some seed. */
+    private static int choice(int seed) {
+        return seed * 45 % (1 << WITH_MEANING.size());
+    }
+
     private static OWLOntology withOutside(int seed) {
         OWLOntology ontology = new Ontologies.Maker(5_000 + seed, true).ontology();
-        List<String> outside = List.of("SubClassOf(:A0 ObjectHasValue(:R0 :i0))", "SubClassOf(:A1 ObjectOneOf(:i0 :i1))",
-            "InverseObjectProperties(:R0 :R1)", "SymmetricObjectProperty(:R0)",
-            "SubClassOf(ObjectSomeValuesFrom(ObjectInverseOf(:R1) :A2) :A3)", "DataPropertyDomain(:p :A3)",
-            "SubClassOf(:A4 DataSomeValuesFrom(:p xsd:integer))");
-        for (int at = 0; at < outside.size(); at++) {
-            if ((seed + at) % 2 == 0) {
-                ontology.getOWLOntologyManager().addAxiom(ontology, Ontologies.axiom(outside.get(at)));
+        for (int at = 0; at < WITH_MEANING.size(); at++) {
+            if ((choice(seed) >> at & 1) == 1) {
+                ontology.getOWLOntologyManager().addAxiom(ontology, Ontologies.axiom(WITH_MEANING.get(at)));
             }
         }
         return ontology;
@@ -217,7 +249,7 @@ public class OutsideTest {
         boolean isKnown() {
             try {
                 return new ProgramCall(Called.configuration().translator(), List.of(word),
-                    OntologyDocument.bytes("Ontology(\n)\n")).run(60_000).status() == ProgramStatus.DONE;
+                    OntologyDocument.bytes("Ontology(\n)\n")).run(Called.LONGEST).status() == ProgramStatus.DONE;
             } catch (ProgramException.NotFound missing) {
                 return false;
             }
