@@ -59,7 +59,7 @@ def model_graph(reading):
 
 def taxonomy_graph(reading):
     """A node for each group of equal classes, and an arrow to each group directly above, which stands to the left."""
-    names, answer = reading.names, shown_alone(reading.answer, reading.names)
+    names, answer = reading.names, shown_alone(reading.answer, reading.names.shown)
     numbers = {group.names[0]: at for at, group in enumerate(answer.groups)}
     lines = ["rankdir=RL;", node("thing", "\n".join(["Thing", *map(names.of, names.shown(answer.thing))]))]
     for at, group in enumerate(answer.groups):

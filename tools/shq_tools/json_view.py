@@ -1,14 +1,20 @@
-"""An answer as one object of JSON, whose form is written down in `docs/answer.schema.json`."""
+"""An answer as one object of JSON, whose form is written down in `docs/answer.schema.json`.
+
+What a translation made new stands in no list, and in an axiom there stands what it means. A certificate stays as it
+is, since it is checked so.
+"""
 import json
 import re
 
 from shq_tools.answers import Instances, Model, Realization, Reasons, Refutation, SetList, Taxonomy, Unread, answer
 from shq_tools.approximation.display import shown_names
+from shq_tools.approximation.new_names import meaning_text, not_new
 from shq_tools.approximation.summary import lines_of
 from shq_tools.functional import axiom_text
 from shq_tools.names import Names, labels_in
 from shq_tools.statuses import Status, status_name
 from shq_tools.tokens import Refused
+from shq_tools.trees_of_classes import shown_alone
 
 REFUSED = re.compile(r"(bad text|outside|limit) (\S+)(?: (?:line (\d+)|query))?")
 REJECTED = re.compile(r"rejected (\S+)(?: (\S+))?")
@@ -17,7 +23,7 @@ CERTIFIED = ("entailed", "not entailed", "satisfiable", "unsatisfiable")
 
 def axioms_of(found):
     """The axioms below a list: number, line and text."""
-    return [{"number": it.number, "line": it.line, "text": axiom_text(it.axiom)} for it in found.values()]
+    return [{"number": it.number, "line": it.line, "text": axiom_text(it.axiom, meaning_text)} for it in found.values()]
 
 
 def sets_of(found):
@@ -30,7 +36,9 @@ def sets_of(found):
 
 
 def groups_of(found):
-    return [{"classes": it.names, "below": [one for one in it.parents if one]} for it in found.groups]
+    groups = shown_alone(found, not_new).groups
+    classes = {it.names[0]: not_new(it.names) for it in groups}
+    return [{"classes": classes[it.names[0]], "below": [classes[one][0] for one in it.parents if one]} for it in groups]
 
 
 def taxonomy_of(found):
@@ -38,8 +46,8 @@ def taxonomy_of(found):
         return {"verdict": "inconsistent"}
     return {
         "verdict": "consistent",
-        "contradictory": found.nothing,
-        "everything": found.thing,
+        "contradictory": not_new(found.nothing),
+        "everything": not_new(found.thing),
         "groups": groups_of(found),
     }
 
@@ -48,18 +56,19 @@ def reasons_of(found):
     axioms = {}
     for _, listed in found.instances:
         axioms.update(listed.axioms)
-    members = [{"individual": one, "sets": listed.sets} for one, listed in found.instances]
+    members = [{"individual": one, "sets": listed.sets} for one, listed in found.instances if not_new([one])]
     return {"verdict": "instances", "instances": members, "axioms": axioms_of(dict(sorted(axioms.items())))}
 
 
 def model_of(found):
-    roles = {name: [list(it) for it in pairs] for name, pairs in found.roles.items()}
-    model = {"size": found.size, "classes": found.classes, "roles": roles, "individuals": found.individuals}
+    roles = {name: list(map(list, found.roles[name])) for name in not_new(found.roles)}
+    classes, individuals = ({it: those[it] for it in not_new(those)} for those in (found.classes, found.individuals))
+    model = {"size": found.size, "classes": classes, "roles": roles, "individuals": individuals}
     return {"verdict": found.verdict, "model": model}
 
 
 def types_of(found):
-    types = [{"individual": one, "classes": classes} for one, classes in found.types]
+    types = [{"individual": one, "classes": not_new(classes)} for one, classes in found.types if not_new([one])]
     return {"verdict": "consistent", "types": types}
 
 
@@ -95,7 +104,7 @@ BY_KIND = {
     SetList: sets_of,
     Taxonomy: taxonomy_of,
     Realization: types_of,
-    Instances: lambda found: {"verdict": "instances", "individuals": found.names},
+    Instances: lambda found: {"verdict": "instances", "individuals": not_new(found.names)},
     Reasons: reasons_of,
     Model: model_of,
     Refutation: lambda found: {"verdict": found.verdict, "used": found.axioms},
@@ -117,8 +126,8 @@ def read(job, text):
 
 
 def iris_in(told):
-    """The IRIs of a told answer: those in the texts of axioms, and those that stand alone."""
-    texts = " ".join(it["text"] for it in told.get("axioms", ()))
+    """The IRIs of a told answer: those in texts, and those that stand alone."""
+    texts = " ".join([told.get("certificate", ""), *(it["text"] for it in told.get("axioms", ()))])
     return set(re.findall(r"<([^<>\s]*)>", texts)) | set(bare_iris(told))
 
 
@@ -145,8 +154,7 @@ def names_of(told, source, language):
     """The labels of the things in a told answer, where there are any, and what new names of a translation mean."""
     labels, iris = labels_of(source.data), sorted(iris_in(told))
     names = Names(labels, language)
-    found = {iri: names.of(iri) for iri in iris if iri in labels}
-    return {**found, **shown_names(iris, names)} if source.translation else found
+    return {**{iri: names.of(iri) for iri in iris if iri in labels}, **shown_names(iris, names)}
 
 
 def translation_of(source):

@@ -10,7 +10,7 @@ from shq_tools.ontology_facts import Ontology
 from shq_tools.story import Story, all_told, list_text, story_of
 from shq_tools.terms import BOTTOM, TOP, Axiom, RoleBox
 from shq_tools.told import ToldClasses
-from shq_tools.wording import counted, heading, reason_heading
+from shq_tools.wording import counted, heading, reason_heading, types_text
 from shq_tools.worlds import World, called, connected, things
 
 OTHER_AXIOMS = "the axioms of the file for --labels are not those of this refutation, so they are not told"
@@ -117,9 +117,7 @@ class Reading:
     def types(self):
         """Each individual of a realization by its name, with the names of its most specific classes."""
         types = dict(self.answer.types)
-        found = [(self.names.of(one), list(map(self.names.of, self.names.shown(types[one]))))
-                 for one in self.names.shown(types)]
-        return [(one, ", ".join(classes) or "in no named class") for one, classes in found]
+        return [(self.names.of(one), types_text(types[one], self.names)) for one in self.names.shown(types)]
 
     def reasons(self):
         """What comes before each reason why an individual is in a class expression, and the axioms of the reason."""

@@ -14,6 +14,7 @@ from shq_tools.side_by_side import Deadline, Questions
 from shq_tools.survey import by_keyword, survey
 from shq_tools.terms import BOTTOM, TOP
 from shq_tools.told import links_between
+from shq_tools.trees_of_classes import shown_types
 
 ALL_FALSE = "SubClassOf(owl:Thing owl:Nothing)"
 # One question may take so much of the time that there is for all reasons and repairs.
@@ -125,7 +126,7 @@ def given_of(data, file="", language=""):
         axioms, listed = walked(read)
         ontology = Ontology(read.prefixes, {it.number: it for it in axioms}, *map(list, listed.values()))
     whole, left_out = sum(it.is_axiom for it in looked), sum(it.is_axiom for it in outside)
-    names = Names(labels, language, ontology.names)
+    names = names_of(ontology, labels, language)
     caveat = left_out_caveat(left_out, whole)
     return Given(data, ontology, names, file, whole, left_out_rows(looked), caveat=caveat)
 
@@ -219,6 +220,8 @@ class Reporter:
             explained = self.contradictory(taxonomy)
         realization = answered(realized.result()) if realized else None
         realization = realization if isinstance(realization, (Realization, Plain)) else None
+        if isinstance(realization, Realization) and isinstance(taxonomy, Taxonomy):
+            realization = shown_types(realization, taxonomy, self.given.names.shown)
         return Report(self.given, taxonomy, realization, explained, self.seconds)
 
 

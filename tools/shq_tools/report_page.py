@@ -25,7 +25,7 @@ from shq_tools.report_words import (
     ways_text,
 )
 from shq_tools.trees_of_classes import forest
-from shq_tools.wording import counted
+from shq_tools.wording import counted, types_text
 
 # Of so many contradictory classes the reasons are open at first.
 OPEN_AT_FIRST = 3
@@ -146,7 +146,7 @@ class ReportPage:
         types = dict(self.report.realization.types)
         rows = []
         for one in self.names.shown(types):
-            classes = ", ".join(map(self.names.of, self.names.shown(types[one]))) or "in no named class"
+            classes = types_text(types[one], self.names)
             rows.append(f"<tr data-entry><th scope='row'>{self.names.placed(one)}</th><td>{classes}</td></tr>")
         shown = table(["individual", "most specific classes"], rows, "Individuals")
         return [details(counted(len(rows), "individual"), shown, len(rows) <= OPEN_ROWS)]

@@ -10,17 +10,19 @@ from typing import NamedTuple
 
 BYTE_ORDER_MARK = "\ufeff"
 
+GAP = re.compile(r"[ \t\n\r]*")
+# A token, or a comment, and the gap behind it. A long gap in front of what is no token would be tried again and again.
 PATTERN = re.compile(
-    r"""(?P<gap>[ \t\n\r]+|\#[^\n\r]*)
+    r"""(?:(?P<name>[^\x00-\x20\x7f()=<>"#@^]+)
     |(?P<open>\()|(?P<close>\))|(?P<equals>=)
-    |<(?P<iri>[^\x00-\x20\x7f<>"]*)>
-    |"(?P<string>[^"\\]*(?:\\["\\][^"\\]*)*)"
+    |(?P<iri><[^\x00-\x20\x7f<>"]*>)
+    |(?P<string>"[^"\\]*(?:\\["\\][^"\\]*)*")
     |(?P<tag>@[A-Za-z0-9-]+)|(?P<carets>\^\^)
-    |(?P<name>[^\x00-\x20\x7f()=<>"#@^]+)""",
+    |(?P<comment>\#[^\n\r]*))[ \t\n\r]*""",
     re.X,
 )
-# The kinds of tokens that may stand on more than one line.
-MANY_LINES = {"gap", "string"}
+DELIMITED = {"iri", "string"}
+BRACKETS = {"open", "close"}
 # What there may be of a token that goes on where the text ends.
 UNENDED = re.compile(r"""<[^\x00-\x20\x7f<>"]*\Z|"[^"\\]*(?:\\["\\][^"\\]*)*\\?\Z|@\Z|\^\Z""")
 
@@ -40,13 +42,23 @@ def bad_text(kind, line):
 
 
 class Token(NamedTuple):
-    """A token: its kind by the pattern above, its text without delimiters, its place in the text and its line."""
+    """A token: its kind by the pattern above, its text without delimiters, its place in the text and its line.
+
+    That of a name or of an IRI stands in a tree as it is: so it has what an item has.
+    """
 
     kind: str
     text: str
     start: int
     end: int
     line: int
+
+    items = ()
+    tag = ""
+    datatype = None
+
+    def is_group(self, name):
+        return False
 
 
 class DocumentEnd:
@@ -104,20 +116,23 @@ def tokens(data):
     Raises `Refused` with the fault that is met first.
     """
     front, bad_line = readable_front(data)
-    place = len(BYTE_ORDER_MARK) if front.startswith(BYTE_ORDER_MARK) else 0
-    line, found, end = 1, [], DocumentEnd()
+    place = GAP.match(front, len(BYTE_ORDER_MARK) if front.startswith(BYTE_ORDER_MARK) else 0).end()
+    line, found, document_end = 1 + front.count("\n", 0, place), [], DocumentEnd()
     for match in PATTERN.finditer(front, place):
-        kind = match.lastgroup
         if match.start() != place:
             break
+        kind = match.lastgroup
+        start, end = match.span(kind)
         place = match.end()
-        if kind != "gap":
-            token = Token(kind, match[kind], match.start(), place, line)
+        if kind != "comment":
+            text = front[start + 1 : end - 1] if kind in DELIMITED else front[start:end]
+            token = Token(kind, text, start, end, line)
             found.append(token)
-            if end.is_at(token):
-                return found, front, place
-        if kind in MANY_LINES:
-            line += match[0].count("\n")
+            # inside of brackets nothing but brackets matters
+            if (kind in BRACKETS or not document_end.depth) and document_end.is_at(token):
+                return found, front, end
+        if place != end or kind == "string":
+            line += front.count("\n", start, place)
     if place < len(front):
         raise fault_at(front, place, line, bad_line)
     if bad_line is not None:

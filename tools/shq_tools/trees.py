@@ -1,27 +1,28 @@
 """The items of an ontology, bracketed."""
-from dataclasses import dataclass, field
-
 from shq_tools.tokens import Refused, bad_text
 
 MOST_OPEN = 64
 
 
-@dataclass
 class Item:
-    """A name, an IRI, a literal, a sign (an equals sign, a tag or carets) or a group, with its line and its place.
+    """A literal, a sign (an equals sign, a tag or carets) or a group, with its line and its place. A name or an IRI is
+    an item too, and stands as its token.
 
     A group has its name, or None, as its text, and its items. A literal has its tag or type behind its text: the
     type is an item.
     """
 
-    kind: str
-    text: str
-    line: int
-    start: int
-    end: int
-    items: list = field(default_factory=list)
-    tag: str = ""
-    datatype: object = None
+    __slots__ = ("kind", "text", "line", "start", "end", "items", "tag", "datatype")
+
+    def __init__(self, kind, text, line, start, end, items=(), tag="", datatype=None):
+        self.kind = kind
+        self.text = text
+        self.line = line
+        self.start = start
+        self.end = end
+        self.items = items
+        self.tag = tag
+        self.datatype = datatype
 
     def is_group(self, name):
         return self.kind == "group" and self.text == name
@@ -36,31 +37,28 @@ def type_length(tokens, place):
 
 
 def literal(tokens, place):
-    """The literal whose string stands at a place, and the place behind it."""
+    """The literal whose string stands at a place, and how many tokens it has."""
     token = tokens[place]
     count = type_length(tokens, place + 1)
     last = tokens[place + count]
     tag = last.text[1:] if count == 1 else ""
     datatype = single(last) if count == 2 else None
-    return Item("literal", token.text, token.line, token.start, last.end, tag=tag, datatype=datatype), place + 1 + count
+    return Item("literal", token.text, token.line, token.start, last.end, tag=tag, datatype=datatype), 1 + count
 
 
 def single(token):
-    kind = token.kind if token.kind in ("name", "iri") else "sign"
-    return Item(kind, token.text, token.line, token.start, token.end)
+    """The item of a token that is neither a bracket nor a string."""
+    if token.kind in ("name", "iri"):
+        return token
+    return Item("sign", token.text, token.line, token.start, token.end)
 
 
-def opened(tokens, place, depth):
-    """The group that begins at a place, still without items, and the place behind its bracket; or None."""
-    token = tokens[place]
-    is_named = token.kind == "name" and place + 1 < len(tokens) and tokens[place + 1].kind == "open"
-    if token.kind != "open" and not is_named:
-        return None
-    bracket = tokens[place + 1] if is_named else token
-    if depth == MOST_OPEN:
-        raise Refused("limit", "nesting", bracket.line)
-    name = token.text if is_named else None
-    return Item("group", name, token.line, token.start, bracket.end), place + 1 + is_named
+def opened(items, before, bracket):
+    """The group that a bracket opens, still without items. Its name is the last item, where that is the token before."""
+    if items and items[-1] is before and before.kind == "name":
+        items.pop()
+        return Item("group", before.text, before.line, before.start, bracket.end, [])
+    return Item("group", None, bracket.line, bracket.start, bracket.end, [])
 
 
 def trees(tokens, end_line):
@@ -68,24 +66,27 @@ def trees(tokens, end_line):
     deeply.
     """
     top, open_groups, place = [], [], 0
+    items = top
     while place < len(tokens):
-        items = open_groups[-1].items if open_groups else top
-        token = tokens[place]
+        token, count = tokens[place], 1
         if token.kind == "close":
             if not open_groups:
                 raise bad_text("balance", token.line)
             open_groups.pop().end = token.end
-            place += 1
-        elif group := opened(tokens, place, len(open_groups)):
-            items.append(group[0])
-            open_groups.append(group[0])
-            place = group[1]
+            items = open_groups[-1].items if open_groups else top
+        elif token.kind == "open":
+            if len(open_groups) == MOST_OPEN:
+                raise Refused("limit", "nesting", token.line)
+            group = opened(items, tokens[place - 1], token)
+            items.append(group)
+            open_groups.append(group)
+            items = group.items
         elif token.kind == "string":
-            item, place = literal(tokens, place)
+            item, count = literal(tokens, place)
             items.append(item)
         else:
             items.append(single(token))
-            place += 1
+        place += count
     if open_groups:
         raise bad_text("balance", end_line)
     return top

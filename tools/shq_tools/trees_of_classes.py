@@ -1,7 +1,7 @@
 """A taxonomy as a tree of classes."""
 from dataclasses import dataclass, field
 
-from shq_tools.answers import Taxonomy
+from shq_tools.answers import Realization, Taxonomy
 
 SHOWN_BEFORE = "(A class with .. stands above with what is below it.)"
 # How far below a class its neighbourhood goes.
@@ -37,7 +37,7 @@ def forest(taxonomy, names):
     """The groups directly below `owl:Thing`, each with those below it, in the order of their names. Classes that lists
     do not show are left out, and what is below them stands in their place.
     """
-    below, shown = groups_below(shown_alone(taxonomy, names)), set()
+    below, shown = groups_below(shown_alone(taxonomy, names.shown)), set()
     members = {group.names[0]: names.shown(group.names) for group in taxonomy.groups}
     top = Branch([], 0)
     left = [(top, None)]
@@ -67,34 +67,50 @@ def replaced(taxonomy, groups):
     return Taxonomy(taxonomy.is_consistent, taxonomy.nothing, taxonomy.thing, groups)
 
 
-def shown_alone(taxonomy, names):
+def shown_alone(taxonomy, shown):
     """The taxonomy without the groups of which lists show no class; what is below them is directly below those above
-    them.
+    them. `shown` has of some classes those that lists show.
     """
-    hidden = {group.names[0]: group.parents for group in taxonomy.groups if not names.shown(group.names)}
+    parents = {group.names[0]: group.parents for group in taxonomy.groups}
+    hidden = {group.names[0] for group in taxonomy.groups if not shown(group.names)}
     if not hidden:
         return taxonomy
     kept = [it for it in taxonomy.groups if it.names[0] not in hidden]
-    return replaced(taxonomy, [type(it)(it.names, shown_parents(it.parents, hidden)) for it in kept])
+    return replaced(taxonomy, [type(it)(it.names, shown_parents(it.parents, parents, hidden)) for it in kept])
 
 
-def shown_parents(parents, hidden):
-    """The parents, and in place of a hidden one those above it. A hidden parent that leads to `owl:Thing` alone adds
-    nothing where there is another one.
-    """
-    found, left = {}, list(reversed(parents))
+def shown_parents(own, parents, hidden):
+    """The parents of a group, and in place of a hidden one those above it, but for what is above another one of them."""
+    if hidden.isdisjoint(own):
+        return own
+    found, met, left = {}, set(own), list(reversed(own))
     while left:
-        parent = left.pop()
-        if parent in hidden:
-            left += reversed(hidden[parent])
-        elif parent is not None:
-            found[parent] = None
-    return list(found)
+        one = left.pop()
+        if one in hidden:
+            new = [it for it in parents[one] if it not in met]
+            met.update(new)
+            left += reversed(new)
+        elif one is not None:
+            found[one] = None
+    farther = set().union(*(above(parents, it) for it in found)) if len(found) > 1 else ()
+    return [it for it in found if it not in farther]
 
 
-def above(taxonomy, first):
-    """The first names of all groups above a group."""
+def shown_types(realization, taxonomy, shown):
+    """The realization with classes alone that lists show: in place of another one stand the nearest ones above it."""
+    first_names = {name: group.names[0] for group in taxonomy.groups for name in group.names}
     parents = {group.names[0]: group.parents for group in taxonomy.groups}
+    classes = {group.names[0]: shown(group.names) for group in taxonomy.groups}
+    hidden = {it for it, those in classes.items() if not those}
+    types = []
+    for individual, given in realization.types:
+        own = list(dict.fromkeys(first_names[it] for it in given if it in first_names))
+        types.append((individual, [classes[it][0] for it in shown_parents(own, parents, hidden)]))
+    return Realization(types)
+
+
+def above(parents, first):
+    """The first names of all groups above a group, by the parents of each group."""
     found, left = set(), [first]
     while left:
         new = [it for it in parents.get(left.pop(), []) if it is not None and it not in found]
@@ -108,7 +124,8 @@ def around(taxonomy, iri):
     own = next((group for group in taxonomy.groups if iri in group.names), None)
     if own is None:
         return None
-    below, level, kept = groups_below(taxonomy), [own], {own.names[0]} | above(taxonomy, own.names[0])
+    parents = {group.names[0]: group.parents for group in taxonomy.groups}
+    below, level, kept = groups_below(taxonomy), [own], {own.names[0]} | above(parents, own.names[0])
     for _ in range(LEVELS_BELOW):
         level = [inner for group in level for inner in below.get(group.names[0], [])]
         kept.update(it.names[0] for it in level)

@@ -2,11 +2,14 @@
 an answer is not printed as it is.
 """
 from shq_tools import json_view
-from shq_tools.answers import Taxonomy, Unread, answer
-from shq_tools.answering import CONTRADICTORY
+from shq_tools.answers import Realization, Taxonomy, Unread, answer
+from shq_tools.answering import CONTRADICTORY, seconds_of
+from shq_tools.approximation.new_names import not_new
+from shq_tools.budgets import known_with, known_within
 from shq_tools.messages import say
 from shq_tools.own_answers import own_answer
 from shq_tools.statuses import Status
+from shq_tools.trees_of_classes import shown_types
 
 # The jobs that list sets of axioms.
 LISTING_JOBS = ("explain", "repair", "why")
@@ -22,9 +25,45 @@ def own_text(question, known):
     return text
 
 
+def read_as(kind, text):
+    """The answer of a text, where it is of a kind, or None."""
+    try:
+        found = answer(text)
+    except Unread:
+        return None
+    return found if isinstance(found, kind) else None
+
+
+def hierarchy_for(question, source):
+    """What the program answers to `classify` within what the question itself may take."""
+    seconds = seconds_of(question)
+    if seconds is not None:
+        return known_within(("classify",), source, seconds)
+    return known_with(("classify", *question.words[1:]), source)
+
+
+def old_types(question, source, text):
+    """The answer of `realize` with classes of the file alone. Where the most specific class of an individual is one that
+    a translation made, it is in all classes of the file above that one, so the hierarchy is asked for too.
+    """
+    found = read_as(Realization, text)
+    if found is None or all(classes == not_new(classes) for _, classes in found.types):
+        return text
+    hierarchy = read_as(Taxonomy, hierarchy_for(question, source).ended.output.decode("utf-8", "replace"))
+    return realization_text(shown_types(found, hierarchy, not_new)) if hierarchy else text
+
+
+def realization_text(found):
+    """The text of a realization, as the program prints it."""
+    lines = (f"individual <{one}> types{''.join(f' <{it}>' for it in classes)}" for one, classes in found.types)
+    return "\n".join(["consistent", *lines, ""])
+
+
 def shown(question, source, known, **more):
     """What is printed of an answer, as bytes. What more is told of it stands in its object of JSON alone."""
     text = own_text(question, known)
+    if question.words[0] == "realize" and source and source.translation:
+        text = old_types(question, source, text)
     if "--json" in question.options:
         return json_view.text_of(json_view.object_of(question, source, text, known.status, **more)).encode("utf-8")
     if any(it in question.options for it in FOR_PEOPLE):
@@ -52,11 +91,8 @@ def refusal_shown(question, message, status):
 
 def contradictory_in(text):
     """What is contradictory in the answer of `classify`, in words, or None."""
-    try:
-        found = answer(text)
-    except Unread:
-        return None
-    if not isinstance(found, Taxonomy):
+    found = read_as(Taxonomy, text)
+    if found is None:
         return None
     if not found.is_consistent:
         return "the ontology is inconsistent"

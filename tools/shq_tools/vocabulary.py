@@ -2,6 +2,7 @@
 import difflib
 from dataclasses import dataclass, field
 
+from shq_tools.approximation.new_names import is_new
 from shq_tools.documents import document, walked
 from shq_tools.keywords import NOTHING, THING
 from shq_tools.names import end_of_iri, labels_of
@@ -37,11 +38,15 @@ class Vocabulary:
         """The labels of a thing, in all languages."""
         return [one_line(it) for it in self.labels.get(iri, {}).values()]
 
+    def of_the_file(self, kind):
+        """The names of a kind but for those that a translation made, which nobody writes."""
+        return [it for it in self.names[kind] if not is_new(it)]
+
     def called(self, kind, text):
         """The IRIs of a kind that end in a text or have it as a label; where there is none, without regard to case."""
         for alike in (str, str.casefold):
             wanted = alike(one_line(text))
-            found = [it for it in self.names[kind] if wanted in map(alike, [end_of_iri(it), *self.labels_of(it)])]
+            found = [it for it in self.of_the_file(kind) if wanted in map(alike, [end_of_iri(it), *self.labels_of(it)])]
             if found:
                 return found
         return []
@@ -63,7 +68,7 @@ class Vocabulary:
     def nearest(self, kind, text):
         """The things of a kind whose names are nearest to a text, the nearest first."""
         by_name = {}
-        for iri in self.names[kind]:
+        for iri in self.of_the_file(kind):
             for name in (end_of_iri(iri), *self.labels_of(iri)):
                 by_name.setdefault(name.casefold(), iri)
         wanted = end_of_iri(one_line(text)).casefold()

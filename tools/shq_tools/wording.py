@@ -247,6 +247,15 @@ def ending(answer):
     return ""
 
 
+def types_text(classes, names):
+    """The most specific classes of an individual. Those that lists do not show stand behind the others, since what is
+    above them is not known here.
+    """
+    shown = names.shown(classes)
+    others = sorted(set(classes) - set(shown), key=names.order)
+    return ", ".join(map(names.of, [*shown, *others])) or "in no named class"
+
+
 def left_out_text(story):
     """How many steps of a refutation are not told."""
     steps = f"{counted(story.left_out, 'step')} of the certificate that no contradiction needs"

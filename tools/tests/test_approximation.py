@@ -444,6 +444,24 @@ class DataRows(RowsTest):
         ]
         self.assert_rows(axioms, rows, Loss.DATA)
 
+    def test_numbers_that_are_not_told_apart(self):
+        """A million values more or less are two classes; numbers of more digits than are read are none."""
+        axioms = [
+            "SubClassOf(:A DataMinCardinality(1000001 :p))",
+            "SubClassOf(DataMinCardinality(2000001 :p) :B)",
+            f"SubClassOf(:A DataMinCardinality({10**18} :p))",
+            f"SubClassOf(DataMinCardinality({10**18 + 1} :p) :B)",
+            f"SubClassOf(DataMaxCardinality({10**18} :p) :B)",
+        ]
+        rows = [
+            ["A SubClassOf (p min 1000001)"],
+            ["(p min 2000001) SubClassOf B", "(p min 2000001) SubClassOf (p min 1000001)"],
+            [],
+            [],
+            [],
+        ]
+        self.assert_rows(axioms, rows, Loss.DATA, Loss.BEYOND_LIMITS)
+
     def test_a_range_and_its_complement(self):
         axioms = [
             "SubClassOf(:A DataSomeValuesFrom(:p xsd:integer))",

@@ -32,6 +32,23 @@ def printing(text, status=0):
     return f"{HEAD}cat > /dev/null\ncat <<'TEXT'\n{text}TEXT\nexit {status}\n"
 
 
+# New names of a translation: {a}, inverse (r), and an individual without a name.
+NEW, BACK, UNNAMED = (
+    f"<urn:owl2-as-shq:{it}>"
+    for it in ("ObjectOneOf(%3Chttp://e.org/a%3E)", "ObjectInverseOf(%3Chttp://e.org/r%3E)", "_:x")
+)
+# {a} and A are equal; C is below a class that is new, and that one below A and B.
+OTHER = "<urn:owl2-as-shq:ObjectOneOf(%3Chttp://e.org/b%3E)>"
+HIERARCHY = f"""consistent
+nothing {BACK}
+thing {UNNAMED}
+class <B> under owl:Thing
+class {NEW} <A> under <B>
+class {OTHER} under {NEW} <B>
+class <C> under {OTHER} <B>
+"""
+
+
 class Forms(unittest.TestCase):
     """Answers of each kind, as the program words them."""
 
@@ -128,7 +145,7 @@ class Forms(unittest.TestCase):
         self.assertEqual((value["verdict"], value["status"]["number"], status), ("read fault", 6, 6))
 
     def test_translations(self):
-        """The object says what was lost, and what new names mean."""
+        """The object says what was lost."""
         data = b"""Prefix(:=<http://e.org/>)
 Ontology(
 SubClassOf(:A ObjectHasValue(:r :a))
@@ -137,14 +154,29 @@ InverseObjectProperties(:r :s)
 """
         said, _, _ = shq("classify", "--json", data=data, program=printing("consistent\nnothing\nthing\n"))
         self.assertIsNone(json.loads(said)["translation"])
-        new = "urn:owl2-as-shq:ObjectOneOf(%3Chttp://e.org/a%3E)"
-        text = f"consistent\nnothing <{new}>\nthing\n"
-        said, _, status = shq("classify", "--json", "--approximate", data=data, program=printing(text))
+        said, _, status = shq("classify", "--json", "--approximate", data=data, program=printing(HIERARCHY))
         value = json.loads(said)
         check_form(value)
         self.assertEqual((value["translation"]["exact"], status), (False, 0))
         self.assertIn("inverse roles", " ".join(value["translation"]["notes"]))
-        self.assertEqual(value["names"], {new: "{a}"})
+
+    def test_new_names_of_a_translation(self):
+        """They stand in no list, and in axioms as what they mean; in a certificate they stay, and names tell them."""
+        hierarchy = self.object(["classify"], HIERARCHY)
+        self.assertEqual((hierarchy["contradictory"], hierarchy["everything"]), ([], []))
+        self.assertEqual(hierarchy["groups"], [
+            {"classes": ["B"], "below": []},
+            {"classes": ["A"], "below": ["B"]},
+            {"classes": ["C"], "below": ["A"]},
+        ])
+        reason = f"justifications 1\n1\naxiom 1 line 4 SubClassOf({NEW} ObjectSomeValuesFrom({BACK} <A>))\n"
+        text = "SubClassOf(ObjectOneOf(<http://e.org/a>) ObjectSomeValuesFrom(ObjectInverseOf(<http://e.org/r>) <A>))"
+        self.assertEqual(self.object(["explain", "SubClassOf(:A :B)"], reason)["axioms"][0]["text"], text)
+        world = f"satisfiable\nmodel 1\nclass {NEW} 0\nclass <A> 0\nrole {BACK} 0,0\nindividual {UNNAMED} 0\nend\n"
+        value = self.object(["sat", ":A"], world)
+        self.assertEqual(value["model"], {"size": 1, "classes": {"A": [0]}, "roles": {}, "individuals": {}})
+        self.assertEqual((value["certificate"], sorted(value["names"].values())), (world, ["_:x", "inverse (r)", "{a}"]))
+        self.assertEqual(self.object(["instances", ":A"], f"instances 2\n{UNNAMED}\n<b>\n")["individuals"], ["b"])
 
     def test_pages(self):
         """--html makes the page that `read` makes."""

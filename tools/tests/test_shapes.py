@@ -1,4 +1,5 @@
 """The options `--html` and `--markdown` of the jobs, and translations on pages, over a program that only seems to be one."""
+import json
 import tempfile
 import unittest
 from pathlib import Path
@@ -126,6 +127,21 @@ class Translations(unittest.TestCase):
         self.assertIn("keys · 1 · line 9 · lost: all", text)
         cut = page_text(report(data=PIZZA, answers=answers)[0])
         self.assertIn("5 axioms of 5 are outside of the language and were left out.", cut)
+
+    def test_an_individual_is_in_the_classes_of_the_file_above_one_that_is_new(self):
+        """Its most specific class may be one that the translation made: then the hierarchy is asked for too."""
+        hierarchy = f"consistent\nnothing\nthing\nclass <{E}Country> under owl:Thing\nclass {ITALY} under <{E}Country>\n"
+        types = f"consistent\nindividual <{E}Italy> types {ITALY}\n"
+        both = HEAD + f'cat >/dev/null\n[ "$1" = classify ] && printf %s "{hierarchy}" || printf %s "{types}"\n'
+        text = shq("realize", "--approximate", "--markdown", data=PIZZA.encode(), program=both)[0]
+        self.assertIn("fair Italy: Country", text)
+        said = shq("realize", "--approximate", "--json", "budget", "9", data=PIZZA.encode(), program=both)[0]
+        self.assertIn({"individual": E + "Italy", "classes": [E + "Country"]}, json.loads(said)["types"])
+        page = page_text(report("--approximate", data=PIZZA, answers={"classify": hierarchy, "realize": types})[0])
+        self.assertIn("fair ItalyCountry", page)
+        # without the hierarchy there stands what the new class means
+        text = asked("realize", "--approximate", "--markdown", answer=types, data=PIZZA)[0]
+        self.assertIn("{'fair Italy'}", text)
 
     def test_several_axioms_on_one_line_are_shown_as_they_became(self):
         text = asked("explain", "SubClassOf(:Sicilian owl:Nothing)", "--approximate", "--markdown",

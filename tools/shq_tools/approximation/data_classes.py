@@ -12,7 +12,7 @@ from shq_tools.approximation import ranges
 from shq_tools.approximation.bounds import joined, negated
 from shq_tools.approximation.literals import value_of
 from shq_tools.approximation.losses import Loss
-from shq_tools.approximation.owl import BOTTOM_DATA, TOP_DATA, TOP_RANGE
+from shq_tools.approximation.owl import BOTTOM_DATA, LIMITED_NUMBER, TOP_DATA, TOP_RANGE
 from shq_tools.terms import BOTTOM, TOP, Axiom
 
 # A functional property with more values than these has no axiom that says that they differ.
@@ -44,6 +44,9 @@ class DataClasses:
         if kind == "data all":
             return negated(self.least(1, of[1][0], ("not", of[2])))
         _, number, name, inner = of
+        if number >= LIMITED_NUMBER:
+            self.context.lose(Loss.BEYOND_LIMITS)
+            return TOP if grows else BOTTOM
         if kind == "data least":
             return self.least(number, name, inner)
         most = negated(self.least(number + 1, name, inner))

@@ -53,6 +53,16 @@ def is_new(iri):
     return FORM.fullmatch(iri) is not None
 
 
+def not_new(iris):
+    """The IRIs that no translation made, in their order."""
+    return [it for it in iris if definition_of(it) is None]
+
+
+def meaning_text(iri):
+    """A name in functional-style syntax, and in place of a new one what it means."""
+    return f"<{iri}>" if definition_of(iri) is None else unquote(FORM.fullmatch(iri)["definition"])
+
+
 class NewNames:
     """The new names of a translation. None of them is one of the IRIs of the file."""
 

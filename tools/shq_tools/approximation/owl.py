@@ -24,7 +24,8 @@ XSD = PREDECLARED["xsd"]
 STRING = XSD + "string"
 PLAIN_LITERAL = PREDECLARED["rdf"] + "PlainLiteral"
 TOP_RANGE = ("datatype", PREDECLARED["rdfs"] + "Literal")
-LIMITED_NUMBER = 1_000_000
+# Numbers from here on are not told apart.
+LIMITED_NUMBER = 10**18
 
 # What the items of an axiom are, in order; the last one stands for all that follow where it ends with a star.
 SHAPES = {
@@ -222,8 +223,7 @@ class OwlReader:
     def number(self, item):
         expect(item.kind == "name" and set(item.text) <= DIGITS, item.line)
         digits = item.text.lstrip("0")
-        # a greater number says no more, since it is far beyond the limit of the language
-        return LIMITED_NUMBER if len(digits) > 6 else int(digits or "0")
+        return LIMITED_NUMBER if len(digits) > 18 else int(digits or "0")
 
     def data_class(self, item):
         keyword, items = item.text, item.items
