@@ -196,6 +196,120 @@ class Rows(RowsTest):
         ]
         self.assert_rows(axioms, rows, Loss.SELF, Loss.DISJOINT_ROLES)
 
+    def test_loops_of_special_roles(self):
+        axioms = [
+            "SubClassOf(:A ObjectHasSelf(owl:topObjectProperty))",
+            "SubClassOf(ObjectHasSelf(owl:topObjectProperty) :A)",
+            "SubClassOf(:A ObjectHasSelf(owl:bottomObjectProperty))",
+        ]
+        self.assert_rows(axioms, [[], ["Thing SubClassOf A"], ["A SubClassOf Nothing"]])
+
+    def test_loops_and_inverses(self):
+        """A loop of r is one of its inverse."""
+        axioms = ["SubClassOf(:A ObjectHasSelf(:r))", "InverseObjectProperties(:r :s)"]
+        rows = [
+            ["A SubClassOf (r Self)", *(f"(r Self) SubClassOf {it} some (r Self)" for it in ("r", "inverse (r)"))],
+            [
+                "r EquivalentTo inverse (s)",
+                "inverse (r) EquivalentTo s",
+                "(r Self) SubClassOf (s Self)",
+                "(s Self) SubClassOf (r Self)",
+                "(s Self) SubClassOf s some (s Self)",
+                "(s Self) SubClassOf inverse (s) some (s Self)",
+            ],
+        ]
+        self.assert_rows(axioms, rows, Loss.SELF, Loss.INVERSE)
+
+    def test_loops_along_chains(self):
+        """Where each role of a chain has a loop, the role into which it leads has one."""
+        chains = [":r :s) :t", ":r :r) :u", ":r :s) :s", ":r :v) :t"]
+        axioms = [f"SubClassOf(:A ObjectHasSelf({it}))" for it in (":r", ":s")]
+        axioms += [f"SubObjectPropertyOf(ObjectPropertyChain({it})" for it in chains]
+        rows = [
+            ["A SubClassOf (r Self)", "(r Self) SubClassOf r some (r Self)"],
+            ["A SubClassOf (s Self)", "(s Self) SubClassOf s some (s Self)"],
+            ["(r Self) and (s Self) SubClassOf (t Self)", "(t Self) SubClassOf t some (t Self)"],
+            ["(r Self) SubClassOf (u Self)", "(u Self) SubClassOf u some (u Self)"],
+            [],
+            [],
+        ]
+        self.assert_rows(axioms, rows, Loss.SELF, Loss.CHAIN)
+
+    def test_loops_of_disjoint_roles(self):
+        axioms = [f"SubClassOf(:A ObjectHasSelf({it}))" for it in (":r", ":s")]
+        axioms += [f"DisjointObjectProperties(:r {it})" for it in (":s", ":t")]
+        rows = [
+            ["A SubClassOf (r Self)", "(r Self) SubClassOf r some (r Self)"],
+            ["A SubClassOf (s Self)", "(s Self) SubClassOf s some (s Self)"],
+            ["DisjointClasses: (r Self), (s Self)"],
+            [],
+        ]
+        self.assert_rows(axioms, rows, Loss.SELF, Loss.DISJOINT_ROLES)
+
+    def test_a_loop_of_an_individual_with_a_class(self):
+        axioms = [
+            "SubClassOf(:A ObjectHasSelf(:r))",
+            "SubClassOf(:B ObjectOneOf(:a))",
+            "ObjectPropertyAssertion(:r :a :a)",
+            "ObjectPropertyAssertion(:r :a :b)",
+        ]
+        rows = [
+            ["A SubClassOf (r Self)", "(r Self) SubClassOf r some (r Self)"],
+            ["B SubClassOf {a}", "a Type {a}"],
+            ["a r a", "a Type (r Self)", "{a} SubClassOf (r Self)", "{a} SubClassOf r some {a}"],
+            ["a r b"],
+        ]
+        self.assert_rows(axioms, rows, Loss.SELF, Loss.NOMINAL)
+
+    def test_equivalent_roles(self):
+        """What one of them has, an inverse or a loop, the other one has."""
+        axioms = [
+            "EquivalentObjectProperties(:r :s)",
+            "SubClassOf(:A ObjectSomeValuesFrom(ObjectInverseOf(:r) :B))",
+            "SubClassOf(:A ObjectHasSelf(:s))",
+            "EquivalentObjectProperties(:t :t)",
+        ]
+        back = [f"({it} Self) SubClassOf {role} some ({it} Self)" for it in "rs" for role in (it, f"inverse ({it})")]
+        rows = [
+            ["r EquivalentTo s", "inverse (r) EquivalentTo inverse (s)", "(r Self) SubClassOf (s Self)",
+             "(s Self) SubClassOf (r Self)", *back[:2]],
+            ["A SubClassOf inverse (r) some B"],
+            ["A SubClassOf (s Self)", *back[2:]],
+            ["t EquivalentTo t"],
+        ]
+        self.assert_rows(axioms, rows, Loss.INVERSE, Loss.SELF)
+
+    def test_an_inverse_in_a_role_axiom_is_lost_in_part(self):
+        """u in the inverse of t: what :A leads to by u leads back by t, so :A is below :C, and no row says it."""
+        rows = ["u SubPropertyOf inverse (t)"], ["A SubClassOf u some B"], ["B SubClassOf t only C"]
+        for keyword in ("SubObjectPropertyOf", "EquivalentObjectProperties"):
+            axioms = [
+                f"{keyword}(:u ObjectInverseOf(:t))",
+                "SubClassOf(:A ObjectSomeValuesFrom(:u :B))",
+                "SubClassOf(:B ObjectAllValuesFrom(:t :C))",
+            ]
+            self.assertEqual(rows_of(*axioms)[1], {Loss.INVERSE})
+            self.assertEqual(rows_of(*axioms, strength=Strength.FULL)[1], {Loss.INVERSE_IN_FULL})
+        self.assert_rows(axioms[1:], rows[1:])
+        transitive = ["TransitiveObjectProperty(ObjectInverseOf(:r))"]
+        self.assert_rows(transitive, [["Transitive: r", "Transitive: inverse (r)"]])
+
+    def test_disjoint_roles_by_inverses(self):
+        """By u, which is in the inverse of t, b leads to a; so by t a leads to b, as it does by s."""
+        axioms = [
+            "DisjointObjectProperties(:s :t)",
+            "SubObjectPropertyOf(:u ObjectInverseOf(:t))",
+            "ObjectPropertyAssertion(:u :b :a)",
+            "ObjectPropertyAssertion(:s :a :b)",
+        ]
+        rows = [
+            ["b Type {b}", "s some {b} SubClassOf t only (not {b})"],
+            ["u SubPropertyOf inverse (t)", "inverse (u) SubPropertyOf t"],
+            ["b u a", "a inverse (u) b"],
+            ["a s b"],
+        ]
+        self.assert_rows(axioms, rows, Loss.DISJOINT_ROLES, Loss.NOMINAL, Loss.INVERSE)
+
     def test_asymmetric_roles(self):
         axioms = [
             "AsymmetricObjectProperty(:r)",
@@ -461,6 +575,12 @@ class DataRows(RowsTest):
             [],
         ]
         self.assert_rows(axioms, rows, Loss.DATA, Loss.BEYOND_LIMITS)
+
+    def test_the_property_that_has_all_values(self):
+        """Everything has more values than one of it. Where a row says nothing of that, it is lost."""
+        functional = ["FunctionalDataProperty(owl:topDataProperty)", "SubDataPropertyOf(:p :q)"]
+        self.assert_rows(functional, [["Thing SubClassOf Nothing"], []], Loss.DATA)
+        self.assert_rows(["SubDataPropertyOf(owl:topDataProperty owl:bottomDataProperty)"], [[]], Loss.DATA)
 
     def test_a_range_and_its_complement(self):
         axioms = [

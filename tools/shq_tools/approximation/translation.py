@@ -19,7 +19,7 @@ from shq_tools.approximation.inverse_roles import RoleNames, roles_with_inverses
 from shq_tools.approximation.losses import Loss, Losses
 from shq_tools.approximation.new_names import NewNames
 from shq_tools.approximation.nominals import Nominals
-from shq_tools.approximation.owl import UNTRANSLATED, OwlAxiom, base, inverse
+from shq_tools.approximation.owl import TOP_DATA, UNTRANSLATED, OwlAxiom, base, inverse
 from shq_tools.approximation.role_axioms import inclusions
 from shq_tools.approximation.selves import Selves
 from shq_tools.keywords import NUMBERED
@@ -64,6 +64,12 @@ ABOUT_LOOPS = [
     "AsymmetricObjectProperty",
     "DisjointObjectProperties",
 ]
+ON_DATA_PROPERTIES = (
+    "SubDataPropertyOf",
+    "EquivalentDataProperties",
+    "DisjointDataProperties",
+    "FunctionalDataProperty",
+)
 LEFT_OUT = {"Import": Loss.IMPORT, "HasKey": Loss.KEY}
 
 
@@ -212,6 +218,8 @@ class Translator:
         chains = [it for it in self.of("SubObjectPropertyOf") if self.strength == Strength.FULL and is_chain(it)]
         context.roles.need(roles_with_inverses(spoken_of, pairs, asserted, chains))
         for axiom in self.of(*ROLE_AXIOMS):
+            if "inverse" in self.sources[context.place].features and not says_transitive(axiom):
+                context.lose(Loss.INVERSE)
             if axiom.keyword == "SubObjectPropertyOf" and is_chain(axiom):
                 self.translate_chain(axiom)
             else:
@@ -310,6 +318,9 @@ class Translator:
 
     def translate_data(self):
         context = self.context
+        for axiom in self.of(*ON_DATA_PROPERTIES):
+            if TOP_DATA in axiom.items:
+                context.lose(Loss.DATA)
         for axiom in self.of("DataPropertyAssertion"):
             self.write(data_classes.of_assertion(context, axiom))
         for axiom in self.of("NegativeDataPropertyAssertion"):
@@ -395,6 +406,13 @@ def says_itself(row, axiom):
     if axiom.keyword in ("ObjectPropertyDomain", "ObjectPropertyRange"):
         return row.keyword == axiom.keyword and row.items[0] == axiom.items[0]
     return row.keyword == axiom.keyword and row.items == axiom.items
+
+
+def says_transitive(axiom):
+    """Whether an axiom says that a role is transitive, which its inverse is too."""
+    if axiom.keyword == "SubObjectPropertyOf":
+        return is_chain(axiom) and role_axioms.is_transitivity(axiom)
+    return axiom.keyword == "TransitiveObjectProperty"
 
 
 def is_chain(axiom):
