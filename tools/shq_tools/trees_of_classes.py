@@ -103,9 +103,11 @@ def shown_types(realization, taxonomy, shown):
     classes = {group.names[0]: shown(group.names) for group in taxonomy.groups}
     hidden = {it for it, those in classes.items() if not those}
     types = []
-    for individual, given in realization.types:
-        own = list(dict.fromkeys(first_names[it] for it in given if it in first_names))
-        types.append((individual, [classes[it][0] for it in shown_parents(own, parents, hidden)]))
+    for individual, own in realization.types:
+        if len(shown(own)) < len(own):
+            groups = dict.fromkeys(first_names[it] for it in own if it in first_names)
+            own = [classes[it][0] for it in shown_parents(list(groups), parents, hidden)]
+        types.append((individual, own))
     return Realization(types)
 
 
