@@ -1,5 +1,6 @@
 """Many questions to the program, several at once, each within some seconds."""
 import os
+import time
 from concurrent.futures import ThreadPoolExecutor
 
 from shq_tools.budgets import SECONDS, by_budgets
@@ -15,6 +16,16 @@ def at_once_in(text):
     if not text.isascii() or not text.isdigit() or not 0 < int(text) < 1000:
         raise BadWords(f"-j needs a number from 1 to 999, and not {text}")
     return int(text)
+
+
+class Deadline:
+    """A time after which nothing more is asked."""
+
+    def __init__(self, seconds):
+        self.end = time.monotonic() + seconds
+
+    def left(self):
+        return max(0.0, self.end - time.monotonic())
 
 
 class Asker:
@@ -38,7 +49,19 @@ class Asker:
 
     def known(self, words, source, seconds=None):
         """What the program answers, in whatever thread."""
-        return by_budgets(words, source, seconds or self.seconds, self.signals, Progress())
+        seconds = self.seconds if seconds is None else seconds
+        return by_budgets(words, source, seconds, self.signals, Progress())
+
+    def later(self, words, source, deadline, most=None):
+        """What the program answers up to a deadline, and within `most` seconds from when it is asked: a future, since
+        it is asked beside others.
+        """
+
+        def asked():
+            left = deadline.left()
+            return self.known(words, source, left if most is None else min(most, left))
+
+        return self.pool.submit(asked)
 
     def all(self, call, items):
         """What a call answers to each item, in order, made for some of them at once; up to a signal."""

@@ -53,10 +53,10 @@ def by_budgets(words, source, seconds, signals, progress):
     """What the program answers within so many seconds, in any thread."""
     known, end = first_known(words), time.monotonic() + seconds
     for steps in budgets():
-        if signals.got:
+        left = end - time.monotonic()
+        if signals.got or left <= 0:
             return Known(known.ended, known.budget, signals.got)
         progress.note = f", budget {steps:,}"
-        left = max(0.0, end - time.monotonic())
         ended = run_caught((*words, "budget", str(steps)), source, left, signals)
         if ended is None or ended.status < 0:
             number = signals.got if ended is None else -ended.status

@@ -1,16 +1,18 @@
 """All that a report says of an ontology, gathered by questions to the program."""
+import time
 from dataclasses import dataclass, field
 
 from shq_tools.answers import Plain, Realization, SetList, Taxonomy, answer
 from shq_tools.approximation.command import translated
 from shq_tools.approximation.for_people import caveat_of, names_of, originals_of
+from shq_tools.asker import Deadline
 from shq_tools.caveats import NO_CAVEAT, Caveat
 from shq_tools.cut import blanked
 from shq_tools.documents import walked
 from shq_tools.names import Names, labels_in, labels_of
 from shq_tools.ontology_facts import Ontology, ontology_in
 from shq_tools.profile import NOTES, counted, lines_text
-from shq_tools.side_by_side import Deadline, Questions
+from shq_tools.sources import Source
 from shq_tools.survey import by_keyword, survey
 from shq_tools.terms import BOTTOM, TOP
 from shq_tools.told import links_between
@@ -140,14 +142,16 @@ def given_of_translation(data, strength, file="", language=""):
     return Given(found.data, ontology, names, file, len(found.sources), **told)
 
 
-def answered(text):
-    """The answer of a text, or that it is undecided where there is none."""
-    return answer(text or "undecided\n")
+def answered(future):
+    """The answer that was asked for, or that it is undecided where there is none."""
+    return answer(future.result().ended.output.decode("utf-8", "replace") or "undecided\n")
 
 
 def list_of(future):
-    """The list that was asked for, or None where there is none."""
-    found = answered(future.result())
+    """The list that was asked for, or None where no run had ended in time."""
+    if not future.result().budget:
+        return None
+    found = answered(future)
     return found if isinstance(found, SetList) else None
 
 
@@ -176,20 +180,23 @@ def whole_first(links):
 
 
 class Reporter:
-    """Gathers a report within some seconds for the taxonomy and the types, and as many for reasons and repairs."""
+    """Gathers a report by an asker: within its seconds the taxonomy and the types, and within as many more reasons and
+    repairs.
+    """
 
-    def __init__(self, given, questions, seconds):
+    def __init__(self, given, asker):
         self.given = given
-        self.questions = questions
-        self.seconds = seconds
+        self.asker = asker
+        self.source = Source(given.file, given.data)
 
     def explained(self, statements):
         """Reasons and repairs of some statements, each with its query, in this order as far as the time goes."""
-        deadline, most = Deadline(self.seconds), self.seconds * MOST_OF_THE_TIME
+        seconds = self.asker.seconds
+        deadline, most = Deadline(seconds), seconds * MOST_OF_THE_TIME
         asked = []
         for statement, _ in statements:
-            jobs = (self.questions.ask((job, statement), deadline, most) for job in ("explain", "repair"))
-            asked.append(tuple(jobs))
+            jobs = ((job, statement) for job in ("explain", "repair"))
+            asked.append([self.asker.later(words, self.source, deadline, most) for words in jobs])
         return [Explained(query, *map(list_of, jobs)) for (_, query), jobs in zip(statements, asked)]
 
     def contradictory(self, taxonomy):
@@ -208,24 +215,25 @@ class Reporter:
         return sorted(found, key=lambda it: it.is_derived)
 
     def report(self):
-        deadline = Deadline(self.seconds)
+        begun, deadline = time.monotonic(), Deadline(self.asker.seconds)
         has_individuals = bool(self.given.ontology.individuals)
-        classified = self.questions.ask(("classify",), deadline)
-        realized = self.questions.ask(("realize",), deadline) if has_individuals else None
-        taxonomy = answered(classified.result())
+        classified = self.asker.later(("classify",), self.source, deadline)
+        realized = self.asker.later(("realize",), self.source, deadline) if has_individuals else None
+        taxonomy = answered(classified)
         explained = []
         if isinstance(taxonomy, Taxonomy) and not taxonomy.is_consistent:
             explained = self.explained([(ALL_FALSE, (TOP, BOTTOM, None))])
         elif isinstance(taxonomy, Taxonomy):
             explained = self.contradictory(taxonomy)
-        realization = answered(realized.result()) if realized else None
+        realization = answered(realized) if realized else None
         realization = realization if isinstance(realization, (Realization, Plain)) else None
         if isinstance(realization, Realization) and isinstance(taxonomy, Taxonomy):
             realization = shown_types(realization, taxonomy, self.given.names.shown)
-        return Report(self.given, taxonomy, realization, explained, self.seconds)
+        is_ended = self.asker.signals.got is not None
+        seconds = max(1, round(time.monotonic() - begun)) if is_ended else self.asker.seconds
+        return Report(self.given, taxonomy, realization, explained, seconds)
 
 
-def report_on(given, seconds, at_once=None):
-    """The report on an ontology, with so many questions at once."""
-    with Questions(given.data, at_once) as questions:
-        return Reporter(given, questions, seconds).report()
+def report_on(given, asker):
+    """The report on an ontology. Where a signal ends it, it has what was known then, and the seconds up to then."""
+    return Reporter(given, asker).report()

@@ -1,9 +1,10 @@
 """`./shq report`: one page, or text for a pull request, on a whole ontology."""
 import argparse
-import os
 import sys
 
 from shq_tools.approximation.command import BadStrength, strength_of, with_value
+from shq_tools.asker import Asker
+from shq_tools.budgets import SECONDS
 from shq_tools.converting import ontology_data_of
 from shq_tools.input_files import READ_FAULT, STATUSES
 from shq_tools.messages import say
@@ -15,8 +16,6 @@ from shq_tools.report_words import title_of
 from shq_tools.statuses import Status, status_of
 from shq_tools.tokens import Refused
 from shq_tools.wording import refusal_text
-
-SECONDS = 60
 
 
 def words_of(words):
@@ -55,9 +54,11 @@ def written_to(path, text):
     """Writes the page into a file, or to standard output, and returns whether that went well."""
     if path is None:
         sys.stdout.write(text)
+        # a signal that came ends this script before anything is flushed by itself
+        sys.stdout.flush()
         return True
     try:
-        with open(path, "w", encoding="utf-8") as file:
+        with open(path, "w", encoding="utf-8", errors="replace") as file:
             file.write(text)
     except OSError as error:
         say(f"{path}: {error.strerror}")
@@ -78,13 +79,25 @@ def status_behind(words, report):
     return Status.FAILED if words.fail_on and report.is_contradictory else Status.DONE
 
 
+def told(words, report):
+    """Writes the report, and returns the status."""
+    if report.refusal:
+        refused(report.refusal)
+        return status_of(report.refusal)
+    text = markdown_of_report(report) if words.markdown else page_of_report(report)
+    if not written_to(words.output, text):
+        return Status.WRITE_FAULT
+    say(title_of(report))
+    return status_behind(words, report)
+
+
 def main(given_words):
     """Writes the report, and returns 0; with `--fail-on contradictory` 1 where something is contradictory."""
     words = words_of(given_words)
     data = ontology_data_of([words.file] if words.file else [])
     if data is None:
         return READ_FAULT
-    sys.stdout.reconfigure(encoding="utf-8")
+    sys.stdout.reconfigure(encoding="utf-8", errors="replace")
     try:
         given = given_by(words, data)
     except BadStrength as fault:
@@ -94,12 +107,7 @@ def main(given_words):
         refused(str(fault))
         return STATUSES[fault.sort]
     complain_of_language(given)
-    report = report_on(given, words.seconds, words.jobs or os.cpu_count())
-    if report.refusal:
-        refused(report.refusal)
-        return status_of(report.refusal)
-    text = markdown_of_report(report) if words.markdown else page_of_report(report)
-    if not written_to(words.output, text):
-        return Status.WRITE_FAULT
-    say(title_of(report))
-    return status_behind(words, report)
+    with Asker(words.seconds, words.jobs) as asker:
+        report = report_on(given, asker)
+        asker.progress.stop()
+        return told(words, report)

@@ -7,6 +7,7 @@ import tempfile
 import unittest
 from pathlib import Path
 
+from shq_tools.asker import Asker
 from shq_tools.places import EXAMPLES
 from tests.browser import Browser, needs_browser
 from tests.program import needs_program
@@ -24,7 +25,8 @@ WINDOWS = ({}, {"is_dark": True, "width": 390, "height": 800})
 
 def report_of(path, change=lambda data: data):
     """The page of a report on an example."""
-    return page_of_report(report_on(given_of(change(path.read_bytes()), path.name), 60))
+    with Asker() as asker:
+        return page_of_report(report_on(given_of(change(path.read_bytes()), path.name), asker))
 
 
 def without_line(number):

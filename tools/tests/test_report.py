@@ -4,6 +4,7 @@ import os
 import subprocess
 import sys
 import tempfile
+import time
 import unittest
 import unittest.mock
 from contextlib import redirect_stderr, redirect_stdout
@@ -14,7 +15,7 @@ from shq_tools.places import EXAMPLES, TOOLS
 from shq_tools.report import given_of, whole_first
 from shq_tools.report_command import main
 from shq_tools.told import Link
-from tests.fakes import HEAD
+from tests.fakes import HEAD, command_of
 from tests.program import needs_program
 from tests.test_answers import E, page_text
 
@@ -176,6 +177,31 @@ class CutShort(unittest.TestCase):
         self.assertEqual(status, 8)
         self.assertIn("Not decided within 1 second.", page)
         self.assertIn("Not decided within 1 second", complaint)
+
+    def test_what_is_known_when_it_is_ended_from_outside(self):
+        """The page is written with that, and no run of the program stays."""
+        answers = {it: text for it, text in CHAIN_ANSWERS.items() if not it.endswith("-C")}
+        with tempfile.TemporaryDirectory() as room:
+            for name, text in answers.items():
+                (Path(room) / name).write_text(text, encoding="utf-8")
+            ontology, log = Path(room) / "o.ofn", Path(room) / "log"
+            ontology.write_text(CHAIN, encoding="utf-8")
+            with command_of(ANSWERING, ["report", "-j", "1", ontology]) as command:
+                how = {"stdout": subprocess.PIPE, "stderr": subprocess.PIPE, "cwd": TOOLS}
+                with subprocess.Popen(command, env={**os.environ, "ANSWERS": room}, **how) as started:
+                    # one question comes after the other, and this one has no answer
+                    while not log.exists() or "end explain-C" not in log.read_text().splitlines():
+                        time.sleep(0.05)
+                    # no pipe is closed before all that hold it have ended
+                    begun = time.monotonic()
+                    started.terminate()
+                    page, _ = started.communicate()
+        self.assertEqual(started.returncode, -15)
+        self.assertLess(time.monotonic() - begun, 30)
+        text = page_text(page.decode())
+        self.assertTrue(page.endswith(b"</html>\n"))
+        self.assertIn("A SubClassOf F", text)
+        self.assertIn("There was no time to ask for its reasons.", text)
 
     def test_jobs_run_side_by_side(self):
         for at_once in (1, 3):
