@@ -17,6 +17,14 @@ WORDS = [
     "--disable-extensions",
     "--remote-debugging-pipe",
 ]
+# Where Chromium's developer tools have the accessibility checker axe, as a text within a file of theirs, and a small
+# file that stands beside it.
+AXE_HOLDER = "devtools://devtools/bundled/third_party/lighthouse/lighthouse-dt-bundle.js"
+BESIDE_IT = "devtools://devtools/bundled/devtools_compatibility.js"
+FIND_AXE = r"""fetch("%s").then((it) => it.text()).then(
+(it) => (it.match(/`\/\*! axe v(?:[^`\\]|\\[\s\S])*`/) || [""])[0], () => "")""" % AXE_HOLDER
+RUN_AXE = """axe.run({resultTypes: ["violations"]}).then((it) => it.violations.flatMap(
+(one) => one.nodes.map((node) => one.id + ": " + node.html.slice(0, 200))))"""
 
 
 class Browser:
@@ -86,13 +94,21 @@ class Browser:
 
     def page(self, path, **how):
         """Opens a file in a tab of its own."""
-        return Tab(self, path, **how)
+        return Tab(self, path.as_uri(), **how)
+
+    def axe(self):
+        """The source of the accessibility checker axe, or nothing where this browser does not have it."""
+        tab = Tab(self, BESIDE_IT)
+        quoted = tab.value(FIND_AXE)
+        source = tab.value(quoted) if quoted else ""
+        tab.close()
+        return source
 
 
 class Tab:
     """A page in a tab, with a window of some size, light or dark, with or without its script."""
 
-    def __init__(self, browser, path, width=1100, height=900, is_dark=False, has_script=True):
+    def __init__(self, browser, address, width=1100, height=900, is_dark=False, has_script=True):
         self.browser = browser
         target = browser.call("Target.createTarget", url="about:blank")["targetId"]
         self.target = target
@@ -105,7 +121,7 @@ class Tab:
         self.call("Emulation.setEmulatedMedia", features=[scheme])
         if not has_script:
             self.call("Emulation.setScriptExecutionDisabled", value=True)
-        self.call("Page.navigate", url=path.as_uri())
+        self.call("Page.navigate", url=address)
         browser.wait_for("Page.loadEventFired", self.session)
 
     def call(self, method, **words):
@@ -121,6 +137,11 @@ class Tab:
         if "exceptionDetails" in found:
             raise RuntimeError(found["exceptionDetails"].get("exception", found["exceptionDetails"]))
         return found["result"].get("value")
+
+    def breaks_by_axe(self, source):
+        """What breaks a rule of axe, whose source this is: a line for each, which begins with the name of the rule."""
+        self.value(source)
+        return self.value(RUN_AXE)
 
     def type_into(self, query, text):
         """Empties a field, types into it as a person does, and waits a moment."""

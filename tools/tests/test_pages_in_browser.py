@@ -1,4 +1,5 @@
-"""Pages in a real browser: search, folding, links, copying, paper, narrow windows, and rules of accessibility.
+"""Pages in a real browser: search, folding, links, copying, paper, narrow windows, and accessibility, by rules of this
+folder and by those of axe, which Chromium's developer tools have.
 
 The reports are those of three examples: one with a contradictory class, one with individuals, and one that is
 contradictory as a whole; then a larger one, and the pages of single answers.
@@ -41,6 +42,7 @@ class InBrowser(unittest.TestCase):
     def setUpClass(cls):
         cls.room = tempfile.TemporaryDirectory(prefix="shq-pages-")
         cls.browser = Browser()
+        cls.axe = cls.browser.axe()
         cls.pages = {name: cls.kept(name, page) for name, page in cls.made().items()}
 
     @classmethod
@@ -66,10 +68,13 @@ class InBrowser(unittest.TestCase):
         self.assertEqual([it.partition("#")[0] for it in tab.requests()], [path.as_uri()])
         tab.close()
 
-    def meets_all_rules(self, name):
-        for how in WINDOWS:
+    def meets_all_rules(self, name, windows=WINDOWS):
+        """Whether a page breaks no rule of the list, and none of axe where the browser has it."""
+        for how in windows:
             with self.subTest(name=name, how=how):
-                self.assertEqual(self.opened(name, **how).value(RULES), [])
+                tab = self.opened(name, **how)
+                self.assertEqual(tab.value(RULES), [])
+                self.assertEqual(tab.breaks_by_axe(self.axe) if self.axe else [], [])
 
 
 @needs_browser
@@ -87,6 +92,16 @@ class Reports(InBrowser):
     def test_rules(self):
         for name in self.pages:
             self.meets_all_rules(name)
+
+    def test_a_page_that_breaks_rules_is_found(self):
+        if not self.axe:
+            self.skipTest("this browser does not have axe, so pages are tried by the rules of this folder alone")
+        tab = self.opened("contradiction")
+        tab.value("document.querySelector('main').append(document.createElement('img'))")
+        tab.value("document.querySelector('h1').style.color = '#bbb'")
+        broken = {it.partition(":")[0] for it in tab.breaks_by_axe(self.axe)}
+        self.assertEqual(broken, {"image-alt", "color-contrast"})
+        self.assertEqual({it.partition(" ")[0].rstrip(":") for it in tab.value(RULES)}, {"pictures", "contrast"})
 
     def test_search(self):
         tab = self.opened("contradiction")
@@ -206,7 +221,7 @@ class LargeReports(InBrowser):
         self.assertLess(took, 5_000)
 
     def test_rules(self):
-        self.meets_all_rules("chain")
+        self.meets_all_rules("chain", WINDOWS[:1])
 
 
 @needs_browser
