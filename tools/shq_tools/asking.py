@@ -8,7 +8,7 @@ import sys
 
 from shq_tools import program, unproved
 from shq_tools.answering import answered, is_whole_needed, read_fault
-from shq_tools.commands import COMMANDS, command_in, complaints_on, help_text, usage_for
+from shq_tools.commands import COMMANDS, JSON, command_in, complaints_on, help_text, usage_for
 from shq_tools.messages import say, say_plainly
 from shq_tools.output import guarded, written
 from shq_tools.places import TOOLS
@@ -21,6 +21,17 @@ from shq_tools.words import BadWords, asked
 
 HELP_WORDS = ("--help", "-h")
 BAD_WORDS = b"bad words\n"
+
+
+def words_not_asked(given, complaints, status, plain=b""):
+    """Prints that nothing is asked, as an object where the words want one, and returns the status."""
+    output = plain
+    if JSON.name in given:
+        from shq_tools import json_view
+
+        told = json_view.of_words(given, "; ".join(complaints), status)
+        output = json_view.text_of(told).encode("utf-8")
+    return status if not output or written(output) else Status.WRITE_FAULT
 
 
 def not_asked(question, fault):
@@ -48,27 +59,37 @@ def ask_on_file(question):
 
 
 def ask_without_file(question):
-    """Asks what needs no ontology, or lets the program say that the words are bad, and returns the status."""
+    """Asks what needs no ontology, or lets the program say that the words are bad, and returns the status. Raises
+    `BadWords` where that is to be said in another form than the program's.
+    """
     command = question.command
     if command and not command.files and command.is_job:
         return answered(question, None)
+    if JSON.name in question.given:
+        raise BadWords()
     return run_through(question.words)
+
+
+def complain_of_words(given, complaints):
+    """Says what is wrong with the words of a job."""
+    for complaint in complaints:
+        say(complaint)
+    say_plainly(usage_for(given))
 
 
 def ask(given):
     """Asks the program, and returns its status."""
     if not program.is_ready():
-        return Status.NOT_BUILT
+        return words_not_asked(given, [program.NOT_THERE], Status.NOT_BUILT)
+    complaints = []
     try:
         question = asked(given)
         status = ask_on_file(question) if question.is_whole else ask_without_file(question)
     except BadWords as fault:
-        say(str(fault))
-        status = Status.BAD_WORDS if written(BAD_WORDS) else Status.WRITE_FAULT
+        complaints = [it for it in [str(fault), *complaints_on(given)] if it]
+        status = words_not_asked(given, complaints or [usage_for(given)], Status.BAD_WORDS, BAD_WORDS)
     if status == Status.BAD_WORDS:
-        for complaint in complaints_on(given):
-            say(complaint)
-        say_plainly(usage_for(given))
+        complain_of_words(given, complaints or complaints_on(given))
     return status
 
 

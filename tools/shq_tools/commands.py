@@ -177,6 +177,7 @@ VERIFY_OPTIONS = (
     AT_ONCE,
     Option("--junit", "REPORT", "write what came of each check to this file too, in the form of JUnit"),
     Option("--any-names", "", "ask also about names that the file does not have"),
+    JSON,
     LANGUAGE,
     APPROXIMATE,
 )
@@ -186,6 +187,7 @@ DIFF_OPTIONS = (
     AT_ONCE,
     Option("--all", "", "tell also what follows from the rest of what came or went"),
     Option("--reasons", "N", "tell a reason for the first N statements that came (20 without it)"),
+    JSON,
     LANGUAGE,
     APPROXIMATE,
 )

@@ -1,15 +1,17 @@
 """`./shq diff`: what follows from one ontology and not from another, and why."""
 import sys
-from dataclasses import dataclass
+from dataclasses import dataclass, field
 
 from shq_tools.answering import seconds_in
 from shq_tools.answers import Realization, Taxonomy, Unread, answer
 from shq_tools.asker import Asker, at_once_in
 from shq_tools.budgets import SECONDS
-from shq_tools.commands import COMMANDS
+from shq_tools.commands import COMMANDS, JSON
 from shq_tools.differences import Said, came, first_ones, said_of
+from shq_tools.json_of_tools import object_of_changes, print_object
 from shq_tools.manchester import name_text
 from shq_tools.messages import say, say_plainly
+from shq_tools.names import Names
 from shq_tools.preparing import Unprepared, prepared
 from shq_tools.shown_reasons import names_over, originals_in, reason_lines, smallest_reason
 from shq_tools.sources import Source, source_of
@@ -82,24 +84,19 @@ def text_of(statement, names):
     return f"{about} {'Type' if statement.kind == 'type' else 'SubClassOf'} {name_text(statement.other, names)}"
 
 
-def told(sign, statements, names, reasons):
+def tell(sign, statements, names, reasons, originals):
     """Prints statements, each with its reason where it has one."""
     for statement in statements:
         print(f"{sign} {text_of(statement, names)}")
-        for line in reasons.get(statement, ()):
+        for line in reason_lines(reasons.get(statement), names, originals):
             print(f"    {line}")
     sys.stdout.flush()
 
 
-def reasons_for(asker, side, statements, names, most):
-    """A reason for each of the first statements."""
-
-    def one(statement):
-        return reason_lines(smallest_reason(asker, statement.question(), side.source, 0, 0), names, originals)
-
-    originals = originals_in(side.source, names)
+def reasons_for(asker, side, statements, most):
+    """The axioms of a reason for each of the first statements, or None where none was found in time."""
     first = statements[:most]
-    return dict(zip(first, asker.all(one, first)))
+    return dict(zip(first, asker.all(lambda it: smallest_reason(asker, it.question(), side.source, 0, 0), first)))
 
 
 def without_new_names(statements, names):
@@ -107,10 +104,25 @@ def without_new_names(statements, names):
     return [it for it in statements if it.about not in names.left_out and it.other not in names.left_out]
 
 
-def shown(statements, side, is_all):
-    """The statements to print, and how many are left out since they follow from these."""
+@dataclass
+class Changes:
+    """Statements that follow from one of the files alone: those to tell, and how many are left out since they follow
+    from these. The axioms of a reason, for the first ones of those that came.
+    """
+
+    statements: list
+    left_out: int
+    reasons: dict = field(default_factory=dict)
+
+    @property
+    def count(self):
+        return len(self.statements) + self.left_out
+
+
+def changes_of(statements, side, is_all):
+    """The statements to tell."""
     found = statements if is_all else first_ones(statements, side.said)
-    return found, len(statements) - len(found)
+    return Changes(found, len(statements) - len(found))
 
 
 def most_reasons(options):
@@ -121,47 +133,97 @@ def most_reasons(options):
     return int(text)
 
 
-def compared(old_name, new_name, options):
+@dataclass
+class Task:
+    """Two files to compare, by their names; what is read of the new one, what things are called, what came and went."""
+
+    old: str
+    new: str
+    options: dict
+    source: Source = None
+    names: Names = None
+    came: Changes = None
+    went: Changes = None
+
+    @property
+    def is_json(self):
+        return JSON.name in self.options
+
+
+def compared(task):
     """Compares two files, and returns the status. Raises `BadWords`, `OSError`, `Unprepared` and `Unanswered`."""
+    options = task.options
     seconds = seconds_in(options["--seconds"]) if "--seconds" in options else SECONDS
     at_once, most = at_once_in(options.get("-j")), most_reasons(options)
-    old, new = side_of(old_name, options), side_of(new_name, options)
-    names = names_over([new.vocabulary, old.vocabulary], options.get("--language", ""))
+    old, new = side_of(task.old, options), side_of(task.new, options)
+    task.source = new.source
+    task.names = names = names_over([new.vocabulary, old.vocabulary], options.get("--language", ""))
     with Asker(seconds, at_once) as asker:
         for side, said in zip((old, new), asker.all(lambda it: what_follows(asker, it), (old, new))):
             side.said = said
         asker.progress.stop()
         if asker.signals.got:
-            return Status.UNDECIDED
-        gone, come = (without_new_names(it, names) for it in (came(new.said, old.said), came(old.said, new.said)))
-        is_all = "--all" in options
-        (gone_shown, gone_left), (come_shown, come_left) = shown(gone, old, is_all), shown(come, new, is_all)
-        told("-", gone_shown, names, {})
-        told("+", come_shown, names, reasons_for(asker, new, come_shown, names, most))
-    tell_counts(len(come), come_left, len(gone), gone_left)
-    return Status.FAILED if gone or come else Status.DONE
+            return not_compared(task, "it was ended by a signal", Status.UNDECIDED)
+        went, come = (without_new_names(it, names) for it in (came(new.said, old.said), came(old.said, new.said)))
+        task.went, task.came = (changes_of(it, side, "--all" in options) for it, side in ((went, old), (come, new)))
+        tell_gone(task)
+        task.came.reasons = reasons_for(asker, new, task.came.statements, most)
+        return tell_come(task)
 
 
-def tell_counts(come, come_left, gone, gone_left):
+def tell_gone(task):
+    """Prints what went, where no object is made of it all."""
+    if not task.is_json:
+        tell("-", task.went.statements, task.names, {}, {})
+
+
+def tell_come(task):
+    """Prints what came, or all as an object, and returns the status."""
+    status = Status.FAILED if task.came.count or task.went.count else Status.DONE
+    if task.is_json:
+        print_object(object_of_changes(task, status))
+    else:
+        originals = originals_in(task.source, task.names)
+        tell("+", task.came.statements, task.names, task.came.reasons, originals)
+    tell_counts(task.came, task.went)
+    return status
+
+
+def tell_counts(come, went):
     """Says how much came and went."""
-    left = come_left + gone_left
+    left = come.left_out + went.left_out
     more = f"; {left:,} that follow from these are left out (--all)" if left else ""
-    say(f"{come:,} came, {gone:,} went{more}" if come or gone else "nothing came and nothing went")
+    said = f"{come.count:,} came, {went.count:,} went{more}"
+    say(said if come.count or went.count else "nothing came and nothing went")
+
+
+def not_compared(task, fault, status):
+    """Says why nothing is compared, and returns the status."""
+    if task.is_json:
+        print_object(object_of_changes(task, status, fault))
+    return status
 
 
 def main(given):
     """Compares two files, and returns the status."""
     sys.stdout.reconfigure(encoding="utf-8", errors="backslashreplace")
     command = COMMANDS["diff"]
+    task = Task(None, None, {JSON.name: ""} if JSON.name in given else {})
     try:
         words, options = without_options(command, list(given))
         if len(words) != 2 or any(it.startswith("-") for it in words):
             raise BadWords("diff needs two files")
-        return compared(*words, options)
+        task = Task(*words, options)
+        return compared(task)
     except BadWords as fault:
         say(str(fault))
         say_plainly(command.usage())
-        return Status.BAD_WORDS
+        return not_compared(task, fault, Status.BAD_WORDS)
     except (Unprepared, Unanswered) as fault:
         say(str(fault))
-        return fault.status
+        return not_compared(task, fault, fault.status)
+    except OSError as error:
+        if error.filename is None or not task.is_json:
+            raise
+        say(f"{error.filename}: {error.strerror}")
+        return not_compared(task, f"{error.filename}: {error.strerror}", Status.READ_FAULT)

@@ -10,11 +10,13 @@ from shq_tools.answers import Instances, Model, Realization, Reasons, Refutation
 from shq_tools.approximation.display import shown_names
 from shq_tools.approximation.new_names import meaning_text, not_new
 from shq_tools.approximation.summary import lines_of
+from shq_tools.commands import command_in
 from shq_tools.functional import axiom_text
 from shq_tools.names import Names, labels_in
 from shq_tools.statuses import Status, status_name
 from shq_tools.tokens import Refused
 from shq_tools.trees_of_classes import shown_alone
+from shq_tools.words import Asked
 
 REFUSED = re.compile(r"(bad text|outside|limit) (\S+)(?: (?:line (\d+)|query))?")
 REJECTED = re.compile(r"rejected (\S+)(?: (\S+))?")
@@ -177,6 +179,20 @@ def head_of(question, status):
     }
 
 
+def is_complete(status):
+    """Whether nothing was left open for want of steps, seconds or memory."""
+    return status not in (Status.UNDECIDED, Status.NO_MEMORY)
+
+
+def of_words(given, message, status):
+    """The object for words by which nothing is asked."""
+    command = command_in(given)
+    job = command.name if command else next((it for it in given if not it.startswith("-")), "")
+    head = head_of(Asked((job,)), status)
+    verdict = "bad words" if status == Status.BAD_WORDS else "not asked"
+    return {**head, "complete": is_complete(status), "verdict": verdict, "message": message}
+
+
 def object_of(question, source, output, status, **more):
     """The object of an answer."""
     head = head_of(question, status)
@@ -185,11 +201,10 @@ def object_of(question, source, output, status, **more):
     except Unread as fault:
         told = {"verdict": "unread", "message": str(fault)}
     names = names_of(told, source, question.options.get("--language", "")) if source else {}
-    complete = status not in (Status.UNDECIDED, Status.NO_MEMORY)
-    translation = translation_of(source)
-    return {**head, "translation": translation, "complete": complete, **told, "names": names, **more}
+    head |= {"translation": translation_of(source), "complete": is_complete(status)}
+    return {**head, **told, "names": names, **more}
 
 
 def text_of(value):
-    """An object as text."""
-    return json.dumps(value, ensure_ascii=False, indent=1) + "\n"
+    """An object as text. Bytes of a word that are no UTF-8 are written as escapes of JSON."""
+    return json.dumps(value, ensure_ascii=False, indent=1).encode("utf-8", "backslashreplace").decode("utf-8") + "\n"

@@ -8,6 +8,7 @@ from shq_tools import places
 from shq_tools.messages import say
 
 PROGRAM = places.PROGRAM
+NOT_THERE = "there is no program to ask"
 SOURCE_ENDS = (".rt", ".antt")
 
 
@@ -36,5 +37,5 @@ def is_ready():
     how = {"stdin": subprocess.DEVNULL, "check": False}
     if subprocess.run([sys.executable, "-B", places.TOOLS / "build"], **how).returncode == 0:
         return True
-    say("there is no program to ask")
+    say(NOT_THERE)
     return False

@@ -1,5 +1,7 @@
-"""Reasons and worlds in a few lines, for checks and for differences."""
-from shq_tools.answers import SetList, Unread, answer
+"""Why something is so, for checks and for differences: a reason or a world, in a few lines."""
+from dataclasses import dataclass
+
+from shq_tools.answers import Model, SetList, Unread, answer
 from shq_tools.approximation.display import shown_names
 from shq_tools.approximation.for_people import originals_of
 from shq_tools.manchester import axiom_text
@@ -10,6 +12,17 @@ from shq_tools.worlds import called, things
 # How long one reason is looked for.
 REASON_SECONDS = 10
 MOST_THINGS = 12
+
+
+@dataclass(frozen=True)
+class Why:
+    """Why something follows: the axioms of a reason, each of them needed where `is_smallest` says so. Or why it does
+    not: a world in which it fails. Neither is there where none was found in time.
+    """
+
+    axioms: list = None
+    is_smallest: bool = True
+    model: Model = None
 
 
 def names_over(vocabularies, language):
@@ -49,6 +62,14 @@ def reason_lines(axioms, names, originals):
     own = (f"axiom {it.number}, line {it.line}: {axiom_text(it, names)}" for it in axioms)
     lines = (f"line {it.line}: {originals[it.line]}" if it.line in originals else text for it, text in zip(axioms, own))
     return list(dict.fromkeys(lines))
+
+
+def why_lines(why, names, originals):
+    """The same of whatever was found."""
+    if why.model is not None:
+        return world_lines(why.model, names)
+    lines = reason_lines(why.axioms, names, originals)
+    return lines if why.is_smallest else [f"by {len(why.axioms)} axioms, of which some may not be needed:", *lines]
 
 
 def world_lines(model, names):

@@ -159,7 +159,7 @@ class Reader:
         if self.peek() is not None:
             raise Unclear(f"nothing should stand behind the statement, but {self.peek()} does")
         if self.unknown:
-            raise UnknownName("\nshq: ".join(dict.fromkeys(self.unknown)))
+            raise UnknownName("; ".join(dict.fromkeys(self.unknown)))
 
     # names
 

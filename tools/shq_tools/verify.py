@@ -2,20 +2,21 @@
 import os
 import sys
 import time
-from dataclasses import dataclass, replace
+from dataclasses import dataclass, field, replace
 
 from shq_tools.answering import seconds_in
 from shq_tools.answers import Model, Unread, answer
 from shq_tools.asker import Asker, at_once_in
 from shq_tools.budgets import SECONDS
 from shq_tools.checks import Check, checks_in
-from shq_tools.commands import COMMANDS
+from shq_tools.commands import COMMANDS, JSON
+from shq_tools.json_of_tools import object_of_checks, print_object
 from shq_tools.junit import junit_of
 from shq_tools.messages import say, say_plainly
 from shq_tools.names import Names
 from shq_tools.preparing import Unprepared, prepared
-from shq_tools.questions import with_axioms
-from shq_tools.shown_reasons import names_over, originals_in, reason_lines, smallest_reason, world_lines
+from shq_tools.questions import Put, with_axioms
+from shq_tools.shown_reasons import Why, names_over, originals_in, smallest_reason, why_lines
 from shq_tools.sources import Source, source_of
 from shq_tools.statuses import Status, status_of
 from shq_tools.tokens import Refused
@@ -34,12 +35,16 @@ WORDING = {
 
 @dataclass(frozen=True)
 class Result:
-    """What came of a check: the verdict, or another first line of an answer, why it is so, and the seconds it took."""
+    """What came of a check: how it was asked, the verdict or another first line of an answer, why it is so, the seconds
+    that it took, and lines that tell why.
+    """
 
     check: Check
+    put: Put
     verdict: str
-    details: tuple
+    why: Why
     seconds: float
+    details: tuple = ()
 
     @property
     def is_ok(self):
@@ -90,25 +95,25 @@ class Verifier:
         known = self.asker.known((check.job, put.text), source)
         text = known.ended.output.decode("utf-8", "replace")
         verdict = text.partition("\n")[0]
-        details = self.details(check, put, source, text) if verdict == check.opposite else ()
-        return Result(check, verdict, tuple(details), time.monotonic() - begun)
+        why = self.why(check, put, source, text) if verdict == check.opposite else Why()
+        details = tuple(why_lines(why, self.names, self.originals))
+        return Result(check, put, verdict, why, time.monotonic() - begun, details)
 
-    def details(self, check, put, source, text):
+    def why(self, check, put, source, text):
         """A reason why something follows, or a world in which it does not."""
         try:
             found = answer(text)
         except Unread:
-            return ()
+            return Why()
         if isinstance(found, Model):
-            return world_lines(found, self.names)
+            return Why(model=found)
         question = f"SubClassOf({put.text} owl:Nothing)" if check.slot == "CLASS" else put.text
         reason = smallest_reason(self.asker, question, source, self.vocabulary.axiom_count, len(put.added))
         if reason is not None:
-            return reason_lines(reason, self.names, self.originals)
+            return Why(reason)
         # no reason was found in time, but the certificate names axioms that suffice
         used = [it for it in found.axioms if it <= self.vocabulary.axiom_count]
-        head = f"by {len(used)} axioms, of which some may not be needed:"
-        return [head, *reason_lines([self.vocabulary.axioms[it - 1] for it in used], self.names, self.originals)]
+        return Why([self.vocabulary.axioms[it - 1] for it in used], is_smallest=False)
 
 
 def status_over(results):
@@ -122,7 +127,7 @@ def status_over(results):
 def write_junit(path, name, results):
     """Writes a report, and returns whether that went well."""
     try:
-        with open(path, "w", encoding="utf-8") as file:
+        with open(path, "w", encoding="utf-8", errors="replace") as file:
             file.write(junit_of(name, results))
     except OSError as error:
         say(f"{path}: {error.strerror}")
@@ -135,52 +140,127 @@ def read_checks(name):
     return source_of(None if name == "-" else name).data.decode("utf-8", "replace")
 
 
-def verified(file, checks, options):
-    """Verifies, prints, and returns the status. Raises `BadWords`, `OSError`, `Unprepared` and `Refused`."""
+class Faulty(Exception):
+    """Lines that are no checks, or name what the ontology does not have."""
+
+    def __init__(self, faults):
+        super().__init__("; ".join(f"line {it.number}: {it.text}" for it in faults))
+        self.faults = faults
+
+
+@dataclass
+class Task:
+    """A file and its checks by their names, what is read of the file and what things in it are called, and how many
+    checks there are; and what came of them, of fewer where a signal ended it.
+    """
+
+    file: str
+    checks: str
+    options: dict
+    source: Source = None
+    names: Names = None
+    count: int = 0
+    results: list = field(default_factory=list)
+
+    @property
+    def is_json(self):
+        return JSON.name in self.options
+
+
+def pairs_in(task, vocabulary):
+    """The checks, each with its question. Raises `Faulty`."""
+    pairs, faults = checks_in(read_checks(task.checks), vocabulary, "--any-names" in task.options)
+    if faults:
+        raise Faulty(faults)
+    return pairs
+
+
+def tell(task, result):
+    """Notes a result, and prints it where no object is made of all of them."""
+    if not task.is_json:
+        print("\n".join(result.lines()), flush=True)
+    task.results.append(result)
+
+
+def verified(task):
+    """Asks the checks of a task, and returns the status. Raises `BadWords`, `OSError`, `Unprepared`, `Refused` and
+    `Faulty`.
+    """
+    options = task.options
     seconds = seconds_in(options["--seconds"]) if "--seconds" in options else SECONDS
     at_once = at_once_in(options.get("-j"))
-    question, source = prepared(Asked(("verify", file, checks), file, options), source_of(file))
-    vocabulary = vocabulary_of(source.data)
-    pairs, faults = checks_in(read_checks(checks), vocabulary, "--any-names" in options)
-    for fault in faults:
-        say(f"{checks}, line {fault.number}: {fault.text}")
-    if faults:
-        return faults[0].status
-    names = names_over([vocabulary], options.get("--language", ""))
-    results = []
+    _, task.source = prepared(Asked(("verify", task.file, task.checks), task.file, options), source_of(task.file))
+    vocabulary = vocabulary_of(task.source.data)
+    pairs = pairs_in(task, vocabulary)
+    task.count, task.names = len(pairs), names_over([vocabulary], options.get("--language", ""))
+    originals = originals_in(task.source, task.names)
     with Asker(seconds, at_once) as asker:
-        verifier = Verifier(asker, source, vocabulary, names, originals_in(source, names))
+        verifier = Verifier(asker, task.source, vocabulary, task.names, originals)
         for result in asker.all(verifier.result, pairs):
             asker.progress.stop()
-            print("\n".join(result.lines()), flush=True)
-            results.append(result)
-        if any(it.is_failure for it in results):
+            tell(task, result)
+        if any(it.is_failure for it in task.results):
             verifier.tell_whether_inconsistent()
+        tell_counts(task.results)
+        return reported(task)
+
+
+def tell_counts(results):
+    """Says how many checks failed, and of how many it is not known."""
     say(
         f"{len(results):,} checks, {sum(it.is_failure for it in results):,} failed, "
         f"{sum(not it.is_ok and not it.is_failure for it in results):,} not known"
     )
-    if "--junit" in options and not write_junit(options["--junit"], os.path.basename(question.words[2]), results):
-        return Status.WRITE_FAULT
-    return status_over(results)
+
+
+def reported(task):
+    """Writes what is made of all results together, and returns the status."""
+    results, report = task.results, task.options.get("--junit")
+    status = status_over(results)
+    if status == Status.DONE and len(results) < task.count:
+        status = Status.UNDECIDED
+    if report and not write_junit(report, os.path.basename(task.checks), results):
+        status = Status.WRITE_FAULT
+    if task.is_json:
+        print_object(object_of_checks(task, status))
+    return status
+
+
+def not_verified(task, fault, status):
+    """Says why nothing is asked, and returns the status."""
+    if task.is_json:
+        print_object(object_of_checks(task, status, fault))
+    return status
 
 
 def main(given):
     """Verifies the checks of a file, and returns the status."""
     sys.stdout.reconfigure(encoding="utf-8", errors="backslashreplace")
     command = COMMANDS["verify"]
+    task = Task(None, None, {JSON.name: ""} if JSON.name in given else {})
     try:
         words, options = without_options(command, list(given))
         if len(words) != 2 or any(it.startswith("-") and it != "-" for it in words):
             raise BadWords("verify needs a file and a file of checks")
-        return verified(*words, options)
+        task = Task(*words, options)
+        return verified(task)
     except BadWords as fault:
         say(str(fault))
         say_plainly(command.usage())
-        return Status.BAD_WORDS
+        return not_verified(task, fault, Status.BAD_WORDS)
+    except Faulty as fault:
+        for one in fault.faults:
+            say(f"{task.checks}, line {one.number}: {one.text}")
+        return not_verified(task, fault, fault.faults[0].status)
     except Unprepared as fault:
         say(str(fault))
-        return fault.status
+        return not_verified(task, fault, fault.status)
     except Refused as refused:
-        print(refused)
-        return status_of(str(refused))
+        if not task.is_json:
+            print(refused)
+        return not_verified(task, refused, status_of(str(refused)))
+    except OSError as error:
+        if error.filename is None or not task.is_json:
+            raise
+        say(f"{error.filename}: {error.strerror}")
+        return not_verified(task, f"{error.filename}: {error.strerror}", Status.READ_FAULT)

@@ -85,8 +85,8 @@ def refusal_shown(question, message, status):
     """What is printed of a question that is not asked, as bytes."""
     if "--json" not in question.options:
         return b""
-    found = json_view.head_of(question, status)
-    return json_view.text_of({**found, "complete": False, "verdict": "not asked", "message": message}).encode("utf-8")
+    found = {**json_view.head_of(question, status), "complete": json_view.is_complete(status)}
+    return json_view.text_of({**found, "verdict": "not asked", "message": message}).encode("utf-8")
 
 
 def contradictory_in(text):

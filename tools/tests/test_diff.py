@@ -1,4 +1,5 @@
 """`./shq diff`: what follows from one ontology and not from another."""
+import json
 import sys
 import tempfile
 import unittest
@@ -9,6 +10,7 @@ from shq_tools.differences import Said, Statement, came, first_ones, said_of
 from shq_tools.places import EXAMPLES, TOOLS
 from tests.fakes import run, shq
 from tests.program import needs_program
+from tests.test_json import check_form
 
 # Prints the text that stands in the comments of what it reads, by job; of `explain`, the first axiom.
 PRINTING = f"""#!{sys.executable}
@@ -124,6 +126,38 @@ class Diff(unittest.TestCase):
         old = document(classes, f"consistent\nindividual {named('i')} types {named('A')}", fact)
         new = document(classes, f"consistent\nindividual {named('i')} types {named('B')}", fact)
         self.assertEqual(self.diff(old, new, "--reasons", "0")[0], "- 'the one' Type A\n+ 'the one' Type B\n")
+
+    def test_as_an_object(self):
+        """--json prints one object for all that came and went."""
+        fact = 'ClassAssertion(:A :i)\nAnnotationAssertion(rdfs:label :i "the one")\n'
+        above = line("C", "B")
+        types = f"consistent\nindividual {named('i')} types {named('A')}"
+        old = document(taxonomy(line("A"), line("B"), above), types, fact)
+        new = old.replace(above, line("C")).replace(f"types {named('A')}", f"types {named('B')}")
+        said, complaint, status = self.diff(old, new, "--json")
+        value = json.loads(said)
+        check_form(value)
+        self.assertEqual((value["job"], value["verdict"], value["left_out"], status), ("diff", "compared", 0, 1))
+        self.assertEqual([Path(value[it]).name for it in ("old", "file")], ["old.ofn", "new.ofn"])
+        c_b = {"kind": "subclass", "text": f"SubClassOf({named('C')} {named('B')})"}
+        i_a = {"kind": "type", "text": f"ClassAssertion({named('A')} {named('i')})"}
+        went = [{**c_b, "about": "http://e.org/C", "class": "http://e.org/B"}]
+        went += [{**i_a, "about": "http://e.org/i", "class": "http://e.org/A"}]
+        self.assertEqual(value["went"], went)
+        self.assertEqual([it["text"] for it in value["came"]], [f"ClassAssertion({named('B')} {named('i')})"])
+        self.assertEqual([it["line"] for it in value["came"][0]["axioms"]], [3])
+        self.assertEqual(value["names"], {"http://e.org/i": "the one"})
+        self.assertEqual(complaint, "shq: 1 came, 2 went\n")
+        good = document(taxonomy(line("A")))
+        for words, wanted in (((good, "Ontology("), 3), ((good, document("undecided")), 8)):
+            said, _, status = self.diff(*words, "--json")
+            value = json.loads(said)
+            check_form(value)
+            self.assertEqual((value["verdict"], value["status"]["number"], status), ("not asked", wanted, wanted))
+        for words, wanted in ((["--json"], 2), (["/not/there", "/dev/null", "--json"], 6)):
+            said, _, status = shq("diff", *words)
+            check_form(json.loads(said))
+            self.assertEqual((json.loads(said)["status"]["number"], status), (wanted, wanted))
 
     def test_what_cannot_be_compared(self):
         good = document(taxonomy(line("A")))

@@ -138,11 +138,34 @@ class Forms(unittest.TestCase):
     def test_what_is_not_asked(self):
         value = self.object(["sat", "--strict", ":MagneticPum"], "", 0, ended=10)
         self.assertEqual((value["verdict"], value["status"]["name"]), ("not asked", "unknown name"))
+        self.assertTrue(value["complete"])
         self.assertIn(":MagneticPump", value["message"])
         said, _, status = shq("classify", "--json", "/not/there", program=TOLD)
         value = json.loads(said)
         check_form(value)
         self.assertEqual((value["verdict"], value["status"]["number"], status), ("read fault", 6, 6))
+
+    def test_bad_words(self):
+        """They are told as an object too, with what is wrong with them."""
+        cases = {
+            "--json": ("", "usage: ./shq check|"),
+            "clasify --json": ("clasify", "there is no command clasify; is it classify that is meant?"),
+            "classify --json --seconds x": ("classify", "--seconds needs a number above 0, and not x"),
+            "classify --sconds 5 --json": ("classify", "classify has no option --sconds"),
+            "classify --json --fail-on x": ("classify", "--fail-on can be contradictory, and not x"),
+            "sat --json": ("sat", "usage: ./shq sat CLASS"),
+            "sat --json :A a b c": ("sat", "usage: ./shq sat CLASS"),
+            "workload --json": ("workload", "usage: ./shq workload N"),
+            "sat :A --seconds 5 --budget 5 --json": ("sat", "do not go together"),
+        }
+        for words, (job, message) in cases.items():
+            with self.subTest(words=words):
+                said, complaint, status = shq(*words.split(), program=printing("bad words\n", 2))
+                value = json.loads(said)
+                check_form(value)
+                self.assertEqual((value["job"], value["verdict"], value["complete"]), (job, "bad words", True))
+                self.assertEqual((status, value["status"]), (2, {"number": 2, "name": "bad words"}))
+                self.assertIn(message, value.get("message") or complaint)
 
     def test_translations(self):
         """The object says what was lost."""

@@ -1,4 +1,5 @@
 """`./shq verify`: checks of what follows from an ontology and what does not."""
+import json
 import sys
 import tempfile
 import unittest
@@ -13,6 +14,7 @@ from shq_tools.shown_reasons import reason_lines, world_lines
 from shq_tools.terms import Axiom
 from tests.fakes import run, shq
 from tests.program import needs_program
+from tests.test_json import check_form
 
 FILE = """Prefix(:=<http://e.org/>)
 Ontology(
@@ -155,7 +157,7 @@ class Verify(unittest.TestCase):
             "SubClassOf(:Kat :Pet) must follow": (10, "the file has no class :Kat; nearest to it: :Cat"),
             "Cat SubClassOf Pet": (3, "this is no check"),
             "Cat SubClassOf must follow": (3, "missing at the end"),
-            "SameIndividual(:tom :tom :tom) must follow": (4, "two at a time"),
+            "DisjointObjectProperties(:r :s :t) must follow": (4, "two at a time"),
         }
         for line, (wanted, complaint) in cases.items():
             with self.subTest(line=line):
@@ -188,6 +190,45 @@ class Verify(unittest.TestCase):
         said, complaint, status = shq("verify", EXAMPLES / "ward" / "ontology.ofn", "/not/there")
         self.assertEqual((said, status), ("", 6))
         self.assertIn("shq: /not/there: No such file", complaint)
+
+    def test_as_an_object(self):
+        """--json prints one object for all checks, with the reasons and worlds of those that fail."""
+        checks = "Cat SubClassOf Pet must not follow\n\ntom Type Thing_ must follow\nCat must be satisfiable\n"
+        (said, complaint, status), _, _ = self.verify(checks, "--json")
+        value = json.loads(said)
+        check_form(value)
+        self.assertEqual((value["job"], value["verdict"], value["complete"], status), ("verify", "checked", True, 1))
+        self.assertEqual(value["status"], {"number": 1, "name": "failed"})
+        told = [(it["line"], it["asked"], it["outcome"]) for it in value["checks"]]
+        wanted = [(1, "SubClassOf(:Cat :Pet)", "fails"), (3, "ClassAssertion(:Thing_ :tom)", "fails")]
+        self.assertEqual(told, [*wanted, (4, ":Cat", "holds")])
+        first, second, third = value["checks"]
+        self.assertEqual([(it["number"], it["line"]) for it in first["axioms"]], [(1, 3)])
+        self.assertEqual((first["smallest"], "model" in first), (True, False))
+        self.assertEqual(second["model"]["individuals"], {"http://e.org/tom": 0})
+        self.assertFalse({"axioms", "model"} & set(third))
+        self.assertEqual(value["names"], {"http://e.org/Cat": "house cat"})
+        self.assertEqual(complaint, "shq: 3 checks, 2 failed, 0 not known\n")
+        (said, _, status), _, _ = self.verify("Hard SubClassOf Cat must follow\n", "--json")
+        value = json.loads(said)
+        self.assertEqual((value["complete"], value["checks"][0]["outcome"], status), (False, "unknown", 8))
+
+    def test_what_is_not_asked_as_an_object(self):
+        cases = (
+            ("Kat SubClassOf Pet must follow\n", FILE, 10, "line 1: the file has no class Kat; nearest to it: :Cat"),
+            ("Cat must be satisfiable\n", "Ontology(", 3, "bad text balance line 1"),
+        )
+        for checks, text, wanted, message in cases:
+            (said, _, status), _, _ = self.verify(checks, "--json", text=text)
+            value = json.loads(said)
+            check_form(value)
+            self.assertEqual((value["verdict"], value["complete"], status), ("not asked", True, wanted))
+            self.assertIn(message, value["message"])
+        for words, wanted in ((["a", "--json"], 2), (["/not/there", "/dev/null", "--json"], 6)):
+            said, _, status = shq("verify", *words)
+            value = json.loads(said)
+            check_form(value)
+            self.assertEqual((value["status"]["number"], status), (wanted, wanted))
 
     def test_a_damaged_ontology(self):
         (said, _, status), _, _ = self.verify("Cat must be satisfiable\n", text="Ontology(")
