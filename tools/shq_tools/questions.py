@@ -30,8 +30,8 @@ MOST_WORD = (1 << 17) - 1
 MOST_READ_AT_ONCE = 200_000
 FILE_SIGN = "@"
 MOST_SHOWN = 1000
-# More than the new names that a reduction uses.
-NAMES_OF_REDUCTIONS = 9
+# More than the new names that a reduction uses: of many individuals a role for each, and 1,000 roles may be there.
+NAMES_OF_REDUCTIONS = 2000
 PREFIX = re.compile(rb"Prefix\s*\(\s*([^\s()=:]*):\s*=\s*<([^<>\s]*)>\s*\)")
 
 
@@ -100,7 +100,7 @@ def with_axioms(data, texts):
     """A document with more axioms, in front of its last bracket and on its line."""
     read = document(data)
     place = len(read.text[: read.end].encode("utf-8")) - 1
-    return data[:place] + "".join(f" {it}" for it in texts).encode("utf-8") + data[place:]
+    return data[:place] + "".join(f" {it}" for it in texts).encode("utf-8", "surrogateescape") + data[place:]
 
 
 @dataclass(frozen=True)
@@ -211,7 +211,7 @@ def prepared(question, source, _):
         return (question if is_long else plain), source
     found = put(text, slot, vocabulary)
     if is_strict and found.complaints:
-        raise Unprepared("\nshq: ".join(found.complaints), Status.UNKNOWN_NAME)
+        raise Unprepared("; ".join(found.complaints), Status.UNKNOWN_NAME)
     tell(found, text)
     if not found.added:
         return replace(plain, words=(plain.words[0], found.text, *plain.words[2:])), source

@@ -8,7 +8,8 @@ What is asked instead follows from an ontology exactly where the statement does.
   r-successor in N has an s-successor in N, whatever N is.
 - What is said of two individuals is asked with an axiom put into the ontology: that a role leads from a to b is that a
   has a successor in N, where N is a new class that b is in; and that it does not lead there, that with this assertion
-  nothing can be true.
+  nothing can be true. To more than two individuals new roles lead from a new individual: where each two are different,
+  it has as many successors by one role; where all are the same, it has a successor in N by a role for each of them.
 """
 from dataclasses import dataclass
 
@@ -97,6 +98,24 @@ def led(role, one, other):
     return Axiom("ObjectPropertyAssertion", (role, one, other), 1)
 
 
+def all_same(items, fresh):
+    """That more than two individuals are the same."""
+    new, hub, roles = ("name", fresh.one()), fresh.one(), [fresh.one() for _ in items[1:]]
+    added = [led(role, hub, it) for role, it in zip(roles, items[1:])]
+    asked = Axiom("ClassAssertion", (("and", tuple(("some", it, new) for it in roles)), hub), 1)
+    return Reduced(asked, (Axiom("ClassAssertion", (new, items[0]), 1), *added))
+
+
+def all_different(items, fresh):
+    """That of more than two individuals each two are different."""
+    hub, role = fresh.one(), fresh.one()
+    asked = Axiom("ClassAssertion", (("least", len(items), role, TOP), hub), 1)
+    return Reduced(asked, tuple(led(role, hub, it) for it in items))
+
+
+OF_MANY = {"SameIndividual": all_same, "DifferentIndividuals": all_different}
+
+
 def contradicted(keyword, items, fresh):
     """The axioms that are contradictory exactly where the statement follows, or None."""
     if keyword == "DifferentIndividuals":
@@ -139,7 +158,9 @@ def reduced(statement, fresh):
     keyword, items = statement.keyword, statement.items
     if keyword in ("SubClassOf", "ClassAssertion"):
         return Reduced(statement)
-    if keyword in ("SameIndividual", "DifferentIndividuals", "DisjointObjectProperties") and len(items) > 2:
+    if keyword in OF_MANY and len(items) > 2:
+        return OF_MANY[keyword](items, fresh)
+    if keyword == "DisjointObjectProperties" and len(items) > 2:
         raise NotAsked(f"{keyword} can be asked of two at a time")
     pairs = role_inclusions(keyword, items, ("name", fresh.one()))
     pairs = pairs or parts(statement)

@@ -202,8 +202,8 @@ class Meaning:
             "ClassAssertion": lambda: self.thing(items[1]) in self.members(items[0]),
             "ObjectPropertyAssertion": lambda: self.is_led(*items),
             "NegativeObjectPropertyAssertion": lambda: not self.is_led(*items),
-            "SameIndividual": lambda: self.thing(items[0]) == self.thing(items[1]),
-            "DifferentIndividuals": lambda: self.thing(items[0]) != self.thing(items[1]),
+            "SameIndividual": lambda: len(set(map(self.thing, items))) == 1,
+            "DifferentIndividuals": lambda: len(set(map(self.thing, items))) == len(items),
         }[axiom.keyword]()
 
     def turned(self, role):
@@ -248,6 +248,24 @@ def expansions(model, found):
                 model.roles,
                 {**model.individuals, **dict(zip(individuals, things))},
             )
+
+
+def told_alone(model, found, more):
+    """The interpretation in which the new names of a reduction have what the added axioms say of them, and these things
+    besides: in a class, or to which a role leads from the new individual.
+    """
+    individuals = {**model.individuals}
+    classes, roles = {}, {}
+    for axiom in found.added:
+        if axiom.keyword == "ObjectPropertyAssertion":
+            role, one, other = axiom.items
+            individuals.setdefault(one, 0)
+            pairs = [(individuals[one], it) for it in (individuals[other], *more)]
+            roles.setdefault(role, set()).update(pairs)
+        else:
+            classes.setdefault(axiom.items[0][1], set()).update([individuals[axiom.items[1]], *more])
+    sorted_roles = {name: sorted(pairs) for name, pairs in roles.items()}
+    return Model("", model.size, {name: sorted(it) for name, it in classes.items()}, sorted_roles, individuals)
 
 
 def flat(items):
@@ -313,9 +331,25 @@ class Reductions(unittest.TestCase):
                 self.assertEqual(holds, asked, (keyword, model))
             self.assertEqual(verdicts, {True, False}, keyword)
 
+    def test_more_than_two_individuals(self):
+        """As above, of interpretations of three things, where the new role or class has what is told of it alone: that
+        is the one that a statement can fail in.
+        """
+        for keyword in ("SameIndividual", "DifferentIndividuals"):
+            statement = Axiom(keyword, ("a", "b", "c"), 1)
+            found = reduced(statement, FreshNames({"individuals": {}}))
+            for places in itertools.product(range(3), repeat=3):
+                own = dict(zip("abc", places))
+                for more in ((), (0, 1, 2)):
+                    model = told_alone(Model("", 3, {}, {}, own), found, more)
+                    self.assertTrue(all(map(Meaning(model).meets, found.added)))
+                    holds = Meaning(Model("", 3, {}, {}, own)).meets(statement)
+                    if holds or not more:
+                        self.assertEqual(Meaning(model).meets(found.asked), holds, (keyword, places, more))
+
     def test_what_is_not_asked(self):
         with self.assertRaises(NotAsked):
-            reduced(Axiom("SameIndividual", ("a", "b", "c"), 1), FreshNames({"individuals": {}}))
+            reduced(Axiom("DisjointObjectProperties", ("r", "s", "t"), 1), FreshNames({"individuals": {}}))
 
     def test_new_names_are_new(self):
         taken = FreshNames({"classes": {"urn:shq:new:1": None}})
@@ -438,8 +472,8 @@ class Asked(unittest.TestCase):
                 path.write_text(text, encoding="utf-8")
                 (first, _, rest), _, status = self.asked(job, f"@{path}")
                 self.assertEqual(status, 0)
-                self.assertRegex(first, rf"words: {job} (SubClassOf\()?<urn:shq:new:10>")
-                self.assertIn("EquivalentClasses(<urn:shq:new:10> Object", rest)
+                self.assertRegex(first, rf"words: {job} (SubClassOf\()?<urn:shq:new:2001>")
+                self.assertIn("EquivalentClasses(<urn:shq:new:2001> Object", rest)
 
     def test_large_files(self):
         text = FILE.replace(") # the end", "".join(f"Declaration(Class(:C{it}))\n" for it in range(30_000)) + ")")
@@ -462,6 +496,7 @@ ObjectPropertyAssertion(:r :a :b)
 ClassAssertion(:B :b)
 SameIndividual(:a :e)
 ClassAssertion(ObjectComplementOf(:D) :c)
+DifferentIndividuals(:d :c :b)
 )
 """
     FOLLOW = {
@@ -478,6 +513,10 @@ ClassAssertion(ObjectComplementOf(:D) :c)
         "a SameAs b": False,
         "a DifferentFrom c": True,
         "a DifferentFrom b": False,
+        "SameIndividual: a, e, a": True,
+        "SameIndividual: a, e, b": False,
+        "DifferentIndividuals: b, c, d": True,
+        "DifferentIndividuals: a, b, c": False,
         "A EquivalentTo C": False,
         "A EquivalentTo A and D": True,
         "A DisjointWith not D": True,
