@@ -5,11 +5,11 @@ from dataclasses import dataclass, field, replace
 
 from shq_tools.answers import Plain, Reasons, Taxonomy, Unread, answer
 from shq_tools.approximation.command import BadStrength, strength_of, translated, with_value
-from shq_tools.approximation.for_people import caveat_of, names_of, new_forms, originals_of
+from shq_tools.approximation.for_people import SEEN_TO_BE_TRANSLATED, caveat_of, names_of, new_forms, originals_of
 from shq_tools.caveats import NO_CAVEAT, Caveat
 from shq_tools.converting import ontology_data_of
 from shq_tools.drawing import graph_of
-from shq_tools.fitting import fits
+from shq_tools.fitting import fits, is_of_class
 from shq_tools.input_files import READ_FAULT, data_of, say
 from shq_tools.names import Names, has_language, labels_in, languages
 from shq_tools.ontology_facts import Ontology, ontology_from
@@ -28,6 +28,7 @@ BAD_ANSWER = 3
 MISFIT = "the answer is to another statement than that of --query"
 NO_LINES = "The script has no lines."
 NOT_WHOLE = "The answer is not whole."
+NO_TEXT = "The answer has no line: of why it says that no individual is in the class, of session that it has no script."
 NOT_COMPARED = "whether the answer is to the statement of --query cannot be told"
 
 
@@ -106,7 +107,7 @@ def query_of(text, prefixes):
     """The statement that was asked about: its two classes, and the individual asked about or None. A class alone asks
     whether it has a member.
     """
-    data = text.encode("utf-8")
+    data = text.encode("utf-8", "surrogateescape")
     items = trees(tokens(data)[0], end_line(data))
     walk = Walk(prefixes, NoLimits())
     if len(items) == 1 and items[0].is_group("SubClassOf"):
@@ -161,11 +162,19 @@ def reading_of(given, text, label_data):
     else:
         known = known_of_translation(label_data, strength_of(given.approximate), given.language, given.labels)
     query = query_of(given.query, known.ontology.prefixes) if given.query else None
-    known.names.add_forms(new_forms(text, known.names))
-    how = {"file": known.file, "originals": known.originals, "caveat": known.caveat, "shows_all": given.all}
-    reading = Reading(answer(text), known.names, known.ontology, query, **how)
+    forms = new_forms(text, known.names)
+    known.names.add_forms(forms)
+    caveat = SEEN_TO_BE_TRANSLATED if forms and given.approximate is None else known.caveat
+    how = {"file": known.file, "originals": known.originals, "caveat": caveat, "shows_all": given.all}
+    found = answer(text) if text else answer_without_lines(query)
+    reading = Reading(found, known.names, known.ontology, query, **how)
     reading = compared(reading)
     return cut_to(reading, given.about, known) if given.about else reading
+
+
+def answer_without_lines(query):
+    """What an answer without a line says, which is that of `why`, or of a session, that has nothing to tell."""
+    return Reasons([]) if query and is_of_class(query) else Plain([NO_TEXT])
 
 
 def known_for(question, source):
@@ -256,7 +265,7 @@ def read(given, text, label_data):
 
 def main(words):
     given = words_of(words)
-    sys.stdout.reconfigure(encoding="utf-8")
+    sys.stdout.reconfigure(encoding="utf-8", errors="replace")
     label_data = ontology_data_of([given.labels]) if given.labels else b""
     data = data_of([given.file] if given.file else [])
     if data is None or label_data is None:

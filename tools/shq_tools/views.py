@@ -67,7 +67,7 @@ def shown(question, source, known, **more):
     if "--json" in question.options:
         return json_view.text_of(json_view.object_of(question, source, text, known.status, **more)).encode("utf-8")
     if any(it in question.options for it in FOR_PEOPLE):
-        return told_for_people(question, source, text).encode("utf-8")
+        return told_for_people(question, source, text).encode("utf-8", "replace")
     return text.encode("utf-8")
 
 

@@ -520,8 +520,16 @@ class Shown(unittest.TestCase):
         for text, part in cases.items():
             self.assertIn(part, shown(text + "\n")[0])
 
+    def test_an_answer_without_lines(self):
+        """It is what `why` prints where no individual is in the class, and a session whose script is empty."""
+        said, _, status = shown("")
+        self.assertEqual(status, 0)
+        self.assertIn("The answer has no line: of why it says that no individual is in the class", said)
+        said, _, status = shown("", b"", "--query", f"<{E}A>")
+        self.assertEqual((said.strip(), status), ("No individual is in the class.", 0))
+        self.assertEqual(shown("", b"", "--dot")[2], 2)
+
     def test_no_answer(self):
-        self.assertEqual(shown("")[2], 3)
         for text in ("hello\n", "consistently\n", "yes\n", "undecided\nhello\n", "axiom x\n", "bad text thing line 3\n"):
             with self.subTest(text=text):
                 said, complaint, status = shown(text)

@@ -1,4 +1,5 @@
 """The command `./shq`, with a program that only seems to be one, and with the program."""
+import json
 import os
 import pty
 import shutil
@@ -112,6 +113,26 @@ class Runs(unittest.TestCase):
         self.assertEqual((ran.stdout, ran.returncode), (b"read fault\n", 6))
         self.assertIn(b"standard input", ran.stderr)
 
+    def test_words_that_are_no_text(self):
+        """A word or the name of a file may have any bytes."""
+        ontology = (EXAMPLES / "contradiction" / "ontology.ofn").read_bytes()
+        answering = HEAD + "cat >/dev/null\necho undecided\nexit 8\n"
+        with tempfile.TemporaryDirectory() as room:
+            name = f"{room}/f\udcff.ofn"
+            with open(name, "wb") as file:
+                file.write(ontology)
+            for shape in ("--json", "--html", "--markdown"):
+                for words in (["sat", ":A\udcff", name], ["classify", name], ["classify", f"{name}x"]):
+                    with self.subTest(words=words, shape=shape):
+                        said, complaint, status = shq(*words, shape, "--seconds", "1", program=answering)
+                        self.assertNotIn("Traceback", complaint)
+                        self.assertEqual(status, 6 if words[-1] != name else 8)
+                        self.assertTrue(said)
+            value = json.loads(shq("sat", ":A\udcff", "--json", data=ontology, program=answering)[0])
+            self.assertEqual(value["question"], ":A\udcff")
+            page, complaint, status = shq("report", name, program=answering)
+        self.assertEqual((page[:15], status), ("<!DOCTYPE html>", 8))
+
     def test_hints_come_on_standard_error(self):
         self.assertIn("to allow more", shq("classify", "budget", "5", STATUS=8)[1])
         self.assertIn("usage: ./shq", shq("other", STATUS=2)[1])
@@ -181,9 +202,35 @@ class StandardOutput(unittest.TestCase):
 
     def test_a_full_disk(self):
         ontology = str(EXAMPLES / "contradiction" / "ontology.ofn")
-        for words in (["classify"], ["--help"], ["--version"], ["profile", ontology], ["cut", ontology]):
+        answering = HEAD + "cat >/dev/null\nprintf 'consistent\\nnothing\\nthing\\n'\n"
+        with tempfile.NamedTemporaryFile() as answer, tempfile.NamedTemporaryFile() as checks:
+            answer.write(b"undecided\n")
+            answer.flush()
+            checks.write(b"owl:Thing must be satisfiable\n")
+            checks.flush()
+            self.all_say_so(
+                ["classify"],
+                ["classify", "--json"],
+                ["classify", "--html"],
+                ["--help"],
+                ["--version"],
+                ["profile", ontology],
+                ["cut", ontology],
+                ["approximate", ontology],
+                ["read", answer.name],
+                ["read", "--html", answer.name],
+                ["report", ontology],
+                ["verify", ontology, checks.name],
+                ["verify", "--json", ontology, checks.name],
+                ["diff", "--json", ontology, ontology],
+                program=answering,
+            )
+
+    def all_say_so(self, *commands, program):
+        """Each of some commands says that the disk is full, and ends with the status for that."""
+        for words in commands:
             with self.subTest(words=words):
-                complaint, status = self.ended(words, '"$@" > /dev/full')
+                complaint, status = self.ended(words, '"$@" > /dev/full', program)
                 self.assertIn("shq: standard output: No space left on device", complaint)
                 self.assertNotIn("Traceback", complaint)
                 self.assertEqual(status, 7)

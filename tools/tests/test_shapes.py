@@ -106,9 +106,13 @@ class Translations(unittest.TestCase):
         self.assertIn("Sicilian SubClassOf from some {Italy}", said)
         taxonomy = f"consistent\nnothing\nthing\nclass {ITALY} under <{E}A>\nclass <{E}A> under owl:Thing\n"
         taxonomy += f"class <{E}B> under {ITALY}\n"
-        said = shown(taxonomy)[0]
-        self.assertEqual(said.splitlines(), ["The ontology is consistent, and none of its 2 classes is contradictory.",
-                                             "", "Thing", "  A", "    B"])
+        said = shown(taxonomy)[0].splitlines()
+        self.assertIn("The ontology is consistent, and none of its 2 classes is contradictory.", said)
+        self.assertEqual(said[-3:], ["Thing", "  A", "    B"])
+        # without --approximate too it is said what the answer is worth
+        self.assertIn("This holds of the translation alone: the whole file may say more.", said)
+        self.assertTrue(any("it is to a translation of a file" in it for it in said))
+        self.assertNotIn("translation", shown(TAXONOMY)[0])
         self.assertIn('label="A"', shown(taxonomy, b"", "--dot")[0])
         self.assertNotIn("{Italy}", shown(taxonomy, b"", "--dot")[0])
 

@@ -9,6 +9,11 @@ from shq_tools.caveats import NO_CAVEAT, Caveat
 from shq_tools.names import Names
 
 OF_THE_TRANSLATION = "This holds of the translation alone: the whole file may say more."
+SEEN_TO_BE_TRANSLATED = Caveat(
+    ("This answer has names that --approximate makes, so it is to a translation of a file. With --approximate and "
+     "--labels FILE, read tells what that leaves out.",),
+    says=OF_THE_TRANSLATION,
+)
 
 
 def names_of(ontology, labels, language=""):
