@@ -7,12 +7,16 @@ import java.util.List;
 import java.util.Map;
 import java.util.Set;
 import org.semanticweb.owlapi.apibinding.OWLManager;
-import org.semanticweb.owlapi.io.StringDocumentSource;
+import org.semanticweb.owlapi.model.IRI;
 import org.semanticweb.owlapi.model.OWLAxiom;
-import org.semanticweb.owlapi.model.OWLOntologyCreationException;
+import org.semanticweb.owlapi.model.OWLEntity;
+import org.semanticweb.owlapi.model.OWLOntologyManager;
+import org.semanticweb.owlapi.util.OWLObjectDuplicator;
 
 /** From which subsets of some axioms a statement follows, and the smallest sets out of that. */
 final class Subsets {
+    private static final OWLOntologyManager MANAGER = OWLManager.createOWLOntologyManager();
+
     private Subsets() {}
 
     /**
@@ -38,15 +42,13 @@ final class Subsets {
     }
 
     private static OWLAxiom copy(OWLAxiom axiom, int subset) {
-        String text = "Ontology(" + axiom.toString().replace(Ontologies.PREFIX, Ontologies.PREFIX + "S" + subset + "-")
-            .replace("owl:Thing", "<http://www.w3.org/2002/07/owl#Thing>")
-            .replace("owl:Nothing", "<http://www.w3.org/2002/07/owl#Nothing>") + ")";
-        try {
-            return OWLManager.createOWLOntologyManager()
-                .loadOntologyFromOntologyDocument(new StringDocumentSource(text)).getLogicalAxioms().iterator().next();
-        } catch (OWLOntologyCreationException fault) {
-            throw new IllegalStateException(text, fault);
+        Map<OWLEntity, IRI> names = new HashMap<>();
+        for (OWLEntity entity : axiom.getSignature()) {
+            if (!entity.isBuiltIn()) {
+                names.put(entity, IRI.create(entity.getIRI() + "-" + subset));
+            }
         }
+        return new OWLObjectDuplicator(names, MANAGER).duplicateObject(axiom);
     }
 
     /** The subsets from which it follows, and from no smaller one in them. */
