@@ -154,6 +154,7 @@ class Archives(unittest.TestCase):
         room = Room()
         gate = room.gate()
         assert gate.returncode == 0, gate.stderr
+        cls.commit = run(["git", "rev-parse", "HEAD"], cwd=room.top).stdout.decode().strip()
         cls.said = [room.package(cls.folder / it) for it in ("first", "second")]
         room.place.cleanup()
         cls.version = (TOP / "VERSION").read_text(encoding="utf-8").strip()
@@ -246,6 +247,45 @@ class Archives(unittest.TestCase):
         self.assertTrue(any(it.startswith(f"proved: {time.strftime('%Y-')}") for it in lines))
         self.assertIn("3 passed, 0 failed", (self.top / "PROOFS.txt").read_text(encoding="utf-8"))
 
+    def test_what_was_proved_is_told(self):
+        """PROOFS.txt has the day, the kit, the last line of the gate, the commit and the sum of this very program."""
+        told = (self.top / "PROOFS.txt").read_text(encoding="utf-8")
+        program = hashlib.sha256((self.top / "libexec" / "ontology_cli").read_bytes()).hexdigest()
+        self.assertEqual((self.top / "libexec" / "ontology_cli").read_bytes(), PROGRAM.read_bytes())
+        for wanted in (time.strftime("%Y-"), "kit-of-tests logic 1", "3 passed, 0 failed", self.commit, program):
+            self.assertIn(wanted, told)
+
+    def test_no_toolchain_is_asked_for(self):
+        """Where rt is on the path and fails, and where there is none, the packaged program answers all the same."""
+        rt = self.folder / "failing" / "rt"
+        rt.parent.mkdir()
+        rt.write_text("#!/bin/sh\necho called >&2\nexit 1\n", encoding="utf-8")
+        rt.chmod(0o755)
+        for python in (True, False):
+            folder = Path(sys.executable).parent if python else self.without_python()
+            commands = self.without_python()
+            for path in (f"{rt.parent}:{folder}:{commands}", f"{folder}:{commands}"):
+                with self.subTest(path=path):
+                    words = [self.top / "shq", "classify", self.top / EXAMPLE]
+                    ran = run(words, cwd="/", env={"PATH": path, "HOME": "/", "LANG": "C.UTF-8"})
+                    self.assertEqual((ran.returncode, ran.stdout[: len(ANSWER)], ran.stderr), (0, ANSWER, b""))
+
+    def test_the_first_answer_by_the_readme(self):
+        """The commands that the README has for a release give the answer that stands below them, within a minute."""
+        readme = (self.top / "README.md").read_text(encoding="utf-8")
+        block = re.search(r"```console\n(\$ tar xf (?s:.*?))```", readme)[1]
+        unpack, classify, *told = block.splitlines()
+        folder = self.folder / "downloads"
+        folder.mkdir()
+        shutil.copy(self.tar, folder)
+        environment = {"PATH": os.environ["PATH"], "HOME": "/", "LANG": "C.UTF-8"}
+        begun = time.monotonic()
+        ran = run(["bash", "-ec", f"{unpack[2:]}\n{classify[2:]}"], cwd=folder, env=environment)
+        self.assertLess(time.monotonic() - begun, 60)
+        self.assertEqual((ran.returncode, ran.stderr), (0, b""))
+        self.assertEqual(ran.stdout.decode().splitlines()[:2], told[:2])
+        self.assertEqual(told[:2], ANSWER.decode().splitlines())
+
     def test_another_program_is_not_said_to_be_proved(self):
         copy = self.folder / "copy"
         shutil.copytree(self.top, copy, symlinks=True)
@@ -334,11 +374,32 @@ class Archives(unittest.TestCase):
             environment = {"PATH": os.environ["PATH"] if python else str(self.without_python()), "HOME": "/"}
             ran = run([root / "usr" / "bin" / "shq", "classify", documents / EXAMPLE], cwd="/", env=environment)
             self.assertEqual((ran.returncode, ran.stdout[: len(ANSWER)], ran.stderr), (0, ANSWER, b""))
-        page = gzip.decompress((root / "usr" / "share" / "man" / "man1" / "shq.1.gz").read_bytes())
-        self.assertEqual(page, (self.top / "share" / "man" / "man1" / "shq.1").read_bytes())
-        for name in ("bash-completion/completions/shq", "zsh/vendor-completions/_shq", "doc/jezundwa/copyright"):
+        environment = {"PATH": os.environ["PATH"], "HOME": "/", "LANG": "C.UTF-8"}
+        read = f"$0 explain 'SubClassOf(:MagneticPump owl:Nothing)' {documents / EXAMPLE} | $0 read; $0 --version"
+        ran = run(["bash", "-c", read, root / "usr" / "bin" / "shq"], cwd="/", env=environment)
+        self.assertIn(b"It follows. There is 1 reason:", ran.stdout)
+        self.assertIn(f"\njezundwa {self.version}\nkit: kit-of-tests logic 1\n".encode(), ran.stdout)
+        self.assert_manual_and_completions(root / "usr" / "share", compressed=True)
+        for name in ("zsh/vendor-completions/_shq", "doc/jezundwa/copyright"):
             self.assertTrue((root / "usr" / "share" / name).exists(), name)
         self.assertFalse((root / "usr" / "lib" / "jezundwa" / "crates").exists())
+
+    def test_manual_and_completions(self):
+        self.assert_manual_and_completions(self.top / "share", compressed=False)
+
+    def assert_manual_and_completions(self, share, compressed):
+        """The page of the package is read by man, and its completions by bash."""
+        page = share / "man" / "man1" / ("shq.1.gz" if compressed else "shq.1")
+        if compressed:
+            plain = (self.top / "share" / "man" / "man1" / "shq.1").read_bytes()
+            self.assertEqual(gzip.decompress(page.read_bytes()), plain)
+        if shutil.which("man"):
+            shown = run(["man", "-P", "cat", "-l", page], env={**os.environ, "LANG": "C.UTF-8"}).stdout
+            self.assertIn(b"EXIT STATUS", re.sub(b".\b", b"", shown))
+            self.assertIn(f"jezundwa {self.version}".encode(), shown)
+        ask = 'source "$0"; COMP_WORDS=(shq clas) COMP_CWORD=1; _shq; echo "${COMPREPLY[@]}"'
+        ran = run(["bash", "--norc", "-c", ask, share / "bash-completion" / "completions" / "shq"], cwd="/")
+        self.assertEqual((ran.stdout, ran.stderr), (b"classify\n", b""))
 
 
 class Patterns(unittest.TestCase):
