@@ -15,6 +15,7 @@ AreMet sets hit place = (k : ℕ) (d : Limited) → k < place → DoMeet (slice_
 abbrev pub IsUnmetAt : List Limited → Limited → ℕ → Type 0
 IsUnmetAt sets hit place = (place < length sets) × ¬ DoMeet (slice_index_or sets place hit).members hit.members
 
+-- the set with a number more
 abbrev pub with_number : Limited → ℕ → Limited
 with_number s k = record { limit = s.limit; members = set.insert s.members k }
 
@@ -53,6 +54,7 @@ AreChoices sets unmet hit barred fitting = (k : ℕ)
     ↔ ((set.contains unmet.members k ≡ true) × (set.contains barred.members k ≡ false)
     × IsHitAlone sets (with_number hit k))
 
+-- what is left of a set of numbers: those of it that are still free
 abbrev pub LeavesFree : List Limited → Limited → ℕ → NumberSet → NumberSet → Type 0
 LeavesFree sets hit u old new = (k : ℕ)
     → (set.contains new k ≡ true) ↔ ((set.contains old k ≡ true) × IsFree sets hit u k)
@@ -74,6 +76,7 @@ KeepsShared j others u old new = (k : ℕ)
     → (set.contains new k ≡ true)
     ↔ ((set.contains old k ≡ true) × (HasAlone j others u → set.contains j.members k ≡ true))
 
+-- what is left of a set of numbers: those that are in the other one too
 abbrev pub KeepsCommon : NumberSet → NumberSet → NumberSet → Type 0
 KeepsCommon other old new = (k : ℕ)
     → (set.contains new k ≡ true) ↔ ((set.contains old k ≡ true) × (set.contains other k ≡ true))

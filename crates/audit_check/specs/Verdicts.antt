@@ -22,9 +22,11 @@ pub record JustificationHolds (o : Listed) (q : Query) (js : List Justification)
 abbrev pub RepairHolds : List Numbered → Query → List Repair → ℕ → Type 0
 RepairHolds axioms q rs place = (r : Repair) → slice_get rs place ≡ Some r → IsCounterModel axioms q r
 
+-- each of the first justifications holds
 abbrev pub JustificationsHold : Listed → Query → List Justification → ℕ → Type 0
 JustificationsHold o q js count = (place : ℕ) → place < count → JustificationHolds o q js place
 
+-- each of the first repairs holds
 abbrev pub RepairsHold : List Numbered → Query → List Repair → ℕ → Type 0
 RepairsHold axioms q rs count = (place : ℕ) → place < count → RepairHolds axioms q rs place
 

@@ -88,12 +88,14 @@ IsAuditEnd query bytes (Err (U.Query e)) = IsNoQueryOn query bytes e
 IsAuditEnd query bytes (Err (U.Line n)) = IsMalformedOn query bytes n
 IsAuditEnd query bytes (Err U.NoMemory) = Unit {0}
 
+-- the status and the line that a verdict on an audit is told by
 abbrev pub verdict_answer : AuditVerdict → Answer
 verdict_answer verdict.Accepted = (Done, line (codes "accepted audit"))
 verdict_answer (verdict.Justification n) = (Rejected, line (codes "rejected justification " ++ decimal n))
 verdict_answer (verdict.Repair n) = (Rejected, line (codes "rejected repair " ++ decimal n))
 verdict_answer verdict.Transversal = (Rejected, line (codes "rejected transversal"))
 
+-- the answer to an audit that was judged, or to an input that could not be read
 abbrev pub end_answer : Result AuditVerdict Unread → Answer
 end_answer (Ok v) = verdict_answer v
 end_answer (Err u) = unread_answer u
@@ -137,6 +139,7 @@ IsUnclaimed o kept query rest (U.Query e) = IsNotAsked o kept query e
 IsUnclaimed o kept query rest (U.Line n) = IsMalformedClaim o kept query rest n
 IsUnclaimed o kept query rest U.NoMemory = Unit {0}
 
+-- the input: an ontology, with the query and the audit that are claimed of it
 abbrev pub input_with : Listed → AuditClaim → AuditInput
 input_with o c = record { ontology = o; asked = c.asked; audit = c.audit }
 

@@ -30,6 +30,7 @@ pub record IsAcceptedText (statement bytes out : List ℕ) : Type 0 where
   pub lists_all : ListsAll ontology query audit
   pub accepted : (v : AuditVerdict) → IsVerdict ontology query audit v → v ≡ verdict.Accepted
 
+-- what is printed as evidence is accepted as an audit, where its lines are not too many to be numbered
 abbrev pub EvidenceIsAccepted : Type 0
 EvidenceIsAccepted = (statement : List ℕ) (budget : ℕ) (bytes out : List ℕ) (log : List Entry)
     → IsEvidenced statement budget bytes out Done log → length (lines out) ≤ 4294967293

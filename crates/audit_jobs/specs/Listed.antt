@@ -19,6 +19,7 @@ use Rattle.audit_jobs.specs.Taken.{TakesOut}
 abbrev pub outside : Limited → Limited
 outside s = record { limit = s.limit; members = rest s }
 
+-- each of the sets has a refutation
 abbrev pub HaveRefutations : List RefutationLists → List Limited → Type 0
 HaveRefutations rs sets = (j : Limited) → Contains sets j → HasRefutation rs j
 
@@ -49,10 +50,12 @@ pub record PutsRepair (s : Limited) (old new : AuditLists) (ms left : List Count
 
 -- ---- all are listed
 
+-- each justification has one of the refutations, and is the set of axioms that it names
 abbrev pub AreFromRefutations : List RefutationLists → List Justification → Type 0
 AreFromRefutations rs js = (j : Justification) → Contains js j
     → Contains rs j.refutation × (j.refutation.axioms ≡ j.set)
 
+-- each repair has one of the models, and is what lies outside of the set that the model meets
 abbrev pub AreFromModels : List CounterModel → List Repair → Type 0
 AreFromModels ms repairs = (r : Repair) → Contains repairs r
     → Contains ms (record { set = outside r.set; model = r.model })
@@ -68,6 +71,7 @@ pub record ListsRepairs (sets : List Limited) (ms : List CounterModel) (repairs 
   pub sets_are : repaired_sets repairs ≡ sets
   pub from_kept : AreFromModels ms repairs
 
+-- the audit lists the justifications and repairs that a search found, each with what shows it
 pub record IsAuditOf (f : Found) (e : Evidence) (a : AuditLists) : Type 0 where
   pub justifications : ListsJustifications f.justifications.items e.refutations.items a.justifications
   pub sets : List Limited

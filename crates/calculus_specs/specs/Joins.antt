@@ -15,6 +15,7 @@ rep_after m (Has y c) x = m x
 rep_after m (Edge r y z) x = m x
 rep_after m (Apart y z) x = m x
 
+-- the representative after some facts, where those before them gave each node one
 abbrev pub rep_from : {C : Type 0} → (ℕ → ℕ) → List (Fact C) → ℕ → ℕ
 rep_from m [] x = m x
 rep_from m (f ∷ fs) x = rep_from (rep_after m f) fs x

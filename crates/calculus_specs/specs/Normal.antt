@@ -5,10 +5,12 @@ use Rattle.std.specs.List.{list_any, flat_map}
 use Rattle.shq_base.specs.Concept.{Concept, top, bottom, name, complement, intersection, union, some_of, all_of}
 use Rattle.shq_base.specs.Concept.{at_least, at_most, exactly, Parts, no_parts, part, parts_of, part_list}
 
+-- the concept is top itself
 abbrev pub is_top : Concept → Bool
 is_top top = true
 is_top _ = false
 
+-- the concept is bottom itself
 abbrev pub is_bottom : Concept → Bool
 is_bottom bottom = true
 is_bottom _ = false
@@ -36,13 +38,16 @@ and_of cs = if list_any is_bottom (conjuncts cs) then bottom else intersected (c
 
 -- ---- unions
 
+-- the parts of a union; any other concept is its own only part
 abbrev pub disjuncts_of : Concept → List Concept
 disjuncts_of (union cs) = part_list cs
 disjuncts_of c = c ∷ []
 
+-- the parts of a union of these concepts: unions are opened, and bottom is left out
 abbrev pub disjuncts : List Concept → List Concept
 disjuncts cs = filter (λ c. not (is_bottom c)) (flat_map disjuncts_of cs)
 
+-- the union of some parts: bottom for none, and for one the part itself
 abbrev pub united : List Concept → Concept
 united [] = bottom
 united (c ∷ []) = c
@@ -79,6 +84,7 @@ more_form (suc n) r c = at_least (suc (suc n)) r c
 -- ---- any class expression
 
 abbrev mutual
+  -- the normal form of a class expression
   pub normal_form : Concept → Concept
   normal_form top = top
   normal_form bottom = bottom
@@ -108,10 +114,12 @@ abbrev mutual
   negated_form (exactly n r c) =
       or_of (fewer_form n r (normal_form c) (negated_form c) ∷ more_form n r (normal_form c) ∷ [])
 
+  -- the normal form of each part, in order
   pub normal_forms : Parts → List Concept
   normal_forms no_parts = []
   normal_forms (part c cs) = normal_form c ∷ normal_forms cs
 
+  -- the normal form of the complement of each part, in order
   pub negated_forms : Parts → List Concept
   negated_forms no_parts = []
   negated_forms (part c cs) = negated_form c ∷ negated_forms cs

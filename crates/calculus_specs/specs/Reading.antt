@@ -4,12 +4,14 @@ use Rattle.std.specs.List.{list_all}
 use Rattle.calculus_specs.specs.declared.facts.Fact.{Fact}
 use Rattle.calculus_specs.specs.declared.facts.Fact.TheVariants.{Has, Edge, Apart, Same}
 
+-- a fact with its concept read as another one
 abbrev pub read_fact : {C D : Type 0} → (C → D) → Fact C → Fact D
 read_fact read (Has x c) = Has x (read c)
 read_fact read (Edge r x y) = Edge r x y
 read_fact read (Apart x y) = Apart x y
 read_fact read (Same x y) = Same x y
 
+-- facts with their concepts read as others
 abbrev pub read_facts : {C D : Type 0} → (C → D) → List (Fact C) → List (Fact D)
 read_facts read fs = map (read_fact read) fs
 
@@ -20,5 +22,6 @@ is_fact_listed n (Edge r x y) = true
 is_fact_listed n (Apart x y) = true
 is_fact_listed n (Same x y) = true
 
+-- the facts have numbers of concepts below n alone
 abbrev pub are_listed : ℕ → List (Fact ℕ) → Bool
 are_listed n fs = list_all (is_fact_listed n) fs

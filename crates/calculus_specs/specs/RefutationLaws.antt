@@ -17,5 +17,6 @@ pub record IsJudged (q : Question) (shapes : List Shape) (lines : List Line) : T
   pub only_place : (place other : ℕ) → IsBrokenAt q (concept_at shapes) lines place
       → IsBrokenAt q (concept_at shapes) lines other → place ≡ other
 
+-- any list of rule lines, for any question and shapes, is judged line by line
 abbrev pub LinesAreJudged : Type 0
 LinesAreJudged = (q : Question) (shapes : List Shape) (lines : List Line) → IsJudged q shapes lines

@@ -26,6 +26,7 @@ pub record Theory : Type 0 where
   pub below : ℕ → ℕ → Bool
   pub is_transitive : ℕ → Bool
 
+-- the part has these numbers: that of its axiom, and its own
 abbrev pub is_numbered : ℕ → ℕ → NumberedPart → Bool
 is_numbered a p n = n.axiom_number == a && n.part_number == p
 
@@ -35,6 +36,7 @@ part_at theory a p = option_map (λ n. n.part) (find (is_numbered a p) theory.pa
 
 -- ---- the concept of a row
 
+-- the position is one of these
 abbrev pub is_among : List ℕ → ℕ → Bool
 is_among positions i = list_any (λ k. k == i) positions
 
@@ -56,10 +58,12 @@ abbrev pub conjunct_at : List Concept → ℕ → Concept
 conjunct_at conjuncts zero = top
 conjunct_at conjuncts (suc i) = slice_index_or conjuncts i top
 
+-- the concept is a name
 abbrev pub is_name : Concept → Bool
 is_name (name a) = true
 is_name _ = false
 
+-- each number is less than the next one
 abbrev pub is_ascending : List ℕ → Bool
 is_ascending [] = true
 is_ascending (i ∷ []) = true
@@ -70,6 +74,7 @@ abbrev pub are_name_positions : List Concept → List ℕ → Bool
 are_name_positions conjuncts positions =
     is_ascending positions && list_all (λ i. is_name (conjunct_at conjuncts i)) positions
 
+-- the concept is 'some' over this role
 abbrev pub is_some_of : ℕ → Concept → Bool
 is_some_of s (some_of r c) = r == s
 is_some_of s _ = false
@@ -99,6 +104,7 @@ pub record Row : Type 0 where
   pub trigger : Trigger
   pub concept : ℕ
 
+-- the row has the numbers of this part
 abbrev pub is_row_of : Row → NumberedPart → Bool
 is_row_of row n = is_numbered row.axiom_number row.part_number n
 

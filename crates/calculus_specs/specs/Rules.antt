@@ -37,6 +37,7 @@ pub record Known : Type 0 where
   pub nodes : List ℕ
   pub facts : List (Fact Concept)
 
+-- the node is one of those that are known
 abbrev pub knows : Known → ℕ → Bool
 knows k x = list_any (λ y. y == x) k.nodes
 
@@ -44,6 +45,7 @@ knows k x = list_any (λ y. y == x) k.nodes
 abbrev pub knows_some_from : Known → ℕ → ℕ → Bool
 knows_some_from k y n = list_any (λ z. nat_le y z && nat_lt z (y + n)) k.nodes
 
+-- the same nodes, and facts more
 abbrev pub with_facts : Known → List (Fact Concept) → Known
 with_facts k fs = record { nodes = k.nodes; facts = k.facts ++ fs }
 
@@ -62,25 +64,30 @@ at_concept k x (Some c) answer = when (knows k x && has_tree k.facts x c) (answe
 
 -- ---- the children of each line by the concept that its premises name
 
+-- what follows a line `and`: the node is in each part of the intersection
 abbrev pub and_children : Known → ℕ → Concept → Option (List Known)
 and_children k x (intersection cs) = Some (with_facts k (map (Has x) (part_list cs)) ∷ [])
 and_children k x _ = None
 
+-- what follows a line `or`: a child for each part of the union, in which the node is in it
 abbrev pub or_children : Known → ℕ → Concept → Option (List Known)
 or_children k x (union cs) = Some (map (λ d. with_facts k (Has x d ∷ [])) (part_list cs))
 or_children k x _ = None
 
+-- what follows a line `all`: the end of an edge of a role below that of 'all' is in the filler
 abbrev pub all_children : Theory → Known → ℕ → ℕ → Concept → Option (List Known)
 all_children theory k x y (all_of s e) =
     when (knows k y && has_edge k.facts (λ r. theory.below r s) x y) (Some (with_facts k (Has y e ∷ []) ∷ []))
 all_children theory k x y _ = None
 
+-- what follows a line `carry`: the end of an edge below a transitive role is in the same 'all' over that role
 abbrev pub carry_children : Theory → Known → ℕ → ℕ → ℕ → Concept → Option (List Known)
 carry_children theory k x y t (all_of s e) =
     when (theory.is_transitive t && theory.below t s && knows k y && has_edge k.facts (λ r. theory.below r t) x y)
     (Some (with_facts k (Has y (all_of t e) ∷ []) ∷ []))
 carry_children theory k x y t _ = None
 
+-- what follows a line `row`: the node, which is in the names at the positions, is in what remains of the inclusion
 abbrev pub row_children : Known → ℕ → List ℕ → Option Part → Option (List Known)
 row_children k x positions (Some (inclusion cs d)) =
     when
@@ -88,26 +95,31 @@ row_children k x positions (Some (inclusion cs d)) =
     (Some (with_facts k (Has x (row_concept cs d positions) ∷ []) ∷ []))
 row_children k x positions _ = None
 
+-- what follows a line `range`: the end of an edge of a role below that of the range is in its class
 abbrev pub range_children : Theory → Known → ℕ → ℕ → Option Part → Option (List Known)
 range_children theory k x y (Some (range s d)) =
     when (knows k x && knows k y && has_edge k.facts (λ r. theory.below r s) x y)
     (Some (with_facts k (Has y d ∷ []) ∷ []))
 range_children theory k x y _ = None
 
+-- what follows a line `some`: a new node at the end of an edge, in the filler
 abbrev pub some_children : Known → ℕ → ℕ → Concept → Option (List Known)
 some_children k x y (some_of s e) = when (not (knows k y)) (Some (with_nodes k x s e y 1 ∷ []))
 some_children k x y _ = None
 
+-- what follows a line `least`: n new nodes at the ends of edges, in the filler and pairwise apart
 abbrev pub least_children : Known → ℕ → ℕ → Concept → Option (List Known)
 least_children k x y (at_least n s e) =
     when (nat_le (y + n) (2 ^ 32) && not (knows_some_from k y n)) (Some (with_nodes k x s e y n ∷ []))
 least_children k x y _ = None
 
+-- what follows a line `choose`: a child with the concept, and one with its complement
 abbrev pub choose_children : Known → ℕ → Option Concept → Option (List Known)
 choose_children k y (Some c) =
     when (knows k y) (Some (with_facts k (Has y c ∷ []) ∷ with_facts k (Has y (negated_form c) ∷ []) ∷ []))
 choose_children k y None = None
 
+-- a line `clash` closes the branch: the node is in a name and in its complement
 abbrev pub clash_children : Known → ℕ → Concept → Option (List Known)
 clash_children k x (name a) = when (has_tree k.facts x (complement (name a))) (Some [])
 clash_children k x _ = None
@@ -117,6 +129,7 @@ abbrev pub are_fillers : Theory → Known → ℕ → ℕ → Concept → List �
 are_fillers theory k x s e ys =
     list_all (λ y. knows k y && has_edge k.facts (λ r. theory.below r s) x y && has_tree k.facts y e) ys
 
+-- a line `most` closes the branch: n + 1 successors are in the filler, pairwise apart
 abbrev pub most_children : Theory → Known → ℕ → List ℕ → Concept → Option (List Known)
 most_children theory k x ys (at_most n s e) =
     when (length ys == n + 1 && are_fillers theory k x s e ys && all_apart k.facts ys) (Some [])

@@ -4,6 +4,7 @@ use Rattle.shq_base.specs.Concept.{Concept, top, bottom, name, complement, inter
 use Rattle.shq_base.specs.Concept.{at_least, at_most, exactly, Parts, no_parts, part}
 
 abbrev mutual
+  -- two class expressions are one tree
   pub is_same : Concept → Concept → Bool
   is_same top top = true
   is_same bottom bottom = true
@@ -18,6 +19,7 @@ abbrev mutual
   is_same (exactly n r c) (exactly m s d) = n == m && r == s && is_same c d
   is_same _ _ = false
 
+  -- two lists of parts are the same, part by part
   pub are_same : Parts → Parts → Bool
   are_same no_parts no_parts = true
   are_same (part c cs) (part d ds) = is_same c d && are_same cs ds

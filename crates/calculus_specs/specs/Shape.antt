@@ -3,6 +3,7 @@
 use Rattle.std.specs.Prelude.{◌≡◌, ℕ, ◌<◌, nat_lt, nat_le, ◌&&◌, Bool, true, false, List, length, slice_index_or}
 use Rattle.std.specs.List.{list_all}
 
+-- a concept as a table keeps it
 pub data Shape : Type 0 where
   top : Shape
   bottom : Shape

@@ -27,6 +27,7 @@ abbrev pub trees_after : List Concept → List Shape → List Concept
 trees_after trees [] = trees
 trees_after trees (s ∷ ss) = trees_after (trees ++ tree_over trees s ∷ []) ss
 
+-- the trees of all shapes of a table, in order
 abbrev pub trees_of : List Shape → List Concept
 trees_of table = trees_after [] table
 

@@ -30,6 +30,7 @@ group_of count r x =
 abbrev pub groups_of : ℕ → Parthood → List GroupLists
 groups_of count r = map (group_of count r) (passing (is_first count r) 0 count)
 
+-- the hierarchy of a relation: the empty classes, those that hold everything, and the groups of equal ones
 unfoldable pub hierarchy_of : ℕ → Parthood → HierarchyLists
 hierarchy_of count r = record {
   nothing = passing (is_empty count r) 0 count;
@@ -37,5 +38,6 @@ hierarchy_of count r = record {
   groups = groups_of count r;
 }
 
+-- the taxonomy: inconsistent where owl:Thing is part of owl:Nothing, and else the hierarchy
 abbrev pub taxonomy_of : ℕ → Parthood → Taxonomy
 taxonomy_of count r = if r count (count + 1) then Inconsistent else Consistent (hierarchy_of count r)

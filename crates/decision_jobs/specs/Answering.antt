@@ -23,6 +23,7 @@ pub record IsDecidedBy (question : Text) (budget : ℕ) (o : Listed) (q : Asked)
   pub kept : IsKeptModel o decision
   pub logged : IsLogged o q budget decision log
 
+-- the status and the text are those of a decision on the question
 abbrev pub IsAnswered : Text → ℕ → List ℕ → List Entry → Status → List ℕ → Type 0
 IsAnswered question budget bytes log s out = IsDecisionTold question budget bytes out s log
 

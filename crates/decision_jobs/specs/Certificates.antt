@@ -39,6 +39,7 @@ abbrev pub model_after : Listed → List (List ℕ) → Result Certificate ℕ
 model_after o ls = elim (model_of o ls)
     [ None ↦ Err (or_no_line (option_map clamped_line (malformed_model_line o ls))) | Some k ↦ Ok (Model k) ]
 
+-- the refutation that lines after the first one are, or the number of the first malformed line
 abbrev pub refutation_after : Listed → List (List ℕ) → Result Certificate ℕ
 refutation_after o ls = elim (refutation_of o ls)
     [ None ↦ Err (or_no_line (option_map clamped_line (malformed_refutation_line o ls))) | Some k ↦ Ok (Refutation k) ]

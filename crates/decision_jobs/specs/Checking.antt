@@ -90,6 +90,7 @@ abbrev pub verdict_of : Refutation → CheckerVerdict → Verdict
 verdict_of r Accepted = Entailed
 verdict_of r (Rejected place) = Line (line_of_place r place)
 
+-- the verdict is right of the certificate, a model or a refutation
 abbrev pub IsVerdictOn : Listed → Asked → Certificate → Verdict → Type 0
 IsVerdictOn o q (C.Model m) v = IsOfModel o q m v
 IsVerdictOn o q (C.Refutation r) v = IsOfRefutation o q r v

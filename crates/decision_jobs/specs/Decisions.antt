@@ -40,6 +40,7 @@ decision_text o question (Answered.Entailed r) = line (entailed_line question) +
 decision_text o question (Answered.NotEntailed m) = line (not_entailed_line question) ++ model_text o m
 decision_text o question Answered.Undecided = line (codes "undecided")
 
+-- the status of a decision
 abbrev pub decision_status : Decision → Status
 decision_status (Answered.Entailed r) = Done
 decision_status (Answered.NotEntailed m) = Done

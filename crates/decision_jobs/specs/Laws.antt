@@ -31,10 +31,12 @@ pub record HaveAsked (holds : List Axiom → Asked → Type 0) (question : Text)
   pub is_question : IsQuestion question bytes ontology query
   pub what_holds : holds (map (λ n. n.axiom) ontology.axioms) query
 
+-- where the answer is yes, the query follows from the axioms
 abbrev pub YesFollows : Type 0
 YesFollows = (question : Text) (budget : ℕ) (bytes out : List ℕ) (log : List Entry)
     → SaysYes question budget bytes out log → HaveAsked Entails question bytes
 
+-- where the answer is no, the query does not follow from the axioms
 abbrev pub NoDoesNotFollow : Type 0
 NoDoesNotFollow = (question : Text) (budget : ℕ) (bytes out : List ℕ) (log : List Entry)
     → SaysNo question budget bytes out log → HaveAsked (λ axioms q. Entails axioms q → ⊥) question bytes

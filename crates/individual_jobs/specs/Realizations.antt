@@ -37,6 +37,7 @@ pub record IsUnrealized (budget : ℕ) (out : List ℕ) (log : List Entry) (o : 
 abbrev pub BeginsRealization : ℕ → List ℕ → List Entry → Type 0
 BeginsRealization budget bytes log = (log ≡ []) ⊎ OnDocument (λ o. IsRealizationLog o budget log) bytes
 
+-- what is answered to `realize`, for each status
 abbrev pub AnswersRealization : ℕ → List ℕ → List ℕ → Status → List Entry → Type 0
 AnswersRealization budget bytes out Done log = OnDocument (IsRealized budget out log) bytes
 AnswersRealization budget bytes out Undecided log = OnDocument (IsUnrealized budget out log) bytes

@@ -13,6 +13,7 @@ use Rattle.individual_jobs.specs.ReasonLists.{ReasonLists}
 
 -- ---- reasons
 
+-- the individual of which the reasons are
 abbrev pub individual_of : ReasonLists → ℕ
 individual_of r = r.individual
 

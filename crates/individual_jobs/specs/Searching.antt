@@ -62,6 +62,7 @@ abbrev pub ExplainsTo : Listed → Concept → ℕ → ℕ → List ReasonLists 
 ExplainsTo o c budget count rs log true = HasExplained o c budget count rs log
 ExplainsTo o c budget count rs log false = IsCutShort o c budget log
 
+-- all listed individuals were gone through
 abbrev pub ExplainsAll : Listed → Concept → ℕ → List Entry → Explained → Type 0
 ExplainsAll o c budget log e = ExplainsTo o c budget (length o.individuals) e.reasons.items log e.finished
 
@@ -72,6 +73,7 @@ pub record IsWritable (o : Listed) (r : ReasonLists) : Type 0 where
   pub listed : r.individual < length o.individuals
   pub limits : All (λ s. s.limit ≡ length o.axioms) r.justifications
 
+-- the reasons for each individual can be written
 abbrev pub AreWritable : Listed → List ReasonLists → Type 0
 AreWritable o rs = All (IsWritable o) rs
 
@@ -82,5 +84,6 @@ abbrev pub IsAnswerBy : Listed → List ReasonLists → Bool → Status → List
 IsAnswerBy o rs true s out = (s ≡ Done) × (out ≡ reasons_text o rs)
 IsAnswerBy o rs false s out = (s ≡ Undecided) × (out ≡ line (codes "undecided"))
 
+-- the end of a run on an ontology: all individuals are explained, or the budget is spent
 abbrev pub IsExplainedOn : ℕ → Listed → Concept → List Entry → Status → List ℕ → Type 0
 IsExplainedOn budget o c log s out = IsEnd (IsExplained budget out log o c) (IsUnexplained budget out log o c) s

@@ -22,6 +22,7 @@ use Rattle.edit_session.specs.Answers.{AnswersSession}
 use Rattle.ontology_jobs.specs.Words.{Job, check, audit, decide, classify, realize, instances, reasons, session}
 use Rattle.ontology_jobs.specs.Words.{pinpoint, evidence, Request, on_input, generated, request_of}
 
+-- the line that is printed for words that ask for nothing
 abbrev pub bad_words : List ℕ
 bad_words = line (codes "bad words")
 
@@ -88,12 +89,15 @@ AreAll held bytes = IfSome held (λ all. all ≡ bytes)
 abbrev pub AnswersJobOnAll : Job → Option (List ℕ) → List ℕ → Status → List Entry → Type 0
 AnswersJobOnAll job held out s log = (bytes : List ℕ) × AreAll held bytes × AnswersJob job bytes out s log
 
+-- the request is answered on bytes that are all that the source held, where it tells them
 abbrev pub AnswersRequestOnAll : Request → Option (List ℕ) → List ℕ → Status → List Entry → Type 0
 AnswersRequestOnAll r held out s log = (bytes : List ℕ) × AreAll held bytes × AnswersRequest r bytes out s log
 
+-- the words are answered on bytes that are all that the source held, where it tells them
 abbrev pub AnswersAll : Option (List ℕ) → List (List ℕ) → List ℕ → Status → List Entry → Type 0
 AnswersAll held words out s log = (bytes : List ℕ) × AreAll held bytes × Answers words bytes out s log
 
+-- the sink took the answer, or a front of it, to the words on all bytes that the source held
 abbrev pub AnsweredAll : Option (List ℕ) → Option (List ℕ) → Option (List ℕ) → List (List ℕ) → Status → List Entry
     → Type 0
 AnsweredAll held before now words s log = (bytes : List ℕ) × AreAll held bytes × Answered before now words bytes s log
@@ -125,5 +129,6 @@ LeavesFor r before now NoMemory = Unit {0}
 LeavesFor r None now s = Unit {0}
 LeavesFor r (Some bytes) now s = now ≡ Some (left_by r bytes)
 
+-- what a run leaves in the source, for the request that its words make
 abbrev pub Leaves : List (List ℕ) → Option (List ℕ) → Option (List ℕ) → Status → Type 0
 Leaves words before now s = LeavesFor (request_of words) before now s

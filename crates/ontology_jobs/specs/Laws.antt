@@ -50,6 +50,7 @@ AsksForNoSearch (Some (on_input (pinpoint wanted statement budget))) = ⊥
 AsksForNoSearch (Some (on_input (evidence statement budget))) = ⊥
 AsksForNoSearch (Some (generated number budget)) = ⊥
 
+-- where no search is asked for, two final answers to the same words and bytes are the same
 abbrev pub AnswersAreUnique : Type 0
 AnswersAreUnique =
     (words : List (List ℕ)) (bytes out text : List ℕ) (s t : Status) (log more : List Entry)
@@ -88,6 +89,7 @@ pub record AsksForNothing (words : List (List ℕ)) (log : List Entry) : Type 0 
   pub no_request : request_of words ≡ None
   pub unlogged : log ≡ []
 
+-- words that are answered as bad words ask for nothing
 abbrev pub BadWordsAskForNothing : Type 0
 BadWordsAskForNothing = (words : List (List ℕ)) (bytes out : List ℕ) (log : List Entry)
     → Answers words bytes out BadWords log → AsksForNothing words log

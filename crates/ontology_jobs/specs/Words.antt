@@ -51,6 +51,7 @@ default_budget = 1000000
 abbrev pub positive : ℕ → Option ℕ
 positive n = if nat_eq n 0 then None else Some n
 
+-- the budget that a word says: a number above 0
 abbrev pub budget_in : List ℕ → Option ℕ
 budget_in word = option_and_then positive (number_in word)
 
@@ -58,6 +59,7 @@ budget_in word = option_and_then positive (number_in word)
 abbrev pub workload_size : ℕ → Option ℕ
 workload_size n = if nat_eq n 0 || nat_lt 4000 n then None else Some n
 
+-- the number of a workload that a word says
 abbrev pub workload_number : List ℕ → Option ℕ
 workload_number word = option_and_then workload_size (number_in word)
 
@@ -106,6 +108,7 @@ abbrev pub budgeted_request : List ℕ → List ℕ → List ℕ → List ℕ �
 budgeted_request w text word number =
     if bytes_eq word (codes "budget") then option_and_then (searching_request w text) (budget_in number) else None
 
+-- the request of one word with the word `budget` and a number behind it
 abbrev pub budgeted_alone : List ℕ → List ℕ → List ℕ → Option Request
 budgeted_alone w word number =
     if bytes_eq word (codes "budget") then option_and_then (alone_request w) (budget_in number) else None
@@ -135,6 +138,7 @@ request_of (w ∷ []) = alone_request w default_budget
 request_of (w ∷ a ∷ []) = text_request w a
 request_of (w ∷ a ∷ b ∷ rest) = longer_request (w ∷ a ∷ b ∷ rest)
 
+-- the job that the program keeps, as its words asked for it
 abbrev pub kept_job : Kept → Job
 kept_job (Check a) = check a.now
 kept_job (Audit a) = audit a.now
@@ -147,12 +151,15 @@ kept_job (Session budget) = session budget
 kept_job (Pinpoint wanted a budget) = pinpoint wanted a.now budget
 kept_job (Evidence a budget) = evidence a.now budget
 
+-- the number of a workload, as a plain number
 abbrev pub plain_number : WorkloadNumber → ℕ
 plain_number n = n.number
 
+-- the request that the program keeps, as its words asked for it
 abbrev pub command_request : Command → Request
 command_request (OnInput job) = on_input (kept_job job)
 command_request (Workload n budget) = generated n.number budget
 
+-- the bytes of each word
 abbrev pub texts_of : List (String Global) → List (List ℕ)
 texts_of words = map string_bytes words

@@ -42,6 +42,7 @@ pub record IsMeasured (number budget : ℕ) (out : List ℕ) (s : Status) (log :
   pub is_question : IsQuestion (follows workload_query) (workload_text number) ontology query
   pub counted : IsCounted number ontology query budget log s out
 
+-- what is answered to a workload: its counts, or that memory was refused
 abbrev pub AnswersWorkload : ℕ → ℕ → List ℕ → Status → List Entry → Type 0
 AnswersWorkload number budget out s log =
     UnlessNoMemory s out

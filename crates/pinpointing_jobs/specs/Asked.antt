@@ -21,8 +21,10 @@ IsNoInputOf question bytes U.NoMemory = Unit {0}
 
 -- ---- statements
 
+-- the bytes are a document, and the statement is a query on it
 abbrev pub IsInput : List ℕ → List ℕ → Input → Type 0
 IsInput statement bytes input = IsInputOf (follows statement) bytes input
 
+-- why the bytes are no document, or the statement is no query on it
 abbrev pub IsNoInput : List ℕ → List ℕ → Unread → Type 0
 IsNoInput statement bytes u = IsNoInputOf (follows statement) bytes u

@@ -38,6 +38,7 @@ pub record AreUncounted (o : Listed) (q : Asked) (budget : ℕ) (log : List Entr
   pub are_some : (j : Limited) → Contains justifications j → IsJustificationSet o q j
   pub known : AreKnown o q log justifications
 
+-- what is printed of the counts, where the search finished and where it did not
 abbrev pub IsCount : ℕ → Listed → Asked → ℕ → List Entry → List ℕ → Bool → Type 0
 IsCount number o q budget log out true = AreCounted number o q log out
 IsCount number o q budget log out false = AreUncounted o q budget log out

@@ -47,11 +47,14 @@ pub record AreKnownAmong (is_enough : NumberSet → Type 0) (o : Listed) (q : As
 
 -- ---- among the axioms of a local module
 
+-- each justification that the log shows, by tests within a local module, is listed
 abbrev pub HasAllShown : Listed → Asked → List Entry → List Limited → Type 0
 HasAllShown o q log sets = HasAllShownAmong (IsLocalModule o.axioms q) o q log sets
 
+-- the log does not show, by tests within a local module, that these are all justifications
 abbrev pub LeavesSomeOpen : Listed → Asked → List Entry → List Limited → Type 0
 LeavesSomeOpen o q log sets = LeavesSomeOpenAmong (IsLocalModule o.axioms q) q log sets
 
+-- the log shows these justifications, by tests within a local module, and does not show that they are all
 abbrev pub AreKnown : Listed → Asked → List Entry → List Limited → Type 0
 AreKnown o q log sets = AreKnownAmong (IsLocalModule o.axioms q) o q log sets

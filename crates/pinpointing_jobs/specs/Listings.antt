@@ -26,9 +26,11 @@ abbrev pub last_line : Bool → List ℕ
 last_line true = codes ""
 last_line false = line (codes "undecided")
 
+-- the text of a list of sets: a heading, the sets with their axioms, and where it is partial a last line
 abbrev pub listing_text : Listed → Wanted → Bool → List Limited → List ℕ
 listing_text o w finished sets = sets_text o (heading w finished) sets ++ last_line finished
 
+-- the status of a search that finished, or did not
 abbrev pub end_status : Bool → Status
 end_status true = Done
 end_status false = Undecided

@@ -22,6 +22,7 @@ pub record IsLeaf (o : Listed) (q : Asked) (l : Limited) : Type 0 where
   pub within : IsWithin l.limit l.members
   pub ends : ¬ FollowsFrom o.axioms q (rest l)
 
+-- what is known of a search's log, and of the justifications and leaves that it found
 pub record IsSearched (o : Listed) (q : Asked) (budget : ℕ) (log : List Entry) (f : Found) : Type 0 where
   pub honest : IsPinpointingLog o q budget log
   -- justifications in their order, and leaves

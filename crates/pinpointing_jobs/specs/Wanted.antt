@@ -23,6 +23,7 @@ pub record IsRepairSet (o : Listed) (q : Asked) (r : Limited) : Type 0 where
   pub limit_is : r.limit ≡ length o.axioms
   pub is_one : IsRepair o.axioms q r.members
 
+-- the set is a justification or a repair, whichever is wanted
 abbrev pub IsWanted : Wanted → Listed → Asked → Limited → Type 0
 IsWanted Justifications o q s = IsJustificationSet o q s
 IsWanted Repairs o q s = IsRepairSet o q s

@@ -43,10 +43,12 @@ pub record IsWrittenCount (number : ℕ) (o : Listed) (f : Found) (out : List �
   pub are_found : AreFoundRepairs f repairs
   pub text : out ≡ counts_text number (length o.axioms) (length f.justifications.items) (length repairs)
 
+-- what is written of the counts that a search found, where it finished and where it did not
 abbrev pub IsCountOf : ℕ → Listed → Found → List ℕ → Bool → Type 0
 IsCountOf number o f out true = IsWrittenCount number o f out
 IsCountOf number o f out false = out ≡ line (codes "undecided")
 
+-- the text and the status of a count are those of the search
 pub record IsToldCount (number : ℕ) (o : Listed) (f : Found) (s : Status) (out : List ℕ) : Type 0 where
   pub count : IsCountOf number o f out f.finished
   pub status : s ≡ end_status f.finished

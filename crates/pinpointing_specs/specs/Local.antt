@@ -41,18 +41,22 @@ abbrev mutual
   is_whole inside (at_most n r c) = not (inside (Role r)) || is_void inside c
   is_whole inside (exactly n r c) = nat_le n 0 && (not (inside (Role r)) || is_void inside c)
 
+  -- some part is void by its form: nothing is in it where all names outside are empty
   pub some_void : (Name → Bool) → Parts → Bool
   some_void inside no_parts = false
   some_void inside (part c cs) = is_void inside c || some_void inside cs
 
+  -- each part is void by its form
   pub all_void : (Name → Bool) → Parts → Bool
   all_void inside no_parts = true
   all_void inside (part c cs) = is_void inside c && all_void inside cs
 
+  -- some part is whole by its form: everything is in it where all names outside are empty
   pub some_whole : (Name → Bool) → Parts → Bool
   some_whole inside no_parts = false
   some_whole inside (part c cs) = is_whole inside c || some_whole inside cs
 
+  -- each part is whole by its form
   pub all_whole : (Name → Bool) → Parts → Bool
   all_whole inside no_parts = true
   all_whole inside (part c cs) = is_whole inside c && all_whole inside cs

@@ -42,6 +42,7 @@ abbrev mutual
   parts_names no_parts = []
   parts_names (part c cs) = concept_names c ++ parts_names cs
 
+-- the names of classes and roles that stand in an axiom
 abbrev pub axiom_names : Axiom → List Name
 axiom_names (SubClassOf c d) = concept_names c ++ concept_names d
 axiom_names (EquivalentClasses cs) = parts_names (parts_of cs)
@@ -58,5 +59,6 @@ axiom_names (Pair r a b) = Role r ∷ []
 axiom_names (SameAll as_) = []
 axiom_names (Different as_) = []
 
+-- the names of classes and roles that stand in a query
 abbrev pub query_names : Query → List Name
 query_names q = concept_names q.sub ++ concept_names q.sup

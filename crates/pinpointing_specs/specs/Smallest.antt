@@ -14,6 +14,7 @@ numbers_to (suc n) = set.insert (numbers_to n) (n + 1)
 abbrev pub rest : Limited → NumberSet
 rest s = set.difference (numbers_to s.limit) s.members
 
+-- the set without a number
 abbrev pub without : Limited → ℕ → Limited
 without s k = record { limit = s.limit; members = set.remove s.members k }
 

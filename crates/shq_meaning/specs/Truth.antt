@@ -26,9 +26,11 @@ pub record Interpretation : Type 0 where
 abbrev pub PlacesIndividuals : Interpretation → Type 0
 PlacesIndividuals i = (a : ℕ) → i.individual a < i.size
 
+-- where the first is so, the second is
 abbrev pub implies : Bool → Bool → Bool
 implies a b = not a || b
 
+-- both are so, or neither
 abbrev pub same : Bool → Bool → Bool
 same a b = implies a b && implies b a
 

@@ -11,6 +11,7 @@ use Rattle.shq_terms.specs.declared.axioms.Axiom.TheVariants.{Functional, Transi
 use Rattle.shq_terms.specs.declared.axioms.Numbered.{Numbered}
 
 abbrev mutual
+  -- each class and role number of the expression is below its count
   pub uses_listed : ℕ → ℕ → Concept → Bool
   uses_listed classes roles top = true
   uses_listed classes roles bottom = true
@@ -24,6 +25,7 @@ abbrev mutual
   uses_listed classes roles (at_most n r c) = nat_lt r roles && uses_listed classes roles c
   uses_listed classes roles (exactly n r c) = nat_lt r roles && uses_listed classes roles c
 
+  -- each class and role number of the parts is below its count
   pub parts_use_listed : ℕ → ℕ → Parts → Bool
   parts_use_listed classes roles no_parts = true
   parts_use_listed classes roles (part c cs) = uses_listed classes roles c && parts_use_listed classes roles cs

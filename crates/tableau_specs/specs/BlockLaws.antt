@@ -12,6 +12,7 @@ pub record AgreeBelow (first : ℕ) (fs gs : List (Fact ℕ)) (n : ℕ) : Type 0
   pub reps : (x : ℕ) → x < n → rep fs x ≡ rep gs x
   pub labels : (x z : ℕ) → x < n → z < n → is_label_part fs x z ≡ is_label_part gs x z
 
+-- facts that agree below a node give each node before it the same block
 abbrev pub BlocksFollowWhatStandsBelow : Type 0
 BlocksFollowWhatStandsBelow = (first : ℕ) (fs gs : List (Fact ℕ)) (n : ℕ) → HaveParentsBefore first fs
     → AgreeBelow first fs gs n → (x : ℕ) → x < n → block_of first fs x ≡ block_of first gs x
@@ -25,6 +26,7 @@ LeavesBelow first fs (Edge r y z) n = n ≤ z ⊎ z < first
 LeavesBelow first fs (Apart y z) n = Unit {0}
 LeavesBelow first fs (Same y z) n = (n ≤ rep fs y) × (n ≤ rep fs z)
 
+-- one fact more that changes nothing below a node leaves the blocks of the nodes before it
 abbrev pub OneFactLeavesBlocksBelow : Type 0
 OneFactLeavesBlocksBelow = (first : ℕ) (fs : List (Fact ℕ)) (f : Fact ℕ) (n : ℕ) → HaveParentsBefore first fs
     → LeavesBelow first fs f n → (x : ℕ) → x < n → block_of first (fs ++ f ∷ []) x ≡ block_of first fs x
@@ -34,6 +36,7 @@ abbrev pub AllLeaveBelow : ℕ → List (Fact ℕ) → List (Fact ℕ) → ℕ �
 AllLeaveBelow first fs [] n = Unit {0}
 AllLeaveBelow first fs (f ∷ new) n = LeavesBelow first fs f n × AllLeaveBelow first (fs ++ f ∷ []) new n
 
+-- facts more that change nothing below a node leave the blocks of the nodes before it
 abbrev pub FactsLeaveBlocksBelow : Type 0
 FactsLeaveBlocksBelow = (first : ℕ) (fs new : List (Fact ℕ)) (n : ℕ) → HaveParentsBefore first fs
     → AllLeaveBelow first fs new n → (x : ℕ) → x < n → block_of first (fs ++ new) x ≡ block_of first fs x

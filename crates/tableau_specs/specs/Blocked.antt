@@ -7,6 +7,7 @@ use Rattle.calculus_specs.specs.State.{parent_from, is_label_part}
 use Rattle.tableau_specs.specs.declared.Block.{Block}
 use Rattle.tableau_specs.specs.declared.Block.TheVariants.{Clear, By, Under}
 
+-- the block of a node says that it is neither blocked nor under a blocked one
 abbrev pub is_clear : Block → Bool
 is_clear Clear = true
 is_clear (By z) = false

@@ -56,6 +56,7 @@ EdgeClashesThere = (first : ℕ) (below : ℕ → ℕ → Bool) (table : List Sh
 
 -- ---- of the trails that a search reaches
 
+-- the facts of a trail that a search reaches speak of nodes alone
 abbrev pub ReachedSpeakOfNodes : Type 0
 ReachedSpeakOfNodes = (w : SearchContext) (at sub not_sup k : ℕ) (trail : List Item) → at < w.first
     → Follows w (start at sub not_sup) k trail → speak_of_nodes w.first (facts_of trail) ≡ true

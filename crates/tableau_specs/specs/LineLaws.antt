@@ -51,6 +51,7 @@ pub record AddIsLine (w : SearchContext) (q : Question) (fs : List (Fact ℕ)) (
       ≡ Some (with_facts (known_by w.first w.table fs) (read_facts (tree_of w.table) (facts_of_add w fs x d adds)) ∷ [])
   pub is_added : Contains (facts_of_add w fs x d adds) (Has x d)
 
+-- each step that adds a concept to a node is a rule line
 abbrev pub AddsAreLines : Type 0
 AddsAreLines = (w : SearchContext) (q : Question) (fs : List (Fact ℕ)) → IsOver w fs → IsChoice w.theory w.table w.rows
     → RangesAreFirst w.theory
@@ -94,6 +95,7 @@ pub record BranchIsLine (w : SearchContext) (q : Question) (fs : List (Fact ℕ)
   pub children : children_in w q fs (line_of_branch b) ≡ Some (children_of_branch w.first w.table fs b)
   pub alternatives : AlternativesAreChildren w.first w.table fs b
 
+-- each step that branches is a rule line
 abbrev pub BranchesAreLines : Type 0
 BranchesAreLines = (w : SearchContext) (q : Question) (fs : List (Fact ℕ)) → IsOver w fs → (b : Branch)
     → MayBranch w fs b → BranchIsLine w q fs b

@@ -46,6 +46,7 @@ children_in w q fs line = children_of (asked_in w q) (concept_in w.table) (known
 
 -- ---- clashes
 
+-- the rule line that a clash is
 abbrev pub line_of_clash : (first : ℕ) (below : ℕ → ℕ → Bool) (table : List Shape) (fs : List (Fact ℕ))
     → IsClash first below table fs → Line
 line_of_clash first below table fs (of_bottom x c lt h sh) = bottom_line x
@@ -72,6 +73,7 @@ line_of_row w fs x a p (names positions) = row_line x a p positions
 line_of_row w fs x a p (edge s) = row_line x a p []
 line_of_row w fs x a p (end_of s) = range_line (first_begin w fs s x) x a
 
+-- the rule line of a step that adds a concept to a node
 abbrev pub line_of_add : (w : SearchContext) (fs : List (Fact ℕ)) (x d : ℕ) → Adds w fs x d → Line
 line_of_add w fs x d (by_and x' c d' parts lt h sh m) = and_line x c
 line_of_add w fs x d (by_all x' y c s e lt mt h sh leads) = all_line x' x c
@@ -87,17 +89,20 @@ facts_of_add w fs x d (by_row x' row lt m used) = Has x d ∷ []
 
 -- ---- given facts
 
+-- the rule line of a step that takes a fact of an assertion
 abbrev pub line_of_give : (w : SearchContext) (f : Fact ℕ) → IsGiven w f → Line
 line_of_give w f given = fact_line given.axiom_number given.place
 
 -- ---- Generate
 
+-- the rule line of a step that makes new nodes
 abbrev pub line_of_generate : (w : SearchContext) (fs new : List (Fact ℕ)) → Generates w fs new → Line
 line_of_generate w fs new (by_some x c s e at h sh none) = some_line x (node_count_from w.first fs) c
 line_of_generate w fs new (by_least x c n s e at h sh none) = least_line x (node_count_from w.first fs) c
 
 -- ---- Choose
 
+-- the rule line of a step that branches
 abbrev pub line_of_branch : Branch → Line
 line_of_branch (Or x c) = or_line x c
 line_of_branch (Choose y e) = choose_line y e

@@ -38,6 +38,7 @@ FactsHaveNumbers q table = (a p : ℕ) (f : Fact Concept) → q.fact_of a p ≡ 
 
 -- ---- searches
 
+-- the context of a search for a question, over a table of concepts and some rows
 abbrev pub context_of : Question → List Shape → List Row → SearchContext
 context_of q table rows = record { theory = q.theory; table = table; rows = rows; first = q.first; fact_of = q.fact_of }
 

@@ -29,6 +29,7 @@ any_role r = true
 
 -- ---- each node stands before it is spoken of
 
+-- the branch speaks of nodes below n
 abbrev pub BranchIsOn : ℕ → Branch → Type 0
 BranchIsOn n (Or x c) = x < n
 BranchIsOn n (Choose y e) = y < n
@@ -42,6 +43,7 @@ IsOn w n (Says (Apart y z)) = (y < n) × (z < n)
 IsOn w n (Says (Same y z)) = (y < n) × (z < n)
 IsOn w n (Mark c) = BranchIsOn n c.branch
 
+-- each item of a trail speaks of nodes that stand in the trail before it
 abbrev pub NodesStandBefore : Type 0
 NodesStandBefore = (w : SearchContext) (at sub not_sup k : ℕ) (trail : List Item) → at < w.first
     → Follows w (start at sub not_sup) k trail
@@ -50,6 +52,7 @@ NodesStandBefore = (w : SearchContext) (at sub not_sup k : ℕ) (trail : List It
 
 -- ---- where there is no plain clash, or nothing is given, no node is apart from itself
 
+-- without a plain clash, or where no fact is given, no node is apart from itself
 abbrev pub NoneIsApartFromItself : Type 0
 NoneIsApartFromItself = (w : SearchContext) (at sub not_sup k : ℕ) (trail : List Item) → at < w.first
     → Follows w (start at sub not_sup) k trail
@@ -65,6 +68,7 @@ pub record AreSiblings (fs : List (Fact ℕ)) (y z : ℕ) : Type 0 where
   pub are_two : ¬ (y ≡ z)
   pub not_apart : are_apart fs y z ≡ false
 
+-- two nodes that a trail joins are siblings, unless the join is given
 abbrev pub JoinsAreOfSiblings : Type 0
 JoinsAreOfSiblings = (w : SearchContext) (at sub not_sup k : ℕ) (trail : List Item) → at < w.first
     → Follows w (start at sub not_sup) k trail
@@ -92,6 +96,7 @@ pub record IsGivenEdge (w : SearchContext) (fs : List (Fact ℕ)) (x y : ℕ) : 
 abbrev pub LeadsDown : SearchContext → List (Fact ℕ) → ℕ → ℕ → Type 0
 LeadsDown w fs x y = IsGivenEdge w fs x y ⊎ IsChild w.first fs x y
 
+-- where an edge leads from one node to another, a given one does, or the other is a child of the first
 abbrev pub SuccessorsAreChildren : Type 0
 SuccessorsAreChildren = (w : SearchContext) (at sub not_sup k : ℕ) (trail : List Item) → at < w.first
     → Follows w (start at sub not_sup) k trail
@@ -105,6 +110,7 @@ ParentsAreLess = (w : SearchContext) (at sub not_sup k : ℕ) (trail : List Item
 
 -- ---- below a clear node no successor is under a block
 
+-- a successor of a node that is clear does not stand under a blocked node
 abbrev pub ClearHasNoneUnder : Type 0
 ClearHasNoneUnder = (w : SearchContext) (at sub not_sup k : ℕ) (trail : List Item) → at < w.first
     → Follows w (start at sub not_sup) k trail
@@ -114,6 +120,7 @@ ClearHasNoneUnder = (w : SearchContext) (at sub not_sup k : ℕ) (trail : List I
 
 -- ---- the concepts of a trail are in the table
 
+-- the facts of a trail have numbers of concepts of the table alone
 abbrev pub NumbersAreListed : Type 0
 NumbersAreListed = (q : Question) (table : List Shape) (rows : List Row) (k : ℕ) (trail : List Item)
     → IsReached q table rows k trail → are_listed (length table) (facts_of trail) ≡ true
@@ -134,12 +141,14 @@ KeptKindsStay = (q : Question) (table : List Shape) (rows : List Row) (k : ℕ) 
 
 -- ---- a table may grow while a search goes on
 
+-- a trail that is reached over a table is reached over one with more shapes too
 abbrev pub TablesMayGrow : Type 0
 TablesMayGrow = (q : Question) (table more : List Shape) (rows : List Row) (k : ℕ) (trail : List Item)
     → IsReached q table rows k trail → IsTable (table ++ more) → IsReached q (table ++ more) rows k trail
 
 -- ---- a saturated trail has no clash of any kind
 
+-- a trail that is saturated has no clash
 abbrev pub SaturatedHasNoClash : Type 0
 SaturatedHasNoClash = (w : SearchContext) (at sub not_sup k : ℕ) (trail : List Item) → at < w.first
     → Follows w (start at sub not_sup) k trail → IsSaturated w trail → ¬ HasClash w trail
@@ -150,6 +159,7 @@ SaturatedHasNoClash = (w : SearchContext) (at sub not_sup k : ℕ) (trail : List
 abbrev pub CarriedAreListed : SearchContext → List (Fact ℕ) → Type 0
 CarriedAreListed w fs = (x y c s t e : ℕ) → IsCarried w fs x y c s t e → (d : ℕ) × (shape_of w.table d ≡ all_of t e)
 
+-- no step is legal from a saturated trail, and one without a plain clash and without a legal step is saturated
 abbrev pub SaturatedIsTheEnd : Type 0
 SaturatedIsTheEnd = (w : SearchContext) (at sub not_sup k : ℕ) (trail : List Item) → at < w.first
     → Follows w (start at sub not_sup) k trail

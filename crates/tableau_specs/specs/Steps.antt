@@ -36,11 +36,13 @@ pub record SearchContext : Type 0 where
   pub first : ℕ
   pub fact_of : ℕ → ℕ → Option (Fact Concept)
 
+-- which role is below which, in the context of a search
 abbrev pub below_of : SearchContext → ℕ → ℕ → Bool
 below_of w = w.theory.below
 
 -- ---- rows
 
+-- the shape is this name
 abbrev pub is_named : ℕ → Shape → Bool
 is_named a (name_shape b) = a == b
 is_named a _ = false
@@ -65,6 +67,7 @@ abbrev pub ends_edge : SearchContext → List (Fact ℕ) → ℕ → ℕ → Boo
 ends_edge w fs s x =
     list_any (λ z. has_edge fs (λ r. below_of w r s) z x) (range_with_len 0 (node_count_from w.first fs))
 
+-- what the trigger of a row waits for is so of the node
 abbrev pub is_triggered : SearchContext → List (Fact ℕ) → ℕ → Option Part → Trigger → Bool
 is_triggered w fs x part always = true
 is_triggered w fs x part (names positions) = has_names w fs x positions part
