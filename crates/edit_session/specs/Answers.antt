@@ -62,6 +62,7 @@ pub record LogsSoFar (budget : ℕ) (log : List Entry) (s : State) (ls : List (L
 abbrev pub BeginsSession : ℕ → List ℕ → List Entry → Type 0
 BeginsSession budget bytes log = (log ≡ []) ⊎ OnScript (LogsSoFar budget log) bytes
 
+-- what is answered to a session, for each status
 abbrev pub AnswersSession : ℕ → List ℕ → List ℕ → Status → List Entry → Type 0
 AnswersSession budget bytes out Done log = OnScript (AnswersAllLines budget out log) bytes
 AnswersSession budget bytes out Undecided log = OnScript (AnswersFirstLines budget out log) bytes

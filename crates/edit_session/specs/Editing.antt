@@ -20,6 +20,7 @@ abbrev pub IsRemovedIf : Bool → NumberSet → ℕ → NumberSet → List ℕ �
 IsRemovedIf true old k new answer = (new ≡ set.remove old k) × (answer ≡ numbered_line (codes "removed") k)
 IsRemovedIf false old k new answer = (new ≡ old) × (answer ≡ bad_line)
 
+-- a line `remove` does what it says, and is answered so, where the axiom is in or not
 abbrev pub IsRemovedFrom : NumberSet → ℕ → NumberSet → List ℕ → Type 0
 IsRemovedFrom old k new answer = IsRemovedIf (set.contains old k) old k new answer
 

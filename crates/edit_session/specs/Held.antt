@@ -15,6 +15,7 @@ EndIsOf n (Yes u) = IsWithin n u.members
 EndIsOf n No = Unit {0}
 EndIsOf n (Spent t) = Unit {0}
 
+-- the entry speaks of the first n axioms alone
 abbrev pub IsOfHeld : ℕ → Entry → Type 0
 IsOfHeld n (Test s q steps e) = IsWithin n s.members × EndIsOf n e
 IsOfHeld n (Node s) = Unit {0}
@@ -25,6 +26,7 @@ EndHolds axioms s q (Yes u) = FollowsFrom axioms q u.members
 EndHolds axioms s q No = ¬ FollowsFrom axioms q s.members
 EndHolds axioms s q (Spent t) = Unit {0}
 
+-- what the entry found is so of these axioms
 abbrev pub Holds : List Numbered → Entry → Type 0
 Holds axioms (Test s q steps e) = EndHolds axioms s q e
 Holds axioms (Node s) = Unit {0}

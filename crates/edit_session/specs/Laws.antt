@@ -26,6 +26,7 @@ abbrev pub IsFromScratch : State → Query → List ℕ → Type 0
 IsFromScratch s q answer = ((answer ≡ no_line) ↔ (¬ Entails (axioms_in_set s.live s.ontology.axioms) q))
     × (Entails (axioms_in_set s.live s.ontology.axioms) q → IsYes s q answer)
 
+-- a query is answered as a new run on the live axioms would answer it
 abbrev pub AnswersAreFromScratch : Type 0
 AnswersAreFromScratch = (s next : State) (l text answer : List ℕ) (both : Listed) (q : Query) → request l ≡ asks text
     → IsQueryOn s.context s.ontology text both q → Said s l next answer → IsFromScratch s q answer

@@ -46,6 +46,7 @@ abbrev pub IsAskTold : ℕ → SessionLists → List ℕ → List Entry → Sess
 IsAskTold budget old text before new after found = (l : List ℕ) → request l ≡ asks text
     → IsLineTold budget old l before new after found
 
+-- where the line asks for a text, it logs at most one test
 abbrev pub AskLogsAtMostOne : State → List ℕ → List Entry → List Entry → Type 0
 AskLogsAtMostOne s text before after = (l : List ℕ) → request l ≡ asks text → LogsAtMostOne s l before after
 

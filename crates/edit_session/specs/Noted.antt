@@ -6,5 +6,6 @@ pub record Noted : Type 0 where
   pub seen : ℕ
   pub places : List (List ℕ)
 
+-- nothing is noted of a log yet
 abbrev pub nothing_noted : Noted
 nothing_noted = record { seen = 0; places = [] }

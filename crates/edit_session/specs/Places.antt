@@ -54,6 +54,7 @@ IsYesEnd (Yes u) = Unit {0}
 IsYesEnd No = ⊥
 IsYesEnd (Spent t) = ⊥
 
+-- the entry is a test of this query that ended with yes
 abbrev pub IsYesTo : Entry → Query → Type 0
 IsYesTo (Test s p steps e) q = (p ≡ q) × IsYesEnd e
 IsYesTo (Node s) q = ⊥
@@ -66,6 +67,7 @@ IsYesAt log place q = (entry : Entry) × (slice_get log place ≡ Some entry) ×
 abbrev pub KeepsOthers : List Entry → Query → List ℕ → List ℕ → Type 0
 KeepsOthers log q old new = (place : ℕ) → Contains old place → Contains new place ⊎ IsYesAt log place q
 
+-- of all prints, the places of entries that are no test of this query are kept
 abbrev pub KeepsAllOthers : List Entry → Query → List (List ℕ) → List (List ℕ) → Type 0
 KeepsAllOthers log q old new = (print : ℕ) → KeepsOthers log q (places_at old print) (places_at new print)
 
@@ -84,6 +86,7 @@ IsAnswerOf entry s q None = ¬ AnswersQuery entry s q
 abbrev pub IsFoundAmong : List Entry → Limited → Query → TestEnd → Type 0
 IsFoundAmong log s q e = (t : Limited) × (steps : ℕ) × Contains log (Test t q steps e) × EndAnswers t e s
 
+-- the end of a test that was found at a place answers the query, or none there does
 abbrev pub IsFoundAt : List Entry → Limited → Query → ℕ → Option TestEnd → Type 0
 IsFoundAt log s q place (Some e) = IsFoundAmong log s q e
 IsFoundAt log s q place None = ¬ AnswersAt log s q place
@@ -104,5 +107,6 @@ pub record IsNotedOf (noted : Noted) (live : NumberSet) (log : List Entry) : Typ
 pub record MayBeNotedOf (noted : Noted) (live : NumberSet) (log : List Entry) : Type 0 where
   pub filed : noted.seen ≤ length log → AreFiled noted.places live noted.seen log
 
+-- what is noted of a log, as the definitions see it
 abbrev pub plain_noted : NotedPlaces → Noted
 plain_noted n = record { seen = n.seen; places = n.places.items }

@@ -30,9 +30,11 @@ abbrev mutual
   with_parts print no_parts = mixed print 12
   with_parts print (part c cs) = with_parts (with_concept print c) cs
 
+-- the print after what a query is on: each element, or an individual
 abbrev pub with_on : ℕ → On → ℕ
 with_on print Any = mixed print 1
 with_on print (Individual a) = mixed (mixed print 2) a
 
+-- the print of a query
 abbrev pub query_print : Query → ℕ
 query_print q = with_on (with_concept (with_concept 0 q.sub) q.sup) q.on

@@ -18,6 +18,7 @@ use Rattle.edit_session.specs.ScriptLines.{Request, adds, removes, asks, other, 
 
 -- ---- answers
 
+-- the answer to a line that asks for nothing
 abbrev pub bad_line : List ℕ
 bad_line = line (codes "bad line")
 
@@ -29,6 +30,7 @@ numbered_line word k = line (word ++ (32 ∷ decimal k))
 abbrev pub yes_line : Limited → List ℕ
 yes_line u = line (codes "yes " ++ set_text u)
 
+-- the answer to a query that does not follow
 abbrev pub no_line : List ℕ
 no_line = line (codes "no")
 
@@ -86,13 +88,16 @@ abbrev pub IsAddedOrRefused : State → List ℕ → State → List ℕ → Type
 IsAddedOrRefused old text new answer = IsAdded old text new answer
     ⊎ IsRefusedText old new answer (IsNoAdditionTo old.context old.ontology text)
 
+-- what a line `remove` does and is answered, where the axiom is live or not
 abbrev pub IsRemovedOrNot : State → ℕ → State → List ℕ → Type 0
 IsRemovedOrNot old k new answer = IsRemoved (set.contains old.live k) old k new answer
 
+-- what a line `ask` does and is answered: the query is answered, or its text is refused
 abbrev pub IsAnsweredOrRefused : State → List ℕ → State → List ℕ → Type 0
 IsAnsweredOrRefused old text new answer = IsAnswered old text new answer
     ⊎ IsRefusedText old new answer (IsNoQueryOn old.context old.ontology text)
 
+-- what is said to a request, and which session it leaves
 abbrev pub SaidTo : State → Request → State → List ℕ → Type 0
 SaidTo old (adds text) new answer = IsAddedOrRefused old text new answer
 SaidTo old (removes k) new answer = IsRemovedOrNot old k new answer

@@ -37,5 +37,6 @@ worded word text =
 abbrev pub split_request : List ℕ → Request
 split_request l = if list_any is_space l then worded (before_first is_space l) (after_first is_space l) else other
 
+-- what a line of a script asks for
 abbrev pub request : List ℕ → Request
 request l = if is_utf8 l then split_request l else other

@@ -27,6 +27,7 @@ pub record IsWhollyTold (budget : ℕ) (start : State) (before : List Entry) (li
   pub has_told : HasTold start before (script_lines lines) next after text
   pub honest : IsSessionLog next.ontology budget after
 
+-- the last answer of a session whose budget is spent
 abbrev pub undecided_line : List ℕ
 undecided_line = line (codes "undecided")
 
@@ -90,6 +91,7 @@ IsSaidIf true budget old l before text new after longer said = (new ≡ old) × 
 IsSaidIf false budget old l before text new after longer said =
     IsLineDone budget old l before text new after longer said
 
+-- what is said to a line of a script, blank or not
 abbrev pub IsSaidTo : ℕ → SessionLists → List ℕ → List Entry → List ℕ → SessionLists → List Entry → List ℕ → Outcome
     → Type 0
 IsSaidTo budget old l before text new after longer said =

@@ -17,6 +17,7 @@ pub record State : Type 0 where
   pub context : DocumentContext
   pub live : NumberSet
 
+-- the state of a session: an ontology, what belongs to its document, and the live axioms
 abbrev pub state_of : Listed → DocumentContext → NumberSet → State
 state_of o kept live = record { ontology = o; context = kept; live = live }
 
@@ -33,5 +34,6 @@ pub record SessionLists : Type 0 where
   pub state : State
   pub noted : Noted
 
+-- sets of live axioms can be coded, and read back
 abbrev pub live_code : Coded NumberSet
 live_code = set.code coded_ℕ

@@ -9,6 +9,7 @@ use Rattle.finite_model.specs.ModelText.{Body, model_line_read, size_in, empty_b
 abbrev pub malformed_in_model : Listed → Body → List (List ℕ) → Option ℕ
 malformed_in_model o b ls = malformed_in_body (model_line_read o) 3 b ls
 
+-- the first malformed line of what is to be a model, if there is one
 abbrev pub malformed_model_line : Listed → List (List ℕ) → Option ℕ
 malformed_model_line o ls = malformed_after_line 2 size_in (λ n. malformed_in_model o (empty_body n)) ls
 

@@ -24,6 +24,7 @@ pub record ModelLists : Type 0 where
 abbrev pub members_below : ℕ → List (ℕ × ℕ) → Bool
 members_below size ms = list_all (λ m. nat_lt m.1 size) ms
 
+-- both elements of each pair are below the size
 abbrev pub links_below : ℕ → List (ℕ × ℕ × ℕ) → Bool
 links_below size ls = list_all (λ l. nat_lt l.1 size && nat_lt l.2 size) ls
 
@@ -59,6 +60,7 @@ begins k r x = list_any (is_from r x) k.links
 abbrev pub element_at : List (ℕ × ℕ) → ℕ → ℕ
 element_at ps a = unwrap_or (lookup (is_at (nat_cmp a)) ps) 0
 
+-- the interpretation that the lists of a model stand for
 abbrev pub meaning : ModelLists → Interpretation
 meaning k = record {
   size = k.size;
@@ -83,6 +85,7 @@ tuple_cmp a b = ordering_then (ordering_then (nat_cmp a.0 b.0) (nat_cmp a.1 b.1)
 abbrev pub with_member : ℕ → ℕ → ModelLists → ModelLists
 with_member a x k = record k { members = insert_key member_cmp k.members (a, x) }
 
+-- the model with one pair of a role more
 abbrev pub with_link : ℕ → ℕ → ℕ → ModelLists → ModelLists
 with_link r x y k = record k { links = insert_key link_cmp k.links (r, x, y) }
 
@@ -90,6 +93,7 @@ with_link r x y k = record k { links = insert_key link_cmp k.links (r, x, y) }
 abbrev pub placed : ℕ → ℕ → List (ℕ × ℕ) → List (ℕ × ℕ)
 placed a x ps = if nat_eq x 0 then remove_entry (is_at (nat_cmp a)) ps else insert_entry nat_cmp ps a x
 
+-- the model with an individual placed at an element
 abbrev pub with_individual : ℕ → ℕ → ModelLists → ModelLists
 with_individual a x k = record k { individuals = placed a x k.individuals }
 

@@ -30,6 +30,7 @@ pair_at size word comma =
     option_and_then (λ x. option_map (λ y. record { from = x; to = y }) (element_in 0 size (drop (comma + 1) word)))
     (element_in 0 size (take comma word))
 
+-- the pair that a word says: two elements with a comma between them
 abbrev pub pair_in : ℕ → List ℕ → Option Pair
 pair_in size word = option_and_then (pair_at size word) (position (nat_eq 44) word)
 
@@ -37,6 +38,7 @@ pair_in size word = option_and_then (pair_at size word) (position (nat_eq 44) wo
 abbrev pub is_at_least : Pair → Pair → Bool
 is_at_least low p = nat_lt low.from p.from || (nat_eq low.from p.from && nat_le low.to p.to)
 
+-- the pair that a word says, where it is not before the least that may stand there
 abbrev pub pair_from : Pair → ℕ → List ℕ → Option Pair
 pair_from low size word = option_and_then (λ p. if is_at_least low p then Some p else None) (pair_in size word)
 
@@ -60,6 +62,7 @@ pub record ClassLine : Type 0 where
   pub class : ℕ
   pub elements : List ℕ
 
+-- what a line says as that of a class: the class and its elements
 abbrev pub class_line_in : Listed → ℕ → List (List ℕ) → Option ClassLine
 class_line_in o size ws =
     option_and_then (λ a. option_map (λ xs. record { class = a; elements = xs }) (elements_from 0 size (drop 2 ws)))
@@ -70,6 +73,7 @@ pub record RoleLine : Type 0 where
   pub role : ℕ
   pub pairs : List Pair
 
+-- what a line says as that of a role: the role and its pairs
 abbrev pub role_line_in : Listed → ℕ → List (List ℕ) → Option RoleLine
 role_line_in o size ws =
     option_and_then (λ r. option_map (λ ps. record { role = r; pairs = ps }) (pairs_in size (drop 2 ws)))
@@ -87,10 +91,12 @@ individual_line_in o size (k ∷ name ∷ w ∷ []) =
     if bytes_eq k (codes "individual") then placed_in o size name w else None
 individual_line_in o size _ = None
 
+-- the model with these elements in a class
 abbrev pub with_elements : ℕ → List ℕ → ModelLists → ModelLists
 with_elements a [] k = k
 with_elements a (x ∷ xs) k = with_elements a xs (with_member a x k)
 
+-- the model with these pairs in a role
 abbrev pub with_pairs : ℕ → List Pair → ModelLists → ModelLists
 with_pairs r [] k = k
 with_pairs r (p ∷ ps) k = with_pairs r ps (with_link r p.from p.to k)
@@ -124,20 +130,25 @@ with_placed b p =
       model = with_individual p.individual p.element b.model;
     })
 
+-- the line begins with the word `role`
 abbrev pub is_role_line : List (List ℕ) → Bool
 is_role_line [] = false
 is_role_line (k ∷ ws) = bytes_eq k (codes "role")
 
+-- the line begins with the word `individual`
 abbrev pub is_individual_line : List (List ℕ) → Bool
 is_individual_line [] = false
 is_individual_line (k ∷ ws) = bytes_eq k (codes "individual")
 
+-- what was read after a line of a class, if it is one
 abbrev pub class_read : Listed → Body → List (List ℕ) → Option Body
 class_read o b ws = option_and_then (with_class b) (class_line_in o b.model.size ws)
 
+-- what was read after a line of a role, if it is one
 abbrev pub role_read : Listed → Body → List (List ℕ) → Option Body
 role_read o b ws = option_and_then (with_role b) (role_line_in o b.model.size ws)
 
+-- what was read after a line of an individual, if it is one
 abbrev pub individual_read : Listed → Body → List (List ℕ) → Option Body
 individual_read o b ws = option_and_then (with_placed b) (individual_line_in o b.model.size ws)
 
@@ -145,18 +156,22 @@ individual_read o b ws = option_and_then (with_placed b) (individual_line_in o b
 abbrev pub ReadsClass : Listed → List (List ℕ) → Body → Body → Type 0
 ReadsClass o ws before after = class_read o before ws ≡ Some after
 
+-- the line is that of a role, and adds what it says
 abbrev pub ReadsRole : Listed → List (List ℕ) → Body → Body → Type 0
 ReadsRole o ws before after = role_read o before ws ≡ Some after
 
+-- the line is that of an individual, and adds what it says
 abbrev pub ReadsIndividual : Listed → List (List ℕ) → Body → Body → Type 0
 ReadsIndividual o ws before after = individual_read o before ws ≡ Some after
 
+-- what was read after a line, given as its words: that of a role, of an individual, or else of a class
 abbrev pub model_words_read : Listed → Body → List (List ℕ) → Option Body
 model_words_read o b ws =
     if is_role_line ws then role_read o b ws
     else if is_individual_line ws then individual_read o b ws
     else class_read o b ws
 
+-- what was read after a line
 abbrev pub model_line_read : Listed → Body → List ℕ → Option Body
 model_line_read o b line = model_words_read o b (words line)
 
@@ -171,6 +186,7 @@ size_line (k ∷ n ∷ []) =
     else None
 size_line _ = None
 
+-- the size that a line `model N` says
 abbrev pub size_in : List ℕ → Option ℕ
 size_in line = size_line (words line)
 

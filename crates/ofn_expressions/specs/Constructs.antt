@@ -4,6 +4,7 @@ use Rattle.std.specs.Str.{bytes_eq}
 use Rattle.ofn_expressions.specs.declared.construct.Construct.{Construct}
 use Rattle.ofn_expressions.specs.declared.construct.Construct.TheVariants as C
 
+-- the keyword or name by which a construct that is left out is told
 unfoldable pub spelling : Construct → List ℕ
 spelling C.Import = codes "Import"
 spelling C.DisjointObjectProperties = codes "DisjointObjectProperties"

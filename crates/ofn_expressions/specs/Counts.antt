@@ -42,6 +42,7 @@ ontology_of s =
 abbrev pub with_axiom_counted : State → State
 with_axiom_counted s = record s { counts = record s.counts { axioms = s.counts.axioms + 1 } }
 
+-- the state with so many more parts counted
 abbrev pub with_parts_counted : State → ℕ → State
 with_parts_counted s n = record s { counts = record s.counts { parts = s.counts.parts + n } }
 
@@ -53,9 +54,11 @@ with_axiom_read s a line = record s { read = s.read ++ record { «axiom» = a; l
 abbrev pub ClassesAreFull : Counts → List ℕ → Type 0
 ClassesAreFull s w = (20000 ≤ length s.classes) × (position (bytes_eq w) s.classes ≡ None)
 
+-- as many roles are listed as may be, and the name is none of them
 abbrev pub RolesAreFull : Counts → List ℕ → Type 0
 RolesAreFull s w = (1000 ≤ length s.roles) × (position (bytes_eq w) s.roles ≡ None)
 
+-- as many individuals are listed as may be, and the name is none of them
 abbrev pub IndividualsAreFull : Counts → List ℕ → Type 0
 IndividualsAreFull s w = (20000 ≤ length s.individuals) × (position (bytes_eq w) s.individuals ≡ None)
 

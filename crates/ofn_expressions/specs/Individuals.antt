@@ -9,6 +9,7 @@ use Rattle.ofn_expressions.specs.Names.{prefix_part}
 use Rattle.ofn_expressions.specs.Classes.{Keeps, place, or_zero}
 use Rattle.ofn_expressions.specs.declared.construct.Construct.TheVariants as C
 
+-- the item is a name that begins like that of an individual without a name of its own
 abbrev pub is_anonymous_item : Item → Bool
 is_anonymous_item (name_item w line) = is_anonymous w
 is_anonymous_item (iri_item w line) = false
@@ -35,6 +36,7 @@ individual_name_tests ps (group_item h is line) = name_tests ps (group_item h is
 abbrev pub individual_tests : List Prefix → Item → List Test
 individual_tests ps i = individual_name_tests ps i ++ (individual (item_line i) (iri_of ps i) ∷ [])
 
+-- the tests of some individuals, in order
 abbrev pub individuals_tests : List Prefix → Items → List Test
 individuals_tests ps no_items = []
 individuals_tests ps (item i is) = individual_tests ps i ++ individuals_tests ps is
@@ -43,16 +45,20 @@ individuals_tests ps (item i is) = individual_tests ps i ++ individuals_tests ps
 abbrev pub individual_named : Counts → List ℕ → ℕ
 individual_named s iri = or_zero (place iri s.individuals)
 
+-- the number of the individual that an item names
 abbrev pub individual_of : List Prefix → Counts → Item → ℕ
 individual_of ps s i = individual_named s (iri_of ps i)
 
+-- the numbers of the individuals that some items name, in order
 abbrev pub individuals_of : List Prefix → Counts → Items → List ℕ
 individuals_of ps s no_items = []
 individuals_of ps s (item i is) = individual_of ps s i ∷ individuals_of ps s is
 
+-- the individual is listed
 abbrev pub IsListedIndividual : Counts → ℕ → Type 0
 IsListedIndividual s a = nat_lt a (length s.individuals) ≡ true
 
+-- each of the individuals is listed
 abbrev pub AreListedIndividuals : Counts → List ℕ → Type 0
 AreListedIndividuals s as_ = list_all (λ a. nat_lt a (length s.individuals)) as_ ≡ true
 
@@ -61,6 +67,7 @@ abbrev pub MeansIndividual : List Prefix → Counts → Item → ℕ → Type 0
 MeansIndividual ps s i a = (later : Counts) → Keeps s later
     → (individual_of ps later i ≡ a) × IsListedIndividual later a
 
+-- the items name these individuals, also by later counts that keep the names
 abbrev pub MeanIndividuals : List Prefix → Counts → Items → List ℕ → Type 0
 MeanIndividuals ps s is as_ = (later : Counts) → Keeps s later
     → (individuals_of ps later is ≡ as_) × AreListedIndividuals later as_

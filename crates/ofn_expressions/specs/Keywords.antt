@@ -10,10 +10,12 @@ use Rattle.ofn_expressions.specs.declared.keywords.Bound.TheVariants as B
 use Rattle.ofn_expressions.specs.declared.keywords.Keyword.{Keyword}
 use Rattle.ofn_expressions.specs.declared.keywords.Keyword.TheVariants.{Class, Excluded, Unknown}
 
+-- the keyword of a text that is no class expression of the language: one that is left out, or an unknown one
 abbrev pub keyword_else : Option Construct → Keyword
 keyword_else (Some c) = Excluded c
 keyword_else None = Unknown
 
+-- the keyword of a class expression that a text is
 unfoldable pub class_keyword : List ℕ → Keyword
 class_keyword w =
     if bytes_eq w (codes "ObjectIntersectionOf") then Class Intersection

@@ -33,9 +33,11 @@ abbrev pub prefix_iri : List Prefix → List ℕ → Option (List ℕ)
 prefix_iri [] name = None
 prefix_iri (p ∷ ps) name = if bytes_eq name p.name then Some p.iri else prefix_iri ps name
 
+-- the byte is a colon
 abbrev pub is_colon : ℕ → Bool
 is_colon b = nat_eq b 58
 
+-- the text has a colon
 abbrev pub has_colon : List ℕ → Bool
 has_colon w = list_any is_colon w
 
@@ -47,9 +49,11 @@ is_anonymous w = starts_with nat_eq w (codes "_:")
 abbrev pub prefix_part : List ℕ → List ℕ
 prefix_part w = before_first is_colon w
 
+-- what stands behind the first colon of a name
 abbrev pub local_part : List ℕ → List ℕ
 local_part w = after_first is_colon w
 
+-- the line of an item
 abbrev pub item_line : Item → ℕ
 item_line (name_item w line) = line
 item_line (iri_item w line) = line

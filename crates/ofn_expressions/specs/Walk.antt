@@ -81,6 +81,7 @@ abbrev pub add_refusal : Which → ℕ → AddFault → Refusal
 add_refusal which line fault.Full = Limit which line
 add_refusal which line fault.NoMemory = NoMemory
 
+-- the counts after all tests of a list
 abbrev pub after_all : Counts → List Test → Counts
 after_all s [] = s
 after_all s (t ∷ ts) = after_all (counts_after s t) ts
@@ -90,14 +91,17 @@ pub record Outcome : Type 0 where
   pub refusal : Refusal
   pub holds : Bool
 
+-- of each test of a list whether it holds, and with what it refuses
 abbrev pub outcomes : Counts → List Test → List Outcome
 outcomes s [] = []
 outcomes s (t ∷ ts) = record { refusal = refusal t; holds = holds s t } ∷ outcomes (counts_after s t) ts
 
+-- with what the first test that fails refuses, if one fails
 abbrev pub first_failing : List Outcome → Option Refusal
 first_failing [] = None
 first_failing (o ∷ os) = cond o.holds (first_failing os) (Some o.refusal)
 
+-- the counts where nothing failed, and else the refusal
 abbrev pub verdict : Option Refusal → Counts → Result Counts Refusal
 verdict None s = Ok s
 verdict (Some e) s = Err e
@@ -115,6 +119,7 @@ abbrev pub AgreesWithTests : {X : Type 0} → Result X Refusal → Counts → Re
 AgreesWithTests (Ok x) new said = said ≡ Ok new
 AgreesWithTests (Err e) new said = RefusalAgrees said e
 
+-- the result, and the counts after it, are those of a walk over the tests
 abbrev pub Judged : {X : Type 0} → Result X Refusal → Counts → List Test → Counts → Type 0
 Judged result old ts new = AgreesWithTests result new (walked old ts)
 

@@ -38,6 +38,7 @@ added_group_tests ps W.Unknown line is = shape line false ∷ []
 abbrev pub added_items_tests : List Prefix → AxiomKeyword → ℕ → List Item → List Test
 added_items_tests ps k line is = added_group_tests ps k line (items_of is)
 
+-- the tests of an item that is to be put in as an axiom; anything but a numbered axiom has no shape there
 abbrev pub added_tests : List Prefix → Item → List Test
 added_tests ps (group_item (Some w) is line) = added_group_tests ps (axiom_keyword w) line (without_annotations is)
 added_tests ps (group_item None is line) = shape line false ∷ []
@@ -58,6 +59,7 @@ group_axiom ps s W.Annotation is = []
 group_axiom ps s (W.Excluded c) is = []
 group_axiom ps s W.Unknown is = []
 
+-- the axiom that an item stands for, as a list of one, or of none
 abbrev pub added_axiom : List Prefix → Counts → Item → List Axiom
 added_axiom ps s (group_item (Some w) is line) = group_axiom ps s (axiom_keyword w) (without_annotations is)
 added_axiom ps s (group_item None is line) = []
@@ -66,6 +68,7 @@ added_axiom ps s (iri_item w line) = []
 added_axiom ps s (literal_item line) = []
 added_axiom ps s (sign_item k line) = []
 
+-- the axiom that the first item stands for, as a list of one, or of none
 abbrev pub first_axiom : List Prefix → Counts → List Item → List Axiom
 first_axiom ps s [] = []
 first_axiom ps s (i ∷ is) = added_axiom ps s i
@@ -125,6 +128,7 @@ IsAdditionTo kept old text new after number =
     × (after ≡ record kept { nodes = behind.nodes })
     × (number ≡ length old.axioms + 1)
 
+-- why a text is no axiom that may be put into this ontology
 abbrev pub IsNoAdditionTo : DocumentContext → Listed → List ℕ → Refusal → Type 0
 IsNoAdditionTo kept old text e = IsNoAddition kept.prefixes old.axioms (counts_of old) text e
 
@@ -147,9 +151,11 @@ pub record ListsMore (old new : State) : Type 0 where
 abbrev pub SaysAxiom : Counts → (Counts → List Axiom) → Axiom → Type 0
 SaysAxiom s said a = (later : Counts) → Keeps s later → (said later ≡ a ∷ []) × IsListedAxiom later a
 
+-- a group with this keyword and these items says the axiom, also by later counts that keep the names
 abbrev pub GroupSays : List Prefix → Counts → AxiomKeyword → List Item → Axiom → Type 0
 GroupSays ps s k is a = SaysAxiom s (λ later. group_axiom ps later k (items_of is)) a
 
+-- the item says the axiom, also by later counts that keep the names
 abbrev pub ItemSays : List Prefix → Counts → Item → Axiom → Type 0
 ItemSays ps s i a = SaysAxiom s (λ later. added_axiom ps later i) a
 

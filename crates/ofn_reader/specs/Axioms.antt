@@ -106,18 +106,23 @@ operand_tests ps K.Different is = individuals_tests ps is
 abbrev pub class_pair_tests : List Prefix → Item → Item → List Test
 class_pair_tests ps c d = class_tests ps c ++ (class_tests ps d ++ [])
 
+-- the tests of two roles
 abbrev pub role_pair_tests : List Prefix → Item → Item → List Test
 role_pair_tests ps r s = role_tests ps r ++ (role_tests ps s ++ [])
 
+-- the tests of a role and a class expression
 abbrev pub role_then_class_tests : List Prefix → Item → Item → List Test
 role_then_class_tests ps r c = role_tests ps r ++ (class_tests ps c ++ [])
 
+-- the tests of a class expression and an individual
 abbrev pub member_tests : List Prefix → Item → Item → List Test
 member_tests ps c a = class_tests ps c ++ (individual_tests ps a ++ [])
 
+-- the tests of a role and two individuals
 abbrev pub pair_tests : List Prefix → Item → Item → Item → List Test
 pair_tests ps r a b = role_tests ps r ++ (individual_tests ps a ++ (individual_tests ps b ++ []))
 
+-- the tests of a name of a class, and then of class expressions
 abbrev pub name_then_classes_tests : List Prefix → Item → List Item → List Test
 name_then_classes_tests ps c is = class_name_tests ps c ++ classes_tests ps is
 
@@ -125,6 +130,7 @@ name_then_classes_tests ps c is = class_name_tests ps c ++ classes_tests ps is
 abbrev pub head_tests : AxiomKind → ℕ → ℕ → List Test
 head_tests k line n = numbered line ∷ shape line (axiom_fits k n) ∷ parts line (parts_by_item_count k n) ∷ []
 
+-- the tests of a numbered axiom: those of its head, and then those of its items
 abbrev pub numbered_tests : List Prefix → AxiomKind → ℕ → Items → List Test
 numbered_tests ps k line is = head_tests k line (item_count is) ++ operand_tests ps k is
 
@@ -140,6 +146,7 @@ axiom_group_tests ps W.Unknown line is = shape line false ∷ []
 abbrev pub axiom_items_tests : List Prefix → AxiomKeyword → ℕ → List Item → List Test
 axiom_items_tests ps k line is = axiom_group_tests ps k line (items_of is)
 
+-- the tests of an item where an axiom stands
 abbrev pub axiom_tests : List Prefix → Item → List Test
 axiom_tests ps (group_item (Some w) is line) = axiom_group_tests ps (axiom_keyword w) line (without_annotations is)
 axiom_tests ps (group_item None is line) = shape line false ∷ []
@@ -148,49 +155,60 @@ axiom_tests ps (iri_item w line) = shape line false ∷ []
 axiom_tests ps (literal_item line) = shape line false ∷ []
 axiom_tests ps (sign_item k line) = shape line false ∷ []
 
+-- the tests of some axioms, in order
 abbrev pub axioms_tests : List Prefix → Items → List Test
 axioms_tests ps no_items = []
 axioms_tests ps (item i is) = axiom_tests ps i ++ axioms_tests ps is
 
 -- what the items of an axiom say, if they are as many as its kind asks
 
+-- the inclusion of two class expressions, from its items
 abbrev pub sub_class_made : List Prefix → Counts → Items → List Axiom
 sub_class_made ps s (item c (item d is)) = A.SubClassOf (concept_of ps s c) (concept_of ps s d) ∷ []
 sub_class_made ps s _ = []
 
+-- the disjoint union, from its items
 abbrev pub union_made : List Prefix → Counts → Items → List Axiom
 union_made ps s (item c is) = A.DisjointUnion (class_named s (iri_of ps c)) (part_list (concepts_of ps s is)) ∷ []
 union_made ps s no_items = []
 
+-- the inclusion of two roles, from its items
 abbrev pub sub_role_made : List Prefix → Counts → Items → List Axiom
 sub_role_made ps s (item p (item q is)) = A.SubRole (role_of ps s p) (role_of ps s q) ∷ []
 sub_role_made ps s _ = []
 
+-- the domain of a role, from its items
 abbrev pub domain_made : List Prefix → Counts → Items → List Axiom
 domain_made ps s (item r (item c is)) = A.Domain (role_of ps s r) (concept_of ps s c) ∷ []
 domain_made ps s _ = []
 
+-- the range of a role, from its items
 abbrev pub range_made : List Prefix → Counts → Items → List Axiom
 range_made ps s (item r (item c is)) = A.Range (role_of ps s r) (concept_of ps s c) ∷ []
 range_made ps s _ = []
 
+-- the axiom that a role is functional, from its items
 abbrev pub functional_made : List Prefix → Counts → Items → List Axiom
 functional_made ps s (item r is) = A.Functional (role_of ps s r) ∷ []
 functional_made ps s no_items = []
 
+-- the axiom that a role is transitive, from its items
 abbrev pub transitive_made : List Prefix → Counts → Items → List Axiom
 transitive_made ps s (item r is) = A.Transitive (role_of ps s r) ∷ []
 transitive_made ps s no_items = []
 
+-- the assertion that an individual is in a class expression, from its items
 abbrev pub member_made : List Prefix → Counts → Items → List Axiom
 member_made ps s (item c (item a is)) = A.Member (concept_of ps s c) (individual_of ps s a) ∷ []
 member_made ps s _ = []
 
+-- the assertion that a role leads from one individual to another, from its items
 abbrev pub pair_made : List Prefix → Counts → Items → List Axiom
 pair_made ps s (item r (item a (item b is))) =
     A.Pair (role_of ps s r) (individual_of ps s a) (individual_of ps s b) ∷ []
 pair_made ps s _ = []
 
+-- the axiom of a kind that items stand for, as a list of one, or of none
 abbrev pub axiom_made : List Prefix → Counts → AxiomKind → Items → List Axiom
 axiom_made ps s K.SubClassOf is = sub_class_made ps s is
 axiom_made ps s K.EquivalentClasses is = A.EquivalentClasses (part_list (concepts_of ps s is)) ∷ []
@@ -207,6 +225,7 @@ axiom_made ps s K.Pair is = pair_made ps s is
 axiom_made ps s K.SameAll is = A.SameAll (individuals_of ps s is) ∷ []
 axiom_made ps s K.Different is = A.Different (individuals_of ps s is) ∷ []
 
+-- the axioms, each with this line
 abbrev pub numbered_at : ℕ → List Axiom → List Numbered
 numbered_at line [] = []
 numbered_at line (a ∷ more) = record { «axiom» = a; line = line } ∷ numbered_at line more
@@ -219,6 +238,7 @@ axiom_group_in ps s W.Annotation line is = []
 axiom_group_in ps s (W.Excluded c) line is = []
 axiom_group_in ps s W.Unknown line is = []
 
+-- the numbered axiom that an item stands for, with its line, or none
 abbrev pub axiom_in : List Prefix → Counts → Item → List Numbered
 axiom_in ps s (group_item (Some w) is line) = axiom_group_in ps s (axiom_keyword w) line (without_annotations is)
 axiom_in ps s (group_item None is line) = []

@@ -10,14 +10,17 @@ use Rattle.ofn_reader.specs.Keywords.{entity_keyword}
 use Rattle.ofn_reader.specs.declared.keywords.EntityKeyword.{EntityKeyword}
 use Rattle.ofn_reader.specs.declared.keywords.EntityKeyword.TheVariants as E
 
+-- the tests of the first item as a class that is declared
 abbrev pub declared_classes_tests : List Prefix → Items → List Test
 declared_classes_tests ps no_items = []
 declared_classes_tests ps (item i is) = declared_class_tests ps i
 
+-- the tests of the first item as a role that is declared
 abbrev pub declared_roles_tests : List Prefix → Items → List Test
 declared_roles_tests ps no_items = []
 declared_roles_tests ps (item i is) = declared_role_tests ps i
 
+-- the tests of the first item as an individual that is declared
 abbrev pub declared_individuals_tests : List Prefix → Items → List Test
 declared_individuals_tests ps no_items = []
 declared_individuals_tests ps (item i is) = individual_tests ps i
@@ -35,6 +38,7 @@ entity_group_tests ps E.Unknown line is = shape line false ∷ []
 abbrev pub entity_items_tests : List Prefix → EntityKeyword → ℕ → List Item → List Test
 entity_items_tests ps k line is = entity_group_tests ps k line (items_of is)
 
+-- the tests of an item where an entity stands that is declared
 abbrev pub entity_tests : List Prefix → Item → List Test
 entity_tests ps (group_item (Some w) is line) = entity_group_tests ps (entity_keyword w) line is
 entity_tests ps (group_item None is line) = shape line false ∷ []
@@ -43,6 +47,7 @@ entity_tests ps (iri_item w line) = shape line false ∷ []
 entity_tests ps (literal_item line) = shape line false ∷ []
 entity_tests ps (sign_item k line) = shape line false ∷ []
 
+-- the tests of the first item as an entity that is declared
 abbrev pub first_entity_tests : List Prefix → Items → List Test
 first_entity_tests ps no_items = []
 first_entity_tests ps (item i is) = entity_tests ps i

@@ -21,6 +21,7 @@ use Rattle.ofn_reader.specs.Texts.{HasItems, IsRefusedBy}
 abbrev pub start : Counts
 start = record { axioms = 0; parts = 0; nodes = 0; classes = []; roles = []; individuals = [] }
 
+-- the item declares a prefix
 abbrev pub is_prefix_group : Item → Bool
 is_prefix_group i = is_group (codes "Prefix") i
 
@@ -28,6 +29,7 @@ is_prefix_group i = is_group (codes "Prefix") i
 abbrev pub prefix_groups : List Item → List Item
 prefix_groups is = take (prefix_len is_prefix_group is) is
 
+-- the items behind the declarations of prefixes in front
 abbrev pub behind_prefixes : List Item → List Item
 behind_prefixes is = drop (prefix_len is_prefix_group is) is
 
@@ -41,6 +43,7 @@ ontology_tests ps end [] = shape end false ∷ []
 ontology_tests ps end (i ∷ is) =
     shape (item_line i) (is_group (codes "Ontology") i) ∷ axioms_tests ps (axiom_items (inner_items i))
 
+-- the numbered axioms of the group that stands first
 abbrev pub ontology_axioms : List Prefix → Counts → List Item → List Numbered
 ontology_axioms ps s [] = []
 ontology_axioms ps s (i ∷ is) = axioms_in ps s (axiom_items (inner_items i))

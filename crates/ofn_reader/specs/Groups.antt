@@ -23,6 +23,7 @@ inner_items (iri_item w line) = no_items
 inner_items (literal_item line) = no_items
 inner_items (sign_item k line) = no_items
 
+-- the item is an annotation
 abbrev pub is_annotation : Item → Bool
 is_annotation i = is_group (codes "Annotation") i
 
@@ -31,6 +32,7 @@ abbrev pub without_annotations : Items → Items
 without_annotations no_items = no_items
 without_annotations (item i is) = cond (is_annotation i) (without_annotations is) (item i is)
 
+-- the item is an IRI or a name
 abbrev pub is_iri_or_name : Item → Bool
 is_iri_or_name (name_item w line) = true
 is_iri_or_name (iri_item w line) = true

@@ -56,6 +56,7 @@ expression_count (a ∷ more) = axiom_expressions a.axiom + expression_count mor
 
 -- ---- parts
 
+-- the kind of an axiom
 abbrev pub kind_of : Axiom → AxiomKind
 kind_of (A.SubClassOf c d) = K.SubClassOf
 kind_of (A.EquivalentClasses cs) = K.EquivalentClasses
@@ -93,6 +94,7 @@ items_in (A.Different as_) = length as_
 abbrev pub parts_in : Axiom → ℕ
 parts_in a = parts_by_item_count (kind_of a) (items_in a)
 
+-- how many parts and facts the axioms have together
 abbrev pub parts_held : List Numbered → ℕ
 parts_held [] = 0
 parts_held (a ∷ more) = parts_in a.axiom + parts_held more

@@ -10,6 +10,7 @@ use Rattle.ofn_reader.specs.declared.keywords.AxiomKeyword.TheVariants.{Unknown}
 use Rattle.ofn_reader.specs.declared.keywords.EntityKeyword.{EntityKeyword}
 use Rattle.ofn_reader.specs.declared.keywords.EntityKeyword.TheVariants as E
 
+-- the keyword of a text that is no axiom of the language: one that is left out, or an unknown one
 abbrev pub axiom_else : Option Construct → AxiomKeyword
 axiom_else (Some c) = Excluded c
 axiom_else None = Unknown

@@ -19,6 +19,7 @@ DocumentsAreUnique =
     (text : List ℕ) (o p : Listed) (j k : DocumentContext) (d e : ℕ) → IsDocument text o j d → IsDocument text p k e
     → (o ≡ p) × (j ≡ k) × (d ≡ e)
 
+-- a text that is a document is not refused as one
 abbrev pub DocumentsAreNotRefused : Type 0
 DocumentsAreNotRefused = (text : List ℕ) (o : Listed) (k : DocumentContext) (d : ℕ) (e : Refusal)
     → IsDocument text o k d → IsNoDocument text e → ⊥
@@ -28,6 +29,7 @@ abbrev pub QueriesAreUnique : Type 0
 QueriesAreUnique = (ps : List Prefix) (axioms : List Numbered) (s : Counts) (text : List ℕ) (a b : Counts) (p q : Query)
     → IsQuery ps axioms s text a p → IsQuery ps axioms s text b q → (a ≡ b) × (p ≡ q)
 
+-- a text that is a query is not refused as one
 abbrev pub QueriesAreNotRefused : Type 0
 QueriesAreNotRefused = (ps : List Prefix) (axioms : List Numbered) (s : Counts) (text : List ℕ) (a : Counts) (q : Query)
     (e : Refusal)
@@ -39,6 +41,7 @@ ClassesAreUnique = (ps : List Prefix) (axioms : List Numbered) (s : Counts) (tex
     (c d : Concept)
     → IsClass ps axioms s text a c → IsClass ps axioms s text b d → (a ≡ b) × (c ≡ d)
 
+-- a text that is a class expression is not refused as one
 abbrev pub ClassesAreNotRefused : Type 0
 ClassesAreNotRefused = (ps : List Prefix) (axioms : List Numbered) (s : Counts) (text : List ℕ) (a : Counts)
     (c : Concept) (e : Refusal)
@@ -48,10 +51,12 @@ ClassesAreNotRefused = (ps : List Prefix) (axioms : List Numbered) (s : Counts) 
 abbrev pub DocumentRefusalsAreUnique : Type 0
 DocumentRefusalsAreUnique = (text : List ℕ) (e f : Refusal) → IsNoDocument text e → IsNoDocument text f → e ≡ f
 
+-- a text is refused as a query in one way at most
 abbrev pub QueryRefusalsAreUnique : Type 0
 QueryRefusalsAreUnique = (ps : List Prefix) (axioms : List Numbered) (s : Counts) (text : List ℕ) (e f : Refusal)
     → IsNoQuery ps axioms s text e → IsNoQuery ps axioms s text f → e ≡ f
 
+-- a text is refused as a class expression in one way at most
 abbrev pub ClassRefusalsAreUnique : Type 0
 ClassRefusalsAreUnique = (ps : List Prefix) (axioms : List Numbered) (s : Counts) (text : List ℕ) (e f : Refusal)
     → IsNoClass ps axioms s text e → IsNoClass ps axioms s text f → e ≡ f
@@ -62,11 +67,13 @@ AdditionsAreUnique = (ps : List Prefix) (axioms : List Numbered) (s : Counts) (t
     (p q : Axiom)
     → IsAddition ps axioms s text a p → IsAddition ps axioms s text b q → (a ≡ b) × (p ≡ q)
 
+-- a text that is an axiom which may be put in is not refused as one
 abbrev pub AdditionsAreNotRefused : Type 0
 AdditionsAreNotRefused = (ps : List Prefix) (axioms : List Numbered) (s : Counts) (text : List ℕ) (a : Counts)
     (p : Axiom) (e : Refusal)
     → IsAddition ps axioms s text a p → IsNoAddition ps axioms s text e → ⊥
 
+-- a text is refused as an axiom to be put in in one way at most
 abbrev pub AdditionRefusalsAreUnique : Type 0
 AdditionRefusalsAreUnique = (ps : List Prefix) (axioms : List Numbered) (s : Counts) (text : List ℕ) (e f : Refusal)
     → IsNoAddition ps axioms s text e → IsNoAddition ps axioms s text f → e ≡ f

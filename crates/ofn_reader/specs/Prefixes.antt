@@ -26,10 +26,12 @@ declared_name (literal_item line) = None
 declared_name (sign_item k line) = None
 declared_name (group_item h is line) = None
 
+-- the sign is an equals sign
 abbrev pub is_equals_kind : Kind → Bool
 is_equals_kind Equals = true
 is_equals_kind _ = false
 
+-- the item is an equals sign
 abbrev pub is_equals : Item → Bool
 is_equals (sign_item k line) = is_equals_kind k
 is_equals (name_item w line) = false
@@ -37,6 +39,7 @@ is_equals (iri_item w line) = false
 is_equals (literal_item line) = false
 is_equals (group_item h is line) = false
 
+-- the IRI that an item is, if it is one
 abbrev pub declared_iri : Item → Option (List ℕ)
 declared_iri (iri_item w line) = Some w
 declared_iri (name_item w line) = None
@@ -44,6 +47,7 @@ declared_iri (literal_item line) = None
 declared_iri (sign_item k line) = None
 declared_iri (group_item h is line) = None
 
+-- the text, and the empty one where there is none
 abbrev pub or_empty : Option (List ℕ) → List ℕ
 or_empty (Some w) = w
 or_empty None = []
@@ -70,6 +74,7 @@ abbrev pub prefix_items_tests : List Prefix → Items → List Test
 prefix_items_tests ps (item n (item e (item i is))) = entry_tests ps n e i
 prefix_items_tests ps _ = []
 
+-- the tests of a declaration of a prefix: it has three items, and then those of these
 abbrev pub prefix_tests : List Prefix → Item → List Test
 prefix_tests ps i = shape (item_line i) (nat_eq (item_count (inner_items i)) 3) ∷ prefix_items_tests ps (inner_items i)
 
@@ -82,9 +87,11 @@ declared_at None ps name iri = ps ++ record { name = name; iri = iri } ∷ []
 abbrev pub with_declared : List Prefix → List ℕ → List ℕ → List Prefix
 with_declared ps name iri = declared_at (prefix_iri ps name) ps name iri
 
+-- the prefixes with the one that a name and an IRI declare
 abbrev pub with_entry : List Prefix → Item → Item → List Prefix
 with_entry ps n i = with_declared ps (or_empty (declared_name n)) (or_empty (declared_iri i))
 
+-- the prefixes with the one that three items declare
 abbrev pub with_prefix_items : List Prefix → Items → List Prefix
 with_prefix_items ps (item n (item e (item i is))) = with_entry ps n i
 with_prefix_items ps _ = ps
@@ -98,6 +105,7 @@ abbrev pub prefixes_tests : List Prefix → List Item → List Test
 prefixes_tests ps [] = []
 prefixes_tests ps (i ∷ is) = prefix_tests ps i ++ prefixes_tests (with_prefix ps i) is
 
+-- the prefixes after some declarations, in order
 abbrev pub prefixes_behind : List Prefix → List Item → List Prefix
 prefixes_behind ps [] = ps
 prefixes_behind ps (i ∷ is) = prefixes_behind (with_prefix ps i) is

@@ -42,6 +42,7 @@ query_group_tests ps _ line is = shape line false ∷ []
 abbrev pub query_items_tests : List Prefix → AxiomKeyword → ℕ → List Item → List Test
 query_items_tests ps k line is = query_group_tests ps k line (items_of is)
 
+-- the tests of an item where a query stands
 abbrev pub axiom_query_tests : List Prefix → Item → List Test
 axiom_query_tests ps (group_item (Some w) is line) =
     query_group_tests ps (axiom_keyword w) line (without_annotations is)
@@ -65,6 +66,7 @@ alone_tests tests end (i ∷ is) = tests i ++ nothing_tests is
 abbrev pub query_form_tests : List Prefix → ℕ → List Item → List Test
 query_form_tests ps end is = alone_tests (axiom_query_tests ps) end is
 
+-- the tests of items of which the first is a class expression, and that are to be no more than one
 abbrev pub class_form_tests : List Prefix → ℕ → List Item → List Test
 class_form_tests ps end is = alone_tests (class_tests ps) end is
 
@@ -84,6 +86,7 @@ group_query ps s (W.Numbered K.SubClassOf) is = pair_in ps s is
 group_query ps s (W.Numbered K.Member) is = member_in ps s is
 group_query ps s _ is = []
 
+-- the query that an item stands for, as a list of one, or of none
 abbrev pub query_in : List Prefix → Counts → Item → List Query
 query_in ps s (group_item (Some w) is line) = group_query ps s (axiom_keyword w) (without_annotations is)
 query_in ps s (group_item None is line) = []
@@ -92,10 +95,12 @@ query_in ps s (iri_item w line) = []
 query_in ps s (literal_item line) = []
 query_in ps s (sign_item k line) = []
 
+-- the query that the first item stands for, as a list of one, or of none
 abbrev pub first_query : List Prefix → Counts → List Item → List Query
 first_query ps s [] = []
 first_query ps s (i ∷ is) = query_in ps s i
 
+-- the class expression that the first item stands for, as a list of one, or of none
 abbrev pub first_class : List Prefix → Counts → List Item → List Concept
 first_class ps s [] = []
 first_class ps s (i ∷ is) = concept_of ps s i ∷ []
@@ -110,6 +115,7 @@ abbrev pub counted_by_first : List Query → List ℕ
 counted_by_first [] = []
 counted_by_first (q ∷ qs) = counted_by_query q
 
+-- the roles that are counted in the first class expression
 abbrev pub counted_in_first : List Concept → List ℕ
 counted_in_first [] = []
 counted_in_first (c ∷ cs) = counted_roles c
@@ -173,6 +179,7 @@ pub data IsRefused (tests : List Item → List Test) (s : Counts) (text : List �
 abbrev pub IsNoQuery : List Prefix → List Numbered → Counts → List ℕ → Refusal → Type 0
 IsNoQuery ps axioms s text e = IsRefused (query_tests ps axioms s (end_line text)) s text e
 
+-- why a text is no class expression on the ontology
 abbrev pub IsNoClass : List Prefix → List Numbered → Counts → List ℕ → Refusal → Type 0
 IsNoClass ps axioms s text e = IsRefused (class_query_tests ps axioms s (end_line text)) s text e
 
@@ -218,9 +225,11 @@ Asks s asked q = (later : Counts) → Keeps s later → (asked later ≡ q ∷ [
 abbrev pub MeansPair : List Prefix → Counts → Items → Query → Type 0
 MeansPair ps s is q = Asks s (λ later. pair_in ps later is) q
 
+-- a group with this keyword and these items asks the query, also by later counts that keep the names
 abbrev pub MeansGroupQuery : List Prefix → Counts → AxiomKeyword → Items → Query → Type 0
 MeansGroupQuery ps s k is q = Asks s (λ later. group_query ps later k is) q
 
+-- the item asks the query, also by later counts that keep the names
 abbrev pub MeansQuery : List Prefix → Counts → Item → Query → Type 0
 MeansQuery ps s i q = Asks s (λ later. query_in ps later i) q
 
@@ -234,6 +243,7 @@ MeansMember ps s c a d n =
 abbrev pub query_walk : List Prefix → ℕ → Listed → ℕ → List Item → Result Counts Refusal
 query_walk ps nodes o end is = walked (query_start o nodes) (query_tests ps o.axioms (query_start o nodes) end is)
 
+-- the walk over the tests of a class expression, from the counts of the document on
 abbrev pub class_walk : List Prefix → ℕ → Listed → ℕ → List Item → Result Counts Refusal
 class_walk ps nodes o end is = walked (query_start o nodes) (class_query_tests ps o.axioms (query_start o nodes) end is)
 
@@ -244,6 +254,7 @@ QueryIsRead ps nodes old end is new q =
     × IsListedQuery behind q
     × (new ≡ record old { classes = behind.classes; roles = behind.roles; individuals = behind.individuals })
 
+-- the items are read as a class expression, and its new names are listed last
 abbrev pub ClassIsRead : List Prefix → ℕ → Listed → ℕ → List Item → Listed → Concept → Type 0
 ClassIsRead ps nodes old end is new c =
     (behind : Counts) × (class_walk ps nodes old end is ≡ Ok behind) × (first_class ps behind is ≡ c ∷ [])
@@ -258,6 +269,7 @@ IsQueryOn kept old text new q =
     × IsListedQuery behind q
     × (new ≡ record old { classes = behind.classes; roles = behind.roles; individuals = behind.individuals })
 
+-- why a text is no query on this document
 abbrev pub IsNoQueryOn : DocumentContext → Listed → List ℕ → Refusal → Type 0
 IsNoQueryOn kept old text e = IsNoQuery kept.prefixes old.axioms (query_start old kept.nodes) text e
 
@@ -267,5 +279,6 @@ IsClassOn kept old text new c =
     (behind : Counts) × IsClass kept.prefixes old.axioms (query_start old kept.nodes) text behind c × IsListed behind c
     × (new ≡ record old { classes = behind.classes; roles = behind.roles; individuals = behind.individuals })
 
+-- why a text is no class expression on this document
 abbrev pub IsNoClassOn : DocumentContext → Listed → List ℕ → Refusal → Type 0
 IsNoClassOn kept old text e = IsNoClass kept.prefixes old.axioms (query_start old kept.nodes) text e

@@ -4,6 +4,7 @@ use Rattle.ofn_tree.specs.declared.fault.TextFault.TheVariants as faults
 use Rattle.ofn_expressions.specs.declared.refusal.Refusal.{Refusal}
 use Rattle.ofn_expressions.specs.declared.refusal.Refusal.TheVariants.{Text, NoMemory}
 
+-- the refusal by which a fault of a text is told
 abbrev pub refusal_of : TextFault → Refusal
 refusal_of faults.NoMemory = NoMemory
 refusal_of (faults.BadUtf8 line) = Text (faults.BadUtf8 line)

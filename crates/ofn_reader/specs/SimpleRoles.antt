@@ -30,5 +30,6 @@ leaves_simple roles (Pair r a b) t = true
 leaves_simple roles (SameAll as_) t = true
 leaves_simple roles (Different as_) t = true
 
+-- the role is simple by these axioms of roles and one axiom more
 abbrev pub simple_with : List RoleAxiom → Axiom → ℕ → Bool
 simple_with roles a t = is_simple roles t && leaves_simple roles a t

@@ -11,10 +11,12 @@ use Rattle.ofn_expressions.specs.declared.refusal.Refusal.{Refusal}
 use Rattle.ofn_expressions.specs.declared.refusal.Refusal.TheVariants.{Text, BadShape, UnknownPrefix, PrefixClash}
 use Rattle.ofn_expressions.specs.declared.refusal.Refusal.TheVariants.{Outside, NotSimple, Limit, NoMemory}
 
+-- the first fault of brackets, where the tokens of a document were found
 abbrev pub tree_fault : ℕ → Option DocumentTokens → Option TextFault
 tree_fault end None = None
 tree_fault end (Some r) = bracket_fault end 0 r.tokens
 
+-- the first fault, or else the other one
 abbrev pub fault_or_else : Option TextFault → Option TextFault → Option TextFault
 fault_or_else (Some fault) other = Some fault
 fault_or_else None other = other

@@ -17,6 +17,7 @@ pub record Met : Type 0 where
   pub document : Bool
   pub latest : Latest
 
+-- what is known before the first token: no bracket is open, and no document has begun
 abbrev pub nothing_met : Met
 nothing_met = record { depth = 0; document = false; latest = Other }
 
@@ -34,6 +35,7 @@ abbrev pub behind_name : List ℕ → Latest → Latest
 behind_name text TypedString = Other
 behind_name text _ = if bytes_eq text (codes "Ontology") then DocumentName else Other
 
+-- what stands last after carets: a string that waits for its type, or anything else
 abbrev pub behind_carets : Latest → Latest
 behind_carets QuotedString = TypedString
 behind_carets _ = Other
@@ -56,6 +58,7 @@ abbrev pub document_after : Kind → Met → Bool
 document_after OpenBracket m = if nat_eq m.depth 0 then is_document_name m.latest else m.document
 document_after _ m = m.document
 
+-- what is known after one token more
 abbrev pub met_after : Kind → List ℕ → Met → Met
 met_after kind text m = record {
   depth = depth_after kind m.depth;
@@ -68,6 +71,7 @@ pub record DocumentTokens : Type 0 where
   pub tokens : List PlainToken
   pub place_behind : ℕ
 
+-- the same tokens with one in front, or the same fault
 abbrev pub with_token : PlainToken → Result DocumentTokens TextFault → Result DocumentTokens TextFault
 with_token t (Ok r) = Ok (record { tokens = t ∷ r.tokens; place_behind = r.place_behind })
 with_token t (Err fault) = Err fault

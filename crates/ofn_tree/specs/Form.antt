@@ -5,10 +5,12 @@ use Rattle.ofn_tree.specs.declared.form.Form.{Form}
 use Rattle.ofn_tree.specs.declared.form.Form.TheVariants.{Name, Iri, Literal, Sign, Group}
 use denote.Ref.{Bor}
 
+-- the bytes of a group's name, if it has one
 abbrev pub head_text : Option (Bor (List ℕ)) → Option (List ℕ)
 head_text None = None
 head_text (Some text) = Some text.now
 
+-- the item that a form of the code stands for
 abbrev pub form_item : Form → Item
 form_item (Name text line) = name_item text.now line
 form_item (Iri text line) = iri_item text.now line

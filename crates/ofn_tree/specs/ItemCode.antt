@@ -102,5 +102,6 @@ mutual
   decode_encode_all no_items = refl
   decode_encode_all (item i is) = λ k. item (decode_encode i k) (decode_encode_all is k)
 
+-- items can be coded as plain trees, and read back from their codes
 abbrev pub item_code : Coded Item
 item_code = code_by Gv itself encode decode decode_encode

@@ -19,6 +19,7 @@ mutual
     no_items : Items
     item : Item → Items → Items
 
+-- the items of a list, in order
 abbrev pub items_of : List Item → Items
 items_of [] = no_items
 items_of (i ∷ is) = item i (items_of is)
@@ -40,10 +41,12 @@ mark_of Equals text line = single (sign_item Equals line)
 mark_of Tag text line = single (sign_item Tag line)
 mark_of Carets text line = single (sign_item Carets line)
 
+-- the first token is an opening bracket
 abbrev pub begins_with_open : List PlainToken → Bool
 begins_with_open [] = false
 begins_with_open (t ∷ ts) = is_open t.kind
 
+-- the first token may be the type of a literal
 abbrev pub begins_with_datatype : List PlainToken → Bool
 begins_with_datatype [] = false
 begins_with_datatype (t ∷ ts) = is_datatype t.kind

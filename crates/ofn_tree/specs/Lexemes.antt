@@ -42,6 +42,7 @@ is_comment_byte b = not (nat_eq b 10) && not (nat_eq b 13)
 
 -- ---- lines
 
+-- the byte is a line feed
 abbrev pub is_line_feed : ℕ → Bool
 is_line_feed b = nat_eq b 10
 
@@ -90,6 +91,7 @@ pub data Quoted : Type 0 where
   breaks : Quoted
   runs_on : Quoted
 
+-- the same end of a string, seen from one byte before
 abbrev pub longer : Quoted → Quoted
 longer (closes n) = closes (n + 1)
 longer breaks = breaks
@@ -194,6 +196,7 @@ utf8_front text = take (utf8_valid_len text) text
 abbrev pub bad_byte_line : List ℕ → Option ℕ
 bad_byte_line text = if nat_lt (utf8_valid_len text) (length text) then Some (end_line (utf8_front text)) else None
 
+-- the bytes EF BB BF
 abbrev pub byte_order_mark : List ℕ
 byte_order_mark = 0xEF ∷ 0xBB ∷ 0xBF ∷ []
 

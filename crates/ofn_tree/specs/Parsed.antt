@@ -5,10 +5,12 @@ use Rattle.ofn_tree.specs.Token.{PlainToken, tokens_from, is_close}
 use Rattle.ofn_tree.specs.Items.{Item, items_of, written, written_all, nesting, nesting_all, opening, marks, is_head}
 use Rattle.ofn_tree.specs.Faults.{bracket_fault}
 
+-- the first token is a closing bracket
 abbrev pub begins_with_close : List PlainToken → Bool
 begins_with_close [] = false
 begins_with_close (t ∷ ts) = is_close t.kind
 
+-- the first token is the name of a group
 abbrev pub begins_with_head : List PlainToken → Bool
 begins_with_head [] = false
 begins_with_head (t ∷ ts) = is_head t ts

@@ -11,20 +11,24 @@ use Rattle.ofn_tree.specs.Lexemes as front
 use Rattle.ofn_tree.specs.Lexemes.{line_feeds}
 use Rattle.ofn_tree.specs.Document.{Met}
 
+-- the lexeme that one of the code stands for
 abbrev pub lexeme_of : Lexeme → front.Lexeme
 lexeme_of x = record { kind = x.kind; text = x.text.now; more = x.len - 1 }
 
+-- what was cut at a place, as the definitions see it
 abbrev pub cut_of : Cut → front.Cut
 cut_of (Gap len feeds) = front.gap (len - 1)
 cut_of (Token x) = front.token (lexeme_of x)
 cut_of Wrong = front.wrong
 cut_of Unended = front.unended
 
+-- how a string ends, as the definitions see it
 abbrev pub quoted_of : StringEnd → front.Quoted
 quoted_of (Closes len feeds) = front.closes len
 quoted_of Breaks = front.breaks
 quoted_of RunsOn = front.runs_on
 
+-- what was met so far, as the definitions see it
 abbrev pub met_of : Brackets → Met
 met_of b = record { depth = b.depth; document = b.document; latest = b.latest }
 

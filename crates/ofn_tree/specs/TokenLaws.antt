@@ -82,6 +82,7 @@ pub record IsLongest (text : List ℕ) (t : PlainToken) : Type 0 where
   pub stands : BeginsWith (drop t.start text) t.kind t.text
   pub longest : (other : List ℕ) → BeginsWith (drop t.start text) t.kind other → length other ≤ length t.text
 
+-- each token is the longest of its kind at its place
 abbrev pub AreLongest : List ℕ → List PlainToken → Type 0
 AreLongest text [] = Unit {0}
 AreLongest text (t ∷ ts) = IsLongest text t × AreLongest text ts

@@ -14,12 +14,15 @@ use Rattle.shq_terms.specs.declared.axioms.Numbered.{Numbered}
 abbrev pub iri_text : List ℕ → List ℕ
 iri_text iri = 60 ∷ (iri ++ 62 ∷ [])
 
+-- the text of a class: its IRI
 abbrev pub class_text : Listed → ℕ → List ℕ
 class_text o a = iri_text (slice_index_or o.classes a [])
 
+-- the text of a role: its IRI
 abbrev pub role_text : Listed → ℕ → List ℕ
 role_text o r = iri_text (slice_index_or o.roles r [])
 
+-- the text of an individual: its IRI
 abbrev pub individual_text : Listed → ℕ → List ℕ
 individual_text o a = iri_text (slice_index_or o.individuals a [])
 
@@ -38,6 +41,7 @@ abbrev pub group_text : List ℕ → List (List ℕ) → List ℕ
 group_text keyword items = keyword ++ (40 ∷ (items_text items ++ 41 ∷ []))
 
 abbrev mutual
+  -- the canonical text of a class expression
   pub concept_text : Listed → Concept → List ℕ
   concept_text o top = codes "owl:Thing"
   concept_text o bottom = codes "owl:Nothing"
@@ -54,6 +58,7 @@ abbrev mutual
   concept_text o (exactly n r c) =
       group_text (codes "ObjectExactCardinality") (decimal n ∷ role_text o r ∷ concept_text o c ∷ [])
 
+  -- the canonical text of each part, in order
   pub part_texts : Listed → Parts → List (List ℕ)
   part_texts o no_parts = []
   part_texts o (part c cs) = concept_text o c ∷ part_texts o cs
@@ -70,14 +75,17 @@ restriction_items o r c = role_text o r ∷ concept_text o c ∷ []
 abbrev pub bounded_items : Listed → ℕ → ℕ → Concept → List (List ℕ)
 bounded_items o n r c = decimal n ∷ restriction_items o r c
 
+-- the text of each role, in order
 abbrev pub role_texts : Listed → List ℕ → List (List ℕ)
 role_texts o [] = []
 role_texts o (r ∷ rs) = role_text o r ∷ role_texts o rs
 
+-- the text of each individual, in order
 abbrev pub individual_texts : Listed → List ℕ → List (List ℕ)
 individual_texts o [] = []
 individual_texts o (a ∷ as_) = individual_text o a ∷ individual_texts o as_
 
+-- the canonical text of an axiom
 abbrev pub axiom_text : Listed → Axiom → List ℕ
 axiom_text o (SubClassOf c d) = group_text (codes "SubClassOf") (concept_text o c ∷ concept_text o d ∷ [])
 axiom_text o (EquivalentClasses cs) = group_text (codes "EquivalentClasses") (part_texts o (parts_of cs))
@@ -103,10 +111,12 @@ line text = text ++ 10 ∷ []
 abbrev pub declaration_text : List ℕ → List ℕ → List ℕ
 declaration_text kind iri = group_text (codes "Declaration") (group_text kind (iri_text iri ∷ []) ∷ [])
 
+-- a line for each name, which declares it as an entity of this kind
 abbrev pub declaration_lines : List ℕ → List (List ℕ) → List ℕ
 declaration_lines kind [] = []
 declaration_lines kind (iri ∷ iris) = line (declaration_text kind iri) ++ declaration_lines kind iris
 
+-- a line for each axiom, in order
 abbrev pub axiom_lines : Listed → List Numbered → List ℕ
 axiom_lines o [] = []
 axiom_lines o (a ∷ as_) = line (axiom_text o a.axiom) ++ axiom_lines o as_

@@ -6,6 +6,7 @@ use Rattle.refutation_tree.specs.declared.keywords.ShapeKind.TheVariants as S
 use Rattle.refutation_tree.specs.declared.keywords.LineKind.{LineKind}
 use Rattle.refutation_tree.specs.declared.keywords.LineKind.TheVariants as L
 
+-- the kind of a concept that a word names
 unfoldable pub shape_kind : List ℕ → Option ShapeKind
 shape_kind w =
     if bytes_eq w (codes "top") then Some S.Top
@@ -20,6 +21,7 @@ shape_kind w =
     else if bytes_eq w (codes "most") then Some S.Most
     else None
 
+-- the kind of a rule line that a word names
 unfoldable pub line_kind : List ℕ → Option LineKind
 line_kind w =
     if bytes_eq w (codes "start") then Some L.Start

@@ -97,11 +97,13 @@ TracesBegin = (q : Question) (table : List Shape) (sub_number not_sup_number : �
     → IsTracedAt q table (start_of q) begun []
     (marked sets.empty (Has q.at sub_number) ∷ marked sets.empty (Has q.at not_sup_number) ∷ [])
 
+-- where a trace is right, it is right after each line that a step of the search adds
 abbrev pub TracesGoOn : Type 0
 TracesGoOn = (q : Question) (table : List Shape) (start : Noted) (t : TraceLists) (ps : List Place)
     (ms : List MarkedFact)
     → IsTracedAt q table start t ps ms → LinesAreTraced q table start t ps ms
 
+-- where a trace is right and a branch closes, what going back makes of it is right
 abbrev pub TracesGoBack : Type 0
 TracesGoBack = (q : Question) (table : List Shape) (start : Noted) (t : TraceLists) (ps : List Place) (u : NumberSet)
     → IsClosingAt q table start t ps u → GoesBack q table start t ps u

@@ -16,6 +16,7 @@ pub record Marked (A : Type 0) : Type 0 where
   pub item : A
   pub marks : NumberSet
 
+-- a thing with the marks on which it rests
 abbrev pub marked : {A : Type 0} → NumberSet → A → Marked A
 marked u a = record { item = a; marks = u }
 
@@ -27,6 +28,7 @@ is_within u a = sets.is_subset a.marks u
 abbrev pub within : {A : Type 0} → NumberSet → List (Marked A) → List A
 within u ms = map (λ a. a.item) (filter (is_within u) ms)
 
+-- the things without their marks
 abbrev pub items : {A : Type 0} → List (Marked A) → List A
 items ms = map (λ a. a.item) ms
 
@@ -43,6 +45,7 @@ known k = record { nodes = items k.nodes; facts = items k.facts }
 abbrev pub known_within : NumberSet → Noted → Known
 known_within u k = record { nodes = within u k.nodes; facts = within u k.facts }
 
+-- the branch after a child adds facts or new nodes, which rest on these marks
 abbrev pub noted_added : NumberSet → Noted → Added → Noted
 noted_added u k (more_facts fs) = record { nodes = k.nodes; facts = k.facts ++ map (marked u) fs }
 noted_added u k (more_nodes x s e y n) = record {
@@ -79,11 +82,13 @@ noted_start first at sub sup = record {
   facts = map (marked sets.empty) (asked_facts at sub sup);
 }
 
+-- the branch with which a refutation of the question begins
 abbrev pub start_of : Question → Noted
 start_of q = noted_start q.first q.at q.sub q.sup
 
 -- ---- taking out what rests on a mark
 
+-- the line rests on the mark
 abbrev pub rests_on : ℕ → NotedLine → Bool
 rests_on m l = sets.contains l.marks m
 

@@ -24,6 +24,7 @@ pub record Place : Type 0 where
   pub facts : List MarkedFact
   pub rest : List Added
 
+-- the place tells where an open branching stands in the list of lines, and what belongs to it
 pub record IsPlaceOf (bs : List Branching) (b : Branching) (p : Place) : Type 0 where
   pub mark : p.mark ≡ mark_of b
   pub at : p.at ≡ length (lines_of (frames_of bs) ++ b.frame.before)
@@ -33,6 +34,7 @@ pub record IsPlaceOf (bs : List Branching) (b : Branching) (p : Place) : Type 0 
   pub facts : p.facts ≡ b.facts
   pub rest : p.rest ≡ b.rest
 
+-- each open branching has its place, in the same order
 abbrev pub ArePlaces : List Branching → List Place → Type 0
 ArePlaces [] [] = Unit {0}
 ArePlaces [] (p ∷ ps) = ⊥

@@ -19,6 +19,7 @@ use Rattle.calculus_specs.specs.Rules.{Question, Known, knows, knows_some_from, 
 
 -- ---- premises
 
+-- what a rule line asks of its branch: a node, a concept of it, an edge, or that two nodes are apart or one
 pub data Premise : Type 0 where
   is_node : (x : ℕ) → Premise
   has_concept : (x : ℕ) (c : Concept) → Premise
@@ -36,6 +37,7 @@ holds theory k (is_one x y) = rep k.facts x == rep k.facts y
 
 -- ---- what a child adds
 
+-- what a child of a rule line adds: facts, or new nodes
 pub data Added : Type 0 where
   more_facts : (fs : List (Fact Concept)) → Added
   more_nodes : (x s : ℕ) (e : Concept) (y n : ℕ) → Added
@@ -52,10 +54,12 @@ is_new k (more_nodes x s e y n) = not (knows_some_from k y n)
 
 -- ---- rules
 
+-- a rule line as its premises, and what each of its children adds
 pub record Rule : Type 0 where
   pub premises : List Premise
   pub children : List Added
 
+-- the rule line `and`
 abbrev pub and_rule : ℕ → Option Concept → Option Rule
 and_rule x (Some (intersection cs)) = Some (record {
   premises = is_node x ∷ has_concept x (intersection cs) ∷ [];
@@ -63,6 +67,7 @@ and_rule x (Some (intersection cs)) = Some (record {
 })
 and_rule x _ = None
 
+-- the rule line `or`
 abbrev pub or_rule : ℕ → Option Concept → Option Rule
 or_rule x (Some (union cs)) = Some (record {
   premises = is_node x ∷ has_concept x (union cs) ∷ [];
@@ -70,6 +75,7 @@ or_rule x (Some (union cs)) = Some (record {
 })
 or_rule x _ = None
 
+-- the rule line `all`
 abbrev pub all_rule : ℕ → ℕ → Option Concept → Option Rule
 all_rule x y (Some (all_of s e)) = Some (record {
   premises = is_node x ∷ has_concept x (all_of s e) ∷ is_node y ∷ has_edge_below s x y ∷ [];
@@ -77,6 +83,7 @@ all_rule x y (Some (all_of s e)) = Some (record {
 })
 all_rule x y _ = None
 
+-- the rule line `carry`
 abbrev pub carry_rule : Theory → ℕ → ℕ → ℕ → Option Concept → Option Rule
 carry_rule theory x y t (Some (all_of s e)) = when (theory.is_transitive t && theory.below t s) (Some (record {
   premises = is_node x ∷ has_concept x (all_of s e) ∷ is_node y ∷ has_edge_below t x y ∷ [];
@@ -84,6 +91,7 @@ carry_rule theory x y t (Some (all_of s e)) = when (theory.is_transitive t && th
 }))
 carry_rule theory x y t _ = None
 
+-- the rule line `row`
 abbrev pub row_rule : ℕ → List ℕ → Option Part → Option Rule
 row_rule x positions (Some (inclusion cs d)) = when (are_name_positions cs positions) (Some (record {
   premises = is_node x ∷ map (λ i. has_concept x (conjunct_at cs i)) positions;
@@ -91,21 +99,25 @@ row_rule x positions (Some (inclusion cs d)) = when (are_name_positions cs posit
 }))
 row_rule x positions _ = None
 
+-- the rule line `range`
 abbrev pub range_rule : ℕ → ℕ → Option Part → Option Rule
 range_rule x y (Some (range s d)) = Some
     (record { premises = is_node x ∷ is_node y ∷ has_edge_below s x y ∷ []; children = more_facts (Has y d ∷ []) ∷ [] })
 range_rule x y _ = None
 
+-- the rule line `some`
 abbrev pub some_rule : ℕ → ℕ → Option Concept → Option Rule
 some_rule x y (Some (some_of s e)) =
     Some (record { premises = is_node x ∷ has_concept x (some_of s e) ∷ []; children = more_nodes x s e y 1 ∷ [] })
 some_rule x y _ = None
 
+-- the rule line `least`
 abbrev pub least_rule : ℕ → ℕ → Option Concept → Option Rule
 least_rule x y (Some (at_least n s e)) = when (nat_le (y + n) (2 ^ 32))
     (Some (record { premises = is_node x ∷ has_concept x (at_least n s e) ∷ []; children = more_nodes x s e y n ∷ [] }))
 least_rule x y _ = None
 
+-- the rule line `choose`
 abbrev pub choose_rule : ℕ → Option Concept → Option Rule
 choose_rule y (Some c) = Some (record {
   premises = is_node y ∷ [];
@@ -113,6 +125,7 @@ choose_rule y (Some c) = Some (record {
 })
 choose_rule y None = None
 
+-- the rule line `clash`
 abbrev pub clash_rule : ℕ → Option Concept → Option Rule
 clash_rule x (Some (name a)) = Some
     (record { premises = is_node x ∷ has_concept x (name a) ∷ has_concept x (complement (name a)) ∷ []; children = [] })
@@ -123,10 +136,12 @@ abbrev pub filler_premises : ℕ → ℕ → Concept → List ℕ → List Premi
 filler_premises x s e [] = []
 filler_premises x s e (y ∷ ys) = is_node y ∷ has_edge_below s x y ∷ has_concept y e ∷ filler_premises x s e ys
 
+-- each two of the nodes are apart
 abbrev pub apart_premises : List ℕ → List Premise
 apart_premises [] = []
 apart_premises (y ∷ ys) = map (is_apart y) ys ++ apart_premises ys
 
+-- the rule line `most`
 abbrev pub most_rule : ℕ → List ℕ → Option Concept → Option Rule
 most_rule x ys (Some (at_most n s e)) = when (length ys == n + 1) (Some (record {
   premises = is_node x ∷ has_concept x (at_most n s e) ∷ (filler_premises x s e ys ++ apart_premises ys);
@@ -171,6 +186,7 @@ children_by q k (Some r) =
 
 -- ---- kinds of lines
 
+-- the line is `start`
 abbrev pub is_start : Line → Bool
 is_start start_line = true
 is_start (and_line x c) = false
@@ -189,6 +205,7 @@ is_start (most_line x c ys) = false
 is_start (fact_line a p) = false
 is_start (differ_line y z) = false
 
+-- the line has two children or more: `or`, `choose` or `pair`
 abbrev pub is_branching : Line → Bool
 is_branching (or_line x c) = true
 is_branching (choose_line y c) = true
@@ -207,6 +224,7 @@ is_branching (most_line x c ys) = false
 is_branching (fact_line a p) = false
 is_branching (differ_line y z) = false
 
+-- the line closes its branch: `bottom`, `clash`, `most` or `differ`
 abbrev pub is_clash : Line → Bool
 is_clash (bottom_line x) = true
 is_clash (clash_line x c) = true

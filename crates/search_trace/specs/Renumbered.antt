@@ -7,6 +7,7 @@ use Rattle.calculus_specs.specs.Line.Line.{some_line, least_line, choose_line, p
 use Rattle.calculus_specs.specs.Line.Line.{most_line, fact_line, differ_line}
 use Rattle.refutation_tree.specs.RuleLine.{concept_numbers}
 
+-- the line with each number of a concept replaced
 abbrev pub renumbered : (ℕ → ℕ) → Line → Line
 renumbered f (and_line x c) = and_line x (f c)
 renumbered f (or_line x c) = or_line x (f c)

@@ -21,6 +21,7 @@ pub record TraceLists : Type 0 where
 abbrev pub begun : TraceLists
 begun = record { next = 0; lines = []; opens = [] }
 
+-- a line of the code's trace, as the definitions see it
 abbrev pub noted : TraceLine → NotedLine
 noted l = record { number = l.number; line = line_of l.line; marks = l.marks }
 
@@ -35,9 +36,11 @@ ArePlaced n (o ∷ os) = (o.at ≤ o.child) × (o.child ≤ n) × ArePlaced o.at
 
 -- ---- one line more
 
+-- the next line of a trace, with its number and the marks on which it rests
 abbrev pub next_line : TraceLists → Line → NumberSet → NotedLine
 next_line t line marks = record { number = t.next; line = line; marks = marks }
 
+-- the trace with one line more, which is no branching
 abbrev pub with_line : TraceLists → Line → NumberSet → TraceLists
 with_line t line marks = record { next = t.next + 1; lines = t.lines ++ next_line t line marks ∷ []; opens = t.opens }
 
@@ -52,6 +55,7 @@ opened t marks left = record {
   gathered = sets.empty;
 }
 
+-- the trace with one branching more, which is open
 abbrev pub with_branching : TraceLists → Line → NumberSet → ℕ → TraceLists
 with_branching t line marks left =
     record { next = t.next + 1; lines = t.lines ++ next_line t line marks ∷ []; opens = opened t marks left ∷ t.opens }
@@ -93,10 +97,12 @@ turned n u o = record {
   gathered = sets.union o.gathered u;
 }
 
+-- the open branchings, the latest of which has turned to its next child
 abbrev pub turned_latest : ℕ → NumberSet → List OpenBranching → List OpenBranching
 turned_latest n u [] = []
 turned_latest n u (o ∷ os) = turned n u o ∷ os
 
+-- the trace after going back, whose next line has this number
 abbrev pub at_next : ℕ → GoneBack → TraceLists
 at_next next g = record { next = next; lines = g.lines; opens = turned_latest (length g.lines) g.used g.opens }
 
@@ -109,9 +115,11 @@ abbrev pub turn_of : List OpenBranching → Back
 turn_of [] = Closed
 turn_of (o ∷ os) = Turned o.mark (sets.insert o.marks o.mark)
 
+-- what going back answers: all is closed, or the branching at which the search turns
 abbrev pub answer_of : TraceLists → NumberSet → Back
 answer_of t u = turn_of (gone_back t.lines t.opens u).opens
 
+-- going back found a branching with a child that is left
 abbrev pub is_turn : Back → Bool
 is_turn Closed = false
 is_turn (Turned mark marks) = true

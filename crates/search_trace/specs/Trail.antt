@@ -20,6 +20,7 @@ use Rattle.search_trace.specs.Among.{IsAmong}
 abbrev pub MarkedFact : Type 0
 MarkedFact = Marked (Fact ℕ)
 
+-- a fact with its marks, its number of a concept read as the tree
 abbrev pub read_marked : List Shape → MarkedFact → Marked (Fact Concept)
 read_marked table m = marked m.marks (read_fact (tree_of table) m.item)
 
@@ -30,6 +31,7 @@ end_of first u (Has x c) = []
 end_of first u (Apart x y) = []
 end_of first u (Same x y) = []
 
+-- the ends of new edges among the facts, each with its marks
 abbrev pub ends_of : ℕ → List MarkedFact → List (Marked ℕ)
 ends_of first [] = []
 ends_of first (m ∷ ms) = end_of first m.marks m.item ++ ends_of first ms
