@@ -9,6 +9,7 @@ use Rattle.tableau_specs.specs.StepLaws.{CarriedAreListed}
 use Rattle.tableau_specs.specs.LineLaws.{IsNumbered}
 use Rattle.absorption.specs.Closed.{IsClosed}
 
+-- the table of a search is closed under what its roles carry
 abbrev pub IsClosedFor : SearchContext → Type 0
 IsClosedFor w = IsClosed (below_of w) w.theory.is_transitive w.table
 

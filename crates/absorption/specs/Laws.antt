@@ -23,6 +23,7 @@ pub record FindsItsRows (table : List Shape) (f : FiledRows) : Type 0 where
       → Contains (all_filed f) r × WaitsForEdge role r
   pub general : (r : Row) → Contains f.general r → Contains (all_filed f) r × WaitsForNothing r
 
+-- rows that stand in their places are found there
 abbrev pub FoundRowsWait : Type 0
 FoundRowsWait = (table : List Shape) (f : FiledRows) → StandInPlaces table f → FindsItsRows table f
 

@@ -10,6 +10,7 @@ use Rattle.row_cache.specs.Paths.{is_below}
 use Rattle.absorption.specs.declared.closing.Need.{Need}
 use Rattle.absorption.specs.declared.closing.Need.TheVariants.{Nothing, Complement, Carries}
 
+-- what a shape needs that a table has besides it
 abbrev pub need_of_shape : Shape → Need
 need_of_shape (all_of s e) = Carries s e
 need_of_shape (at_most n s e) = Complement e

@@ -27,6 +27,7 @@ pub record FiledRows : Type 0 where
 abbrev pub rows_under : RowsByNumber → ℕ → List Row
 rows_under lists k = unwrap_or (lookup (nat_eq k) lists) []
 
+-- the rows of some lists by numbers
 abbrev pub rows_in : RowsByNumber → List Row
 rows_in lists = flat_map (λ e. e.1) lists
 
@@ -50,9 +51,11 @@ pub record WaitsForName (table : List Shape) (class : ℕ) (r : Row) : Type 0 wh
 abbrev pub WaitsForEdge : ℕ → Row → Type 0
 WaitsForEdge role r = (r.trigger ≡ Edge role) ⊎ (r.trigger ≡ End role)
 
+-- the row may be used at each node
 abbrev pub WaitsForNothing : Row → Type 0
 WaitsForNothing r = r.trigger ≡ Always
 
+-- the row waits for what the place stands for: a name, an edge of a role, or nothing
 abbrev pub IsPlaceOf : List Shape → Row → Place → Type 0
 IsPlaceOf table r (Name class) = WaitsForName table class r
 IsPlaceOf table r (Role role) = WaitsForEdge role r
@@ -71,9 +74,11 @@ pub record StandInPlaces (table : List Shape) (f : FiledRows) : Type 0 where
 
 -- ---- how rows come to their places
 
+-- each number is one of the table, and stands for a name
 abbrev pub are_names : List Shape → List ℕ → Bool
 are_names table numbers = list_all (λ c. nat_lt c (length table) && is_name_shape (shape_of table c)) numbers
 
+-- a trigger by names has such a name to wait for; any other trigger is free
 abbrev pub MayStandAt : Trigger → List Shape → List ℕ → Type 0
 MayStandAt (Names positions) table premises = (0 < length premises) × (are_names table premises ≡ true)
 MayStandAt _ table premises = Unit {0}
@@ -87,6 +92,7 @@ abbrev pub with_row : RowsByNumber → ℕ → Row → RowsByNumber
 with_row [] k r = (k, r ∷ []) ∷ []
 with_row (e ∷ es) k r = if k == e.0 then (e.0, e.1 ++ r ∷ []) ∷ es else e ∷ with_row es k r
 
+-- the filed rows with one more at a place
 abbrev pub with_filed : FiledRows → Place → Row → FiledRows
 with_filed f (Name class) r = record f { at_names = with_row f.at_names class r }
 with_filed f (Role role) r = record f { at_roles = with_row f.at_roles role r }

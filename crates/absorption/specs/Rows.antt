@@ -18,21 +18,25 @@ use Rattle.absorption.specs.declared.row.Trigger.TheVariants.{Always, Names, Edg
 
 -- ---- the reading
 
+-- a trigger of the code, as the definitions see it
 abbrev pub plain_trigger : Trigger → PlainTrigger
 plain_trigger Always = always
 plain_trigger (Names positions) = names positions
 plain_trigger (Edge role) = edge role
 plain_trigger (End role) = end_of role
 
+-- a row of the code, as the definitions see it
 abbrev pub plain_row : Row → PlainRow
 plain_row r =
     record { axiom_number = r.«axiom»; part_number = r.part; trigger = plain_trigger r.trigger; concept = r.concept }
 
+-- the rows of the code, as the definitions see them
 abbrev pub plain_rows : List Row → List PlainRow
 plain_rows rows = map plain_row rows
 
 -- ---- parts by number
 
+-- a part by numbers of a table, with their trees
 abbrev pub plain_part : List Shape → PartByNumber → Part
 plain_part table (Inclusion conjuncts right) = inclusion (trees_at table conjuncts) (tree_of table right)
 plain_part table (Range role concept) = range role (tree_of table concept)
@@ -41,6 +45,7 @@ plain_part table (Range role concept) = range role (tree_of table concept)
 abbrev pub IsListedPart : List Shape → PartByNumber → Type 0
 IsListedPart table found = StandsForPart table found (plain_part table found)
 
+-- the role of a shape 'some'
 abbrev pub role_of_shape : Shape → Option ℕ
 role_of_shape (some_of r c) = Some r
 role_of_shape _ = None
@@ -56,6 +61,7 @@ pub record IsRowOfPart (table : List Shape) (a p : ℕ) (q : Part) (r : Row) : T
   pub concept_is : fixed_concept q ≡ Some (tree_of table r.concept)
   pub premises_are : AreNumbers table r.premises (premises_for q (trigger_for q))
 
+-- the row is one of this part
 abbrev pub IsRowOf : List Shape → NumberedPart → Row → Type 0
 IsRowOf table n r = IsRowOfPart table n.axiom_number n.part_number n.part r
 

@@ -12,6 +12,7 @@ name_positions first [] = []
 name_positions first (c ∷ cs) =
     if is_name c then first ∷ name_positions (first + 1) cs else name_positions (first + 1) cs
 
+-- the role of a concept 'some'
 abbrev pub role_of_some : Concept → Option ℕ
 role_of_some (some_of r c) = Some r
 role_of_some _ = None
@@ -30,6 +31,7 @@ abbrev pub inclusion_trigger : List ℕ → Option ℕ → Trigger
 inclusion_trigger [] role = edge_trigger role
 inclusion_trigger (p ∷ ps) role = names (p ∷ ps)
 
+-- the trigger of the row by which a search uses a part
 abbrev pub trigger_for : Part → Trigger
 trigger_for (inclusion cs d) = inclusion_trigger (name_positions 1 cs) (first_role cs)
 trigger_for (range r d) = end_of r

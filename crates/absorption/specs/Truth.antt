@@ -27,6 +27,7 @@ is_triggered i q (end_of s) x = nat_le 1 (in_degree i s x)
 abbrev pub meets_row : Interpretation → Part → Trigger → Concept → Bool
 meets_row i q t c = all_below i.size (λ x. implies (is_triggered i q t x) (holds i c x))
 
+-- the row has a concept, and is met
 abbrev pub meets_row_if : Interpretation → Part → Trigger → Option Concept → Bool
 meets_row_if i q t None = false
 meets_row_if i q t (Some c) = meets_row i q t c

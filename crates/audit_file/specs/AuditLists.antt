@@ -14,9 +14,11 @@ pub record AuditLists : Type 0 where
   pub justifications : List Justification
   pub repairs : List Repair
 
+-- the sets of some justifications, in order
 abbrev pub justified_sets : List Justification → List Limited
 justified_sets js = map (λ j. j.set) js
 
+-- the sets of some repairs, in order
 abbrev pub repaired_sets : List Repair → List Limited
 repaired_sets rs = map (λ r. r.set) rs
 
@@ -29,6 +31,7 @@ pub record IsOrdered (js : List Justification) (rs : List Repair) : Type 0 where
 abbrev pub last_justified : AuditLists → Option Limited
 last_justified a = option_map (λ j. j.set) (slice_get a.justifications (length a.justifications - 1))
 
+-- the set of the last repair, if there is one
 abbrev pub last_repaired : AuditLists → Option Limited
 last_repaired a = option_map (λ r. r.set) (slice_get a.repairs (length a.repairs - 1))
 
@@ -37,6 +40,7 @@ abbrev pub follows : Option Limited → Limited → Bool
 follows None s = true
 follows (Some t) s = is_lt (list_cmp t s)
 
+-- an audit that lists nothing
 abbrev pub empty_audit : AuditLists
 empty_audit = record { justifications = []; repairs = [] }
 
@@ -44,5 +48,6 @@ empty_audit = record { justifications = []; repairs = [] }
 abbrev pub with_justification : Limited → RefutationLists → AuditLists → AuditLists
 with_justification s r a = record a { justifications = a.justifications ++ record { set = s; refutation = r } ∷ [] }
 
+-- the audit with one repair more, put last
 abbrev pub with_repair : Limited → ModelLists → AuditLists → AuditLists
 with_repair s m a = record a { repairs = a.repairs ++ record { set = s; model = m } ∷ [] }

@@ -44,6 +44,7 @@ abbrev pub line_from : {A : Type 0} → (List ℕ → Option A) → ℕ → List
 line_from says n [] = Err n
 line_from says n (l ∷ ls) = elim (says l) [ None ↦ Err n | Some a ↦ Ok (a, record { number = n + 1; lines = ls }) ]
 
+-- what the next line says, or its number where it says nothing
 abbrev pub line_read : {A : Type 0} → (List ℕ → Option A) → Ahead → Reads A
 line_read says at = line_from says at.number at.lines
 
@@ -56,6 +57,7 @@ block_len (l ∷ ls) = if is_end_line l then 1 else suc (block_len ls)
 abbrev pub block : List (List ℕ) → List (List ℕ)
 block ls = take (block_len ls) ls
 
+-- what is ahead behind the lines of a refutation or a model
 abbrev pub behind_block : Ahead → Ahead
 behind_block at = record { number = at.number + block_len at.lines; lines = drop (block_len at.lines) at.lines }
 
@@ -87,6 +89,7 @@ abbrev pub count_line : List ℕ → List (List ℕ) → Option ℕ
 count_line keyword (k ∷ n ∷ []) = if bytes_eq k keyword then number_in n else None
 count_line keyword _ = None
 
+-- the number behind the keyword of a line
 abbrev pub count_in : List ℕ → List ℕ → Option ℕ
 count_in keyword line = count_line keyword (words line)
 
@@ -103,6 +106,7 @@ set_line count (k ∷ ws) = if bytes_eq k (codes "set") then numbers_set count w
 abbrev pub later_set : Option Limited → Limited → Option Limited
 later_set before s = if follows before s then Some s else None
 
+-- the set that a line `set` names, where it stands behind the one before in the order of sets
 abbrev pub set_in : ℕ → Option Limited → List ℕ → Option Limited
 set_in count before line = option_and_then (later_set before) (set_line count (words line))
 
@@ -112,9 +116,11 @@ set_in count before line = option_and_then (later_set before) (set_line count (w
 abbrev pub refutation_read : Listed → Ahead → Reads RefutationLists
 refutation_read o at = block_read (refutation_of o) (malformed_refutation_line o) at
 
+-- the model that the next lines are, or the first malformed line
 abbrev pub model_read : Listed → Ahead → Reads ModelLists
 model_read o at = block_read (model_of o) (malformed_model_line o) at
 
+-- the audit with the justification that the next lines are, or the first malformed line
 abbrev pub justification_read : Listed → AuditLists → Ahead → Reads AuditLists
 justification_read o a at =
     read_on (line_read (set_in (length o.axioms) (last_justified a)) at)
@@ -130,9 +136,11 @@ repair_read o a at =
 abbrev pub counted_read : List ℕ → (AuditLists → Ahead → Reads AuditLists) → AuditLists → Ahead → Reads AuditLists
 counted_read keyword step a at = read_on (line_read (count_in keyword) at) (λ n from. times step n a from)
 
+-- the audit with the justifications that the next lines are, or the first malformed line
 abbrev pub justifications_read : Listed → AuditLists → Ahead → Reads AuditLists
 justifications_read o a at = counted_read (codes "justifications") (justification_read o) a at
 
+-- the audit with the repairs that the next lines are, or the first malformed line
 abbrev pub repairs_read : Listed → AuditLists → Ahead → Reads AuditLists
 repairs_read o a at = counted_read (codes "repairs") (repair_read o) a at
 

@@ -28,12 +28,15 @@ count_text keyword n = fed (line_of keyword (decimal n ∷ []))
 abbrev pub justification_text : Listed → Justification → List ℕ
 justification_text o j = set_text j.set ++ refutation_text o j.refutation
 
+-- the lines of a repair: its set and its model
 abbrev pub repair_text : Listed → Repair → List ℕ
 repair_text o r = set_text r.set ++ model_text o r.model
 
+-- the lines of the justifications, behind their number
 abbrev pub justifications_text : Listed → List Justification → List ℕ
 justifications_text o js = count_text (codes "justifications") (length js) ++ flat_map (justification_text o) js
 
+-- the lines of the repairs, behind their number
 abbrev pub repairs_text : Listed → List Repair → List ℕ
 repairs_text o rs = count_text (codes "repairs") (length rs) ++ flat_map (repair_text o) rs
 

@@ -15,6 +15,7 @@ use Rattle.fact_tree.specs.Kept.{Lists, Kept, kept_of, lists_at, bare, cut_lists
 abbrev pub relinked : List ℕ → List ℕ → List ℕ
 relinked ms links = set_each ms (get_or ms 0 0) links
 
+-- what is kept after a fact is taken back, by the lengths from before it
 abbrev pub undone : Lengths → Kept → Kept
 undone u k = record {
   links = relinked (drop u.members (get_or (take u.nodes k.nodes) u.node bare).members) (take u.nodes k.links);
@@ -51,6 +52,7 @@ pub record AreLonger (x : ℕ) (earlier later : List Lists) : Type 0 where
   pub begins : Begins (get_or earlier x bare) (get_or later x bare)
   pub members : (get_or later x bare).members ≡ (get_or earlier x bare).members
 
+-- the later one has the same links, and at the node perhaps longer lists
 pub record IsLonger (x : ℕ) (earlier later : Kept) : Type 0 where
   pub links : later.links ≡ earlier.links
   pub lists : AreLonger x earlier.nodes later.nodes
@@ -67,6 +69,7 @@ pub record Undoes (u : Lengths) (later earlier : Kept) : Type 0 where
   pub nodes : u.nodes ≤ length later.nodes
   pub links : u.nodes ≤ length later.links
 
+-- the facts of some entries, in order
 abbrev pub facts_of : List Entry → List (Fact ℕ)
 facts_of es = map (λ e. e.fact) es
 
@@ -98,6 +101,7 @@ AreOrdered at high (Has y c) = Unit {0}
 AreOrdered at high (Edge r y z) = Unit {0}
 AreOrdered at high (Apart y z) = Unit {0}
 
+-- each fact speaks of nodes that stand before it, or makes the next one
 pub record AreFit (first : ℕ) (fs : List (Fact ℕ)) : Type 0 where
   pub each : (p : ℕ) (d : Fact ℕ) → p < length fs → IsFit (node_count_from first (take p fs)) (get_or fs p d)
 

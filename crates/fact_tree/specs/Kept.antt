@@ -16,28 +16,35 @@ pub record Lists : Type 0 where
   pub edges : List (ℕ × ℕ)
   pub aparts : List ℕ
 
+-- what a tree keeps: of each node a link to its representative, and lists
 pub record Kept : Type 0 where
   pub links : List ℕ
   pub nodes : List Lists
 
 -- ---- one node
 
+-- the lists of a new node: it is its own member, and in top
 abbrev pub new_lists : ℕ → (ℕ × ℕ) → Lists
 new_lists node origin = record { origin = origin; members = node ∷ []; concepts = 0 ∷ []; edges = []; aparts = [] }
 
+-- the concepts with one more, where it is not among them
 abbrev pub with_concept : List ℕ → ℕ → List ℕ
 with_concept cs c = if list_any (λ d. d == c) cs then cs else cs ++ c ∷ []
 
+-- the concepts with some more, each where it is not among them
 abbrev pub with_concepts : List ℕ → List ℕ → List ℕ
 with_concepts cs [] = cs
 with_concepts cs (d ∷ ds) = with_concepts (with_concept cs d) ds
 
+-- the lists of a node that has one concept more
 abbrev pub having : ℕ → Lists → Lists
 having c n = record n { concepts = with_concept n.concepts c }
 
+-- the lists of a node from which one edge more leads
 abbrev pub leading : ℕ → ℕ → Lists → Lists
 leading role end n = record n { edges = n.edges ++ (role, end) ∷ [] }
 
+-- the lists of a node that is apart from one more
 abbrev pub parted : ℕ → Lists → Lists
 parted other n = record n { aparts = n.aparts ++ other ∷ [] }
 
@@ -62,6 +69,7 @@ pub record Begins (earlier later : Lists) : Type 0 where
   pub edges : take (length earlier.edges) later.edges ≡ earlier.edges
   pub aparts : take (length earlier.aparts) later.aparts ≡ earlier.aparts
 
+-- the lists cut to these lengths
 abbrev pub cut_lists : ℕ → ℕ → ℕ → ℕ → Lists → Lists
 cut_lists members concepts edges aparts n = record n {
   members = take members n.members;
@@ -72,12 +80,15 @@ cut_lists members concepts edges aparts n = record n {
 
 -- ---- all nodes
 
+-- the lists that stand for those of a node that is not there
 abbrev pub bare : Lists
 bare = new_lists 0 (0, 0)
 
+-- the lists of a node
 abbrev pub lists_at : Kept → ℕ → Lists
 lists_at k x = get_or k.nodes x bare
 
+-- what is kept, with the lists of one node changed
 abbrev pub changed_at : ℕ → (Lists → Lists) → Kept → Kept
 changed_at x change k = record { links = k.links; nodes = slice_set k.nodes x (change (lists_at k x)) }
 
@@ -127,9 +138,11 @@ after_at at high (Edge r y z) k = changed_at at (leading r z) (made (r, y) z k)
 after_at at high (Apart y z) k = changed_at at (parted z) k
 after_at at high (Same y z) k = if at == high then k else linked high at k
 
+-- what is kept after one fact more
 abbrev pub after : (ℕ → ℕ) → Fact ℕ → Kept → Kept
 after m f k = after_at (at_of m f) (high_of m f) f k
 
+-- what is kept after some facts more, in order
 abbrev pub kept_from : (ℕ → ℕ) → List (Fact ℕ) → Kept → Kept
 kept_from m [] k = k
 kept_from m (f ∷ fs) k = kept_from (rep_after m f) fs (after m f k)

@@ -4,6 +4,7 @@ use Rattle.std.specs.List.{list_any}
 use Rattle.std.specs.FinSet as set
 use Rattle.lane_sieve.specs.Sets.{number_set}
 
+-- the lengths of the four lists take 32 bits
 pub record AreShort (members concepts : List ℕ) (edges : List (ℕ × ℕ)) (aparts : List ℕ) : Type 0 where
   pub members_short : length members < 2 ^ 32
   pub concepts_short : length concepts < 2 ^ 32

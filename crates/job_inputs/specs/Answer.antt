@@ -11,11 +11,13 @@ use Rattle.job_inputs.specs.declared.status.Status.TheVariants.{ReadFault, Write
 abbrev pub line : List ℕ → List ℕ
 line text = text ++ 10 ∷ []
 
+-- the bytes of a text of the code
 abbrev pub text_bytes : Text → List ℕ
 text_bytes (Fixed s) = s.now
 text_bytes (Made s) = string_bytes s
 text_bytes (Bytes v) = v.items
 
+-- the line that is printed where memory is refused
 abbrev pub no_memory : List ℕ
 no_memory = line (codes "no memory")
 
@@ -29,6 +31,7 @@ is_fault _ = false
 abbrev pub Answer : Type 0
 Answer = Status × List ℕ
 
+-- the status and the line of a complaint, or of refused memory where there is none
 abbrev pub complaint_answer : Place → Option Complaint → Answer
 complaint_answer place None = (NoMemory, no_memory)
 complaint_answer place (Some c) = (sort_status c.sort, complaint_text place c)

@@ -21,6 +21,7 @@ sort_status S.BadText = BadText
 sort_status S.Outside = Outside
 sort_status S.Limit = Limit
 
+-- the words by which a sort of complaint begins
 abbrev pub sort_text : Sort → List ℕ
 sort_text S.BadText = codes "bad text"
 sort_text S.Outside = codes "outside"
@@ -32,9 +33,11 @@ pub record Complaint : Type 0 where
   pub what : List ℕ
   pub line : ℕ
 
+-- a complaint of a sort, about something, on a line
 abbrev pub complaint_with : Sort → List ℕ → ℕ → Option Complaint
 complaint_with sort what line = Some (record { sort = sort; what = what; line = line })
 
+-- the complaint about a fault of a text; there is none where memory was refused
 abbrev pub fault_complaint : TextFault → Option Complaint
 fault_complaint (F.BadUtf8 line) = complaint_with S.BadText (codes "utf8") line
 fault_complaint (F.BadToken line) = complaint_with S.BadText (codes "token") line
@@ -42,6 +45,7 @@ fault_complaint (F.Unbalanced line) = complaint_with S.BadText (codes "balance")
 fault_complaint (F.TooDeep line) = complaint_with S.Limit (codes "nesting") line
 fault_complaint F.NoMemory = None
 
+-- the word for a limit
 abbrev pub limit_name : Which → List ℕ
 limit_name W.Text = codes "text"
 limit_name W.Axioms = codes "axioms"
@@ -68,9 +72,11 @@ abbrev pub place_text : Place → ℕ → List ℕ
 place_text Document line = codes "line " ++ decimal line
 place_text Query line = codes "query"
 
+-- the line that tells a complaint
 abbrev pub complaint_text : Place → Complaint → List ℕ
 complaint_text place c =
     sort_text c.sort ++ (codes " " ++ (c.what ++ (codes " " ++ (place_text place c.line ++ 10 ∷ []))))
 
+-- a complaint of the code, as the definitions see it
 abbrev pub plain_complaint : Kept → Complaint
 plain_complaint c = record { sort = c.sort; what = c.what.now; line = c.line }

@@ -22,6 +22,7 @@ use Rattle.job_inputs.specs.declared.reading.WrittenQuestion.TheVariants as Q
 abbrev pub IsClassOf : Listed → DocumentContext → List ℕ → Counts → Concept → Type 0
 IsClassOf o kept class counts c = IsClass kept.prefixes o.axioms (query_start o kept.nodes) class counts c
 
+-- why a text is no class expression on an ontology
 abbrev pub IsNoClassOf : Listed → DocumentContext → List ℕ → Refusal → Type 0
 IsNoClassOf o kept class e = IsNoClass kept.prefixes o.axioms (query_start o kept.nodes) class e
 
@@ -30,6 +31,7 @@ pub data Text : Type 0 where
   has_element : List ℕ → Text
   follows : List ℕ → Text
 
+-- a question of the code, with its text as bytes
 abbrev pub question_text : WrittenQuestion → Text
 question_text (Q.HasElement class) = has_element class.now
 question_text (Q.Follows statement) = follows statement.now

@@ -23,12 +23,14 @@ verdict_answer (Axiom k) = (Rejected, line (codes "rejected axiom " ++ decimal k
 verdict_answer Query = (Rejected, line (codes "rejected query"))
 verdict_answer (Line n) = line_rejected n
 
+-- the status and the line of a reply
 abbrev pub reply_answer : Reply → Answer
 reply_answer (judged v) = verdict_answer v
 reply_answer (refused_document e) = complaint_answer P.Document (complaint e)
 reply_answer (refused_query e) = complaint_answer P.Query (complaint e)
 reply_answer (malformed_line n) = line_rejected n
 
+-- the status and the line for an input that could not be read
 abbrev pub unread_answer : Unread → Answer
 unread_answer (U.Document e) = reply_answer (refused_document e)
 unread_answer (U.Query e) = reply_answer (refused_query e)
@@ -40,6 +42,7 @@ abbrev pub check_answer : Result Verdict Unread → Answer
 check_answer (Ok v) = reply_answer (judged v)
 check_answer (Err u) = unread_answer u
 
+-- the status and the line of a message of the code
 abbrev pub message_answer : Message → Answer
 message_answer (M.Judged v) = verdict_answer v
 message_answer (M.Malformed n) = line_rejected n

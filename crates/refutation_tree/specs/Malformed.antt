@@ -14,6 +14,7 @@ malformed_in_refutation o k ls = malformed_in_body (refutation_line_read o) 4 k 
 abbrev pub malformed_axioms : Listed → List (List ℕ) → Option ℕ
 malformed_axioms o ls = malformed_after_line 3 (axioms_in o) (λ a. malformed_in_refutation o (begun a)) ls
 
+-- the first malformed line of what is to be a refutation, if there is one
 abbrev pub malformed_refutation_line : Listed → List (List ℕ) → Option ℕ
 malformed_refutation_line o ls = malformed_after_line 2 head_in (λ u. malformed_axioms o) ls
 

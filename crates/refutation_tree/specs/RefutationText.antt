@@ -36,6 +36,7 @@ abbrev pub numbers_in : List (List ℕ) → Option (List ℕ)
 numbers_in [] = Some []
 numbers_in (w ∷ ws) = elim (number_in w) [ None ↦ None | Some n ↦ option_map (λ ns. n ∷ ns) (numbers_in ws) ]
 
+-- there is a number, and it is n
 abbrev pub is_number : ℕ → Option ℕ → Bool
 is_number n None = false
 is_number n (Some m) = nat_eq m n
@@ -46,13 +47,16 @@ is_number n (Some m) = nat_eq m n
 abbrev pub are_axiom_numbers : ℕ → List ℕ → Bool
 are_axiom_numbers count ns = list_all (λ n. nat_lt 0 n && nat_le n count) ns && is_ascending ns
 
+-- the set with some numbers more
 abbrev pub with_numbers : List ℕ → NumberSet → NumberSet
 with_numbers [] s = s
 with_numbers (n ∷ ns) s = with_numbers ns (set.insert s n)
 
+-- the set of these numbers, among those of so many axioms
 abbrev pub axiom_set : ℕ → List ℕ → Limited
 axiom_set count ns = record { limit = count; members = with_numbers ns set.empty }
 
+-- the set of these numbers, where they are ascending numbers of axioms
 abbrev pub axioms_numbered : ℕ → List ℕ → Option Limited
 axioms_numbered count ns = if are_axiom_numbers count ns then Some (axiom_set count ns) else None
 
@@ -119,18 +123,22 @@ next_concept_in o count ws = concept_in o (count + 1) ws
 
 -- ---- rule lines
 
+-- the number, where there is just one
 abbrev pub one_of : List ℕ → Option ℕ
 one_of (x ∷ []) = Some x
 one_of _ = None
 
+-- the two numbers, where there are just two
 abbrev pub two_of : List ℕ → Option (ℕ × ℕ)
 two_of (x ∷ y ∷ []) = Some (x, y)
 two_of _ = None
 
+-- the three numbers, where there are just three
 abbrev pub three_of : List ℕ → Option (ℕ × ℕ × ℕ)
 three_of (x ∷ y ∷ z ∷ []) = Some (x, y, z)
 three_of _ = None
 
+-- the rule line `start`, where no number stands behind the word
 abbrev pub start_in : List ℕ → Option Line
 start_in [] = Some start_line
 start_in _ = None
@@ -164,6 +172,7 @@ abbrev pub most_in : List ℕ → Option Line
 most_in (x ∷ c ∷ y ∷ ys) = Some (most_line x c (y ∷ ys))
 most_in _ = None
 
+-- the rule line of a kind with these numbers behind its name, if there is one
 abbrev pub numbered_line : LineKind → List ℕ → Option Line
 numbered_line L.Row ns = row_in ns
 numbered_line L.Most ns = most_in ns
@@ -177,10 +186,12 @@ carry_in o (x ∷ y ∷ ws) =
     (number_in x)
 carry_in o _ = None
 
+-- the rule line of a kind with these words behind its name, if there is one
 abbrev pub rule_in : Listed → LineKind → List (List ℕ) → Option Line
 rule_in o L.Carry ws = carry_in o ws
 rule_in o kind ws = option_and_then (numbered_line kind) (numbers_in ws)
 
+-- the rule line that some words are, if they are one
 abbrev pub rule_line : Listed → List (List ℕ) → Option Line
 rule_line o [] = None
 rule_line o (k ∷ ws) = option_and_then (λ kind. rule_in o kind ws) (line_kind k)
@@ -200,19 +211,24 @@ abbrev pub concept_read : Listed → RefutationLists → List Line → List (Lis
 concept_read o k [] ws = option_and_then (with_shape k) (concept_in o (length k.shapes + 1) ws)
 concept_read o k (line ∷ lines) ws = None
 
+-- what was read after a concept line, if it is one that may stand there
 abbrev pub concept_added : Listed → RefutationLists → List (List ℕ) → Option RefutationLists
 concept_added o k ws = concept_read o k k.lines ws
 
+-- what was read after a rule line, if it is one
 abbrev pub rule_added : Listed → RefutationLists → List (List ℕ) → Option RefutationLists
 rule_added o k ws = option_and_then (with_line k) (rule_line o ws)
 
+-- the line begins with the word `concept`
 abbrev pub is_concept_line : List (List ℕ) → Bool
 is_concept_line [] = false
 is_concept_line (k ∷ ws) = bytes_eq k (codes "concept")
 
+-- what was read after a line, given as its words: a concept line or a rule line
 abbrev pub refutation_words_read : Listed → RefutationLists → List (List ℕ) → Option RefutationLists
 refutation_words_read o k ws = if is_concept_line ws then concept_added o k ws else rule_added o k ws
 
+-- what was read after a line
 abbrev pub refutation_line_read : Listed → RefutationLists → List ℕ → Option RefutationLists
 refutation_line_read o k line = refutation_words_read o k (words line)
 
@@ -224,9 +240,11 @@ refutation_body o k ls = read_body (refutation_line_read o) (λ last. last) k ls
 abbrev pub begun : Limited → RefutationLists
 begun axioms = record { axioms = axioms; shapes = []; lines = [] }
 
+-- the set of axioms that a line `axioms` names
 abbrev pub axioms_in : Listed → List ℕ → Option Limited
 axioms_in o line = axioms_line (length o.axioms) (words line)
 
+-- the refutation that lines from `axioms` on are, if they are one
 abbrev pub axioms_from : Listed → List (List ℕ) → Option RefutationLists
 axioms_from o ls = after_line (axioms_in o) (λ a. refutation_body o (begun a)) ls
 

@@ -10,6 +10,7 @@ use Rattle.refutation_tree.specs.Shapes.{is_concept}
 use Rattle.refutation_tree.specs.declared.line.Line.{Line as Kept}
 use Rattle.refutation_tree.specs.declared.line.Line.TheVariants as L
 
+-- the plain rule line of one that the code keeps
 abbrev pub line_of : Kept → Line
 line_of L.Start = start_line
 line_of (L.And x c) = and_line x c

@@ -46,6 +46,7 @@ same_shape (at_least n r c) (at_least m s d) = n == m && (r == s && c == d)
 same_shape (at_most n r c) (at_most m s d) = n == m && (r == s && c == d)
 same_shape _ _ = false
 
+-- the shape is one of these
 abbrev pub is_among_shapes : List Shape → Shape → Bool
 is_among_shapes shapes s = list_any (same_shape s) shapes
 

@@ -23,6 +23,7 @@ listed_word names n = name_word (slice_index_or names n [])
 abbrev pub class_words : Listed → List ℕ → ℕ → List (List ℕ)
 class_words o keyword a = keyword ∷ listed_word o.classes a ∷ []
 
+-- the words of a role and a number of a concept
 abbrev pub role_words : Listed → ℕ → ℕ → List (List ℕ)
 role_words o r c = listed_word o.roles r ∷ decimal c ∷ []
 
@@ -30,11 +31,13 @@ role_words o r c = listed_word o.roles r ∷ decimal c ∷ []
 abbrev pub restriction_text : Listed → List ℕ → ℕ → ℕ → List ℕ
 restriction_text o keyword r c = spaced (keyword ∷ role_words o r c)
 
+-- the words of a number restriction: its keyword, its number, its role and its filler
 abbrev pub cardinality_text : Listed → List ℕ → ℕ → ℕ → ℕ → List ℕ
 cardinality_text o keyword n r c = spaced (keyword ∷ decimal n ∷ role_words o r c)
 
 -- ---- concept lines
 
+-- the word that names the kind of a shape
 abbrev pub shape_keyword : Shape → List ℕ
 shape_keyword top = codes "top"
 shape_keyword bottom = codes "bottom"
@@ -68,6 +71,7 @@ shape_words o s = shape_keyword s ∷ shape_fields o s
 abbrev pub concept_line : Listed → ℕ → Shape → List ℕ
 concept_line o n s = line_of (codes "concept") (decimal n ∷ shape_keyword s ∷ shape_fields o s)
 
+-- the line of a concept, ended by a line feed
 abbrev pub concept_row : Listed → ℕ → Shape → List ℕ
 concept_row o n s = fed (concept_line o n s)
 
@@ -76,11 +80,13 @@ abbrev pub concept_lines : Listed → ℕ → List Shape → List (List ℕ)
 concept_lines o n [] = []
 concept_lines o n (s ∷ ss) = concept_line o n s ∷ concept_lines o (n + 1) ss
 
+-- the lines of all concepts
 abbrev pub concepts_text : Listed → List Shape → List ℕ
 concepts_text o shapes = text_of (concept_lines o 1 shapes)
 
 -- ---- rule lines
 
+-- the word that names the kind of a rule line
 abbrev pub line_keyword : Line → List ℕ
 line_keyword start_line = codes "start"
 line_keyword (and_line x c) = codes "and"
@@ -123,17 +129,21 @@ abbrev pub line_fields : Listed → Line → List (List ℕ)
 line_fields o (carry_line x y r c) = decimal x ∷ decimal y ∷ listed_word o.roles r ∷ decimal c ∷ []
 line_fields o line = map decimal (line_numbers line)
 
+-- the text of a rule line
 abbrev pub rule_text : Listed → Line → List ℕ
 rule_text o line = line_of (line_keyword line) (line_fields o line)
 
+-- the lines of all rule lines
 abbrev pub rules_text : Listed → List Line → List ℕ
 rules_text o lines = text_of (map (rule_text o) lines)
 
 -- ---- the whole text
 
+-- the line `axioms`
 abbrev pub axioms_text : Limited → List ℕ
 axioms_text axioms = line_of (codes "axioms") (map decimal (member_list axioms))
 
+-- the lines of a refutation, from `refutation` to `end`
 abbrev pub refutation_lines : Listed → RefutationLists → List (List ℕ)
 refutation_lines o k =
     codes "refutation" ∷ axioms_text k.axioms ∷ concept_lines o 1 k.shapes ++ map (rule_text o) k.lines
@@ -145,6 +155,7 @@ refutation_text o k = text_of (refutation_lines o k)
 
 -- ---- names that are listed
 
+-- the name or role of a shape is listed
 abbrev pub shape_is_listed : Listed → Shape → Bool
 shape_is_listed o (name a) = nat_lt a (length o.classes)
 shape_is_listed o (not_name a) = nat_lt a (length o.classes)
@@ -154,6 +165,7 @@ shape_is_listed o (at_least n r c) = nat_lt r (length o.roles)
 shape_is_listed o (at_most n r c) = nat_lt r (length o.roles)
 shape_is_listed o _ = true
 
+-- the role of a rule line, where it has one, is listed
 abbrev pub line_is_listed : Listed → Line → Bool
 line_is_listed o start_line = true
 line_is_listed o (and_line x c) = true

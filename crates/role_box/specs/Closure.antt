@@ -7,6 +7,7 @@ use Rattle.calculus_specs.specs.Roles.{IsBelow}
 use Rattle.role_box.specs.Steps.{Leads, is_transitive, IsTransitive}
 use Rattle.role_box.specs.Paths.{role_limit, is_below}
 
+-- some number below n passes the test
 abbrev pub any_below : ℕ → (ℕ → Bool) → Bool
 any_below zero p = false
 any_below (suc n) p = any_below n p || p n
@@ -27,6 +28,7 @@ abbrev pub AreBetween : List RoleAxiom → ℕ → ℕ → List ℕ → Type 0
 AreBetween axioms lower upper roles = (t : ℕ)
     → Contains roles t ↔ (IsTransitive axioms t × IsBelow (Leads axioms) lower t × IsBelow (Leads axioms) t upper)
 
+-- a transitive role stands between two others: the lower one is below it, and it is below the upper one
 abbrev pub is_between : List RoleAxiom → ℕ → ℕ → ℕ → Bool
 is_between axioms lower upper t = is_transitive axioms t && is_below axioms lower t && is_below axioms t upper
 

@@ -44,5 +44,6 @@ counted_by (Pair r a b) = []
 counted_by (SameAll as_) = []
 counted_by (Different as_) = []
 
+-- the roles that number restrictions on either side of a query are over
 abbrev pub counted_by_query : Query → List ℕ
 counted_by_query q = counted_roles q.sub ++ counted_roles q.sup

@@ -18,6 +18,7 @@ abbrev pub limit_of : List ℕ → ℕ
 limit_of [] = 0
 limit_of (r ∷ rs) = max (suc r) (limit_of rs)
 
+-- a number above all roles of the axiom
 abbrev pub axiom_limit : RoleAxiom → ℕ
 axiom_limit (Inclusion lower upper) = max (suc lower) (suc upper)
 axiom_limit (Equivalence rs) = limit_of rs
@@ -28,5 +29,6 @@ abbrev pub role_limit : List RoleAxiom → ℕ
 role_limit [] = 0
 role_limit (a ∷ as_) = max (axiom_limit a) (role_limit as_)
 
+-- the one role is below the other: a path of inclusions leads there
 unfoldable pub is_below : List RoleAxiom → ℕ → ℕ → Bool
 is_below axioms r s = has_path (same_or_leads axioms) (role_limit axioms) r s

@@ -25,6 +25,7 @@ role_part (Pair r a b) = []
 role_part (SameAll as_) = []
 role_part (Different as_) = []
 
+-- what an axiom says of roles, where there is one
 abbrev pub role_part_at : Option Numbered → List RoleAxiom
 role_part_at None = []
 role_part_at (Some n) = role_part n.axiom

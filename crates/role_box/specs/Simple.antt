@@ -38,11 +38,13 @@ first_not_simple roles axioms = option_map (λ (n : Numbered). n.line) (find (λ
 abbrev pub line_not_simple : List Numbered → Option ℕ
 line_not_simple axioms = first_not_simple (all_role_axioms axioms) axioms
 
+-- each of the roles is simple by all axioms
 abbrev pub are_simple_by : List Numbered → List ℕ → Bool
 are_simple_by axioms rs = are_simple (all_role_axioms axioms) rs
 
 -- ---- what a function is given of the roles
 
+-- the axiom makes a role transitive
 abbrev pub is_transitivity : Axiom → Bool
 is_transitivity (SubClassOf c d) = false
 is_transitivity (EquivalentClasses cs) = false
@@ -69,6 +71,7 @@ abbrev pub are_simple_in : Option (List RoleAxiom) → List ℕ → Bool
 are_simple_in None rs = true
 are_simple_in (Some roles) rs = are_simple roles rs
 
+-- the line of the first axiom that counts a role which is not simple, where roles have to be looked at
 abbrev pub line_in : Option (List RoleAxiom) → List Numbered → Option ℕ
 line_in None axioms = None
 line_in (Some roles) axioms = first_not_simple roles axioms

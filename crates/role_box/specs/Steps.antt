@@ -4,6 +4,7 @@ use Rattle.std.specs.List.{list_any}
 use Rattle.role_box.specs.declared.role_axiom.RoleAxiom.{RoleAxiom}
 use Rattle.role_box.specs.declared.role_axiom.RoleAxiom.TheVariants.{Inclusion, Equivalence, Transitivity}
 
+-- the role is one of these
 abbrev pub is_among : List ℕ → ℕ → Bool
 is_among rs r = list_any (λ x. x == r) rs
 
@@ -13,6 +14,7 @@ leads_by (Inclusion lower upper) r s = lower == r && upper == s
 leads_by (Equivalence rs) r s = is_among rs r && is_among rs s
 leads_by (Transitivity t) r s = false
 
+-- some axiom includes the one role in the other
 abbrev pub leads : List RoleAxiom → ℕ → ℕ → Bool
 leads axioms r s = list_any (λ a. leads_by a r s) axioms
 
@@ -26,6 +28,7 @@ is_transitive_by (Inclusion lower upper) t = false
 is_transitive_by (Equivalence rs) t = false
 is_transitive_by (Transitivity r) t = r == t
 
+-- some axiom makes the role transitive
 abbrev pub is_transitive : List RoleAxiom → ℕ → Bool
 is_transitive axioms t = list_any (λ a. is_transitive_by a t) axioms
 

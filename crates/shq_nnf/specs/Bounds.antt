@@ -14,6 +14,7 @@ abbrev pub signed_form : Bool → Concept → Concept
 signed_form false c = normal_form c
 signed_form true c = negated_form c
 
+-- of each class expression the normal form, or that of its complement
 abbrev pub signed_forms : Bool → List Concept → List Concept
 signed_forms negated cs = map (signed_form negated) cs
 
@@ -21,13 +22,16 @@ signed_forms negated cs = map (signed_form negated) cs
 abbrev pub negated_tree : List Shape → ℕ → Concept
 negated_tree table n = negated_form (tree_of table n)
 
+-- of each number the tree of its complement
 abbrev pub negated_trees : List Shape → List ℕ → List Concept
 negated_trees table ns = map (negated_tree table) ns
 
+-- the intersection of some normal forms, or, for the complement, their union
 abbrev pub joined_form : Bool → List Concept → Concept
 joined_form false cs = and_of cs
 joined_form true cs = or_of cs
 
+-- the restriction 'some', or, for the complement, 'all'
 abbrev pub quantified_form : Bool → ℕ → Concept → Concept
 quantified_form false r c = some_of r c
 quantified_form true r c = all_of r c
@@ -49,6 +53,7 @@ bound_form AtMost true n r c not_c = more_form n r c
 bound_form Exactly false n r c not_c = and_of (least_form n r c ∷ most_form n r c not_c ∷ [])
 bound_form Exactly true n r c not_c = or_of (fewer_form n r c not_c ∷ more_form n r c ∷ [])
 
+-- the normal form of a number restriction, or that of its complement
 abbrev pub bounded_form : Bound → Bool → ℕ → ℕ → Concept → Concept
 bounded_form bound negated n r c = bound_form bound negated n r (normal_form c) (negated_form c)
 

@@ -18,6 +18,7 @@ abbrev pub meets_part : Interpretation → Part → Bool
 meets_part i (inclusion cs d) = all_below i.size (λ x. implies (list_all (λ c. holds i c x) cs) (holds i d x))
 meets_part i (range r d) = all_below i.size (λ x. all_below i.size (λ y. implies (i.in_role r x y) (holds i d y)))
 
+-- the interpretation meets each of the parts
 abbrev pub meets_parts : Interpretation → List Part → Bool
 meets_parts i ps = list_all (meets_part i) ps
 

@@ -5,10 +5,12 @@ use Rattle.shq_meaning.specs.Concept.{Concept, top as top_concept, bottom as bot
 use Rattle.calculus_specs.specs.Normal.{is_top, is_bottom, intersected, united}
 use Rattle.calculus_specs.specs.Shape.{Shape, shape_of, top, bottom, intersection, union}
 
+-- the shape is top
 abbrev pub is_top_shape : Shape → Bool
 is_top_shape top = true
 is_top_shape _ = false
 
+-- the shape is bottom
 abbrev pub is_bottom_shape : Shape → Bool
 is_bottom_shape bottom = true
 is_bottom_shape _ = false
@@ -29,12 +31,15 @@ disjunct_numbers_of c _ = c ∷ []
 abbrev pub conjunct_numbers_at : List Shape → ℕ → List ℕ
 conjunct_numbers_at table c = conjunct_numbers_of c (shape_of table c)
 
+-- the numbers into which a number is opened as a part of a union
 abbrev pub disjunct_numbers_at : List Shape → ℕ → List ℕ
 disjunct_numbers_at table c = disjunct_numbers_of c (shape_of table c)
 
+-- the numbers into which some numbers are opened as parts of an intersection
 abbrev pub conjunct_numbers : List Shape → List ℕ → List ℕ
 conjunct_numbers table cs = flat_map (conjunct_numbers_at table) cs
 
+-- the numbers into which some numbers are opened as parts of a union
 abbrev pub disjunct_numbers : List Shape → List ℕ → List ℕ
 disjunct_numbers table cs = flat_map (disjunct_numbers_at table) cs
 
@@ -44,6 +49,7 @@ is_open_conjunct top = false
 is_open_conjunct (intersection cs) = false
 is_open_conjunct _ = true
 
+-- the shape may be a part of a union: it is neither bottom nor a union itself
 abbrev pub is_open_disjunct : Shape → Bool
 is_open_disjunct bottom = false
 is_open_disjunct (union cs) = false
@@ -53,5 +59,6 @@ is_open_disjunct _ = true
 abbrev pub open_intersection : List Concept → Concept
 open_intersection cs = if list_any is_bottom cs then bottom_concept else intersected cs
 
+-- the union of parts that are opened already: top where top is one of them
 abbrev pub open_union : List Concept → Concept
 open_union cs = if list_any is_top cs then top_concept else united cs

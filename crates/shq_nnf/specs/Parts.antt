@@ -30,6 +30,7 @@ chain_parts first [] = []
 chain_parts first (c ∷ []) = inclusion_of c first ∷ []
 chain_parts first (c ∷ d ∷ ds) = inclusion_of c d ∷ chain_parts first (d ∷ ds)
 
+-- the parts of an axiom of equivalent classes: each is in the next, and the last in the first
 abbrev pub equivalent_parts : List Concept → List Part
 equivalent_parts [] = []
 equivalent_parts (c ∷ cs) = chain_parts c (c ∷ cs)

@@ -9,6 +9,7 @@ use Rattle.shq_nnf.specs.declared.shapes.OwnedShape.TheVariants as K
 use Rattle.shq_nnf.specs.declared.shapes.Shape.{Shape as Shown}
 use Rattle.shq_nnf.specs.declared.shapes.Shape.TheVariants as S
 
+-- the plain shape of one that the code shows
 abbrev pub form_of : Shown → Shape
 form_of S.Top = top
 form_of S.Bottom = bottom
@@ -25,6 +26,7 @@ form_of (S.Max n r c) = at_most n r c
 abbrev pub concept_of : List Shape → Shown → Concept
 concept_of table s = tree_over (trees_of table) (form_of s)
 
+-- the plain shape of one that the code keeps
 abbrev pub form_of_owned : OwnedShape → Shape
 form_of_owned K.Top = top
 form_of_owned K.Bottom = bottom

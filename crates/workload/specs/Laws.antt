@@ -30,6 +30,7 @@ pub record IsWorkload (n : ℕ) (text : List ℕ) : Type 0 where
   pub knows : prefix_iri kept.prefixes [] ≡ Some prefix_iri_of_workloads
   pub nodes : kept.nodes ≡ 13 * n + 18
 
+-- the text of each workload of up to 4,000 groups is its document
 abbrev pub WorkloadsAreDocuments : Type 0
 WorkloadsAreDocuments = (n : ℕ) → n ≤ 4000 → IsWorkload n (workload_text n)
 
@@ -38,6 +39,7 @@ WorkloadsAreDocuments = (n : ℕ) → n ≤ 4000 → IsWorkload n (workload_text
 abbrev pub asked : Query
 asked = record { sub = name 0; sup = name 5; on = Any }
 
+-- the query of workloads is read on each of them
 abbrev pub WorkloadQueriesAreRead : Type 0
 WorkloadQueriesAreRead = (n : ℕ) (text : List ℕ) (w : IsWorkload n text) → n ≤ 4000
     → IsQueryOn w.kept w.read (codes "SubClassOf(:Q0 :Q3)") w.read asked

@@ -6,6 +6,7 @@ use Rattle.shq_terms.specs.declared.axioms.Axiom.TheVariants.{SubClassOf, SubRol
 
 -- ---- names
 
+-- the IRI that stands before each name of a workload
 abbrev pub prefix_iri_of_workloads : List ℕ
 prefix_iri_of_workloads = codes "http://example.org/w#"
 
@@ -13,14 +14,17 @@ prefix_iri_of_workloads = codes "http://example.org/w#"
 unfoldable pub full_name : List ℕ → List ℕ
 full_name local = prefix_iri_of_workloads ++ local
 
+-- the names of the classes of the seven first axioms, in the order in which they are met
 abbrev pub kernel_classes : List (List ℕ)
 kernel_classes =
     full_name (codes "Q0") ∷ full_name (codes "Q1") ∷ full_name (codes "P0") ∷ full_name (codes "Q2")
     ∷ full_name (codes "P1") ∷ full_name (codes "Q3") ∷ full_name (codes "P2") ∷ []
 
+-- the name of a class that is a letter and a number
 abbrev pub numbered_class : List ℕ → ℕ → List ℕ
 numbered_class letter k = full_name (letter ++ decimal k)
 
+-- the names of the four classes of a group
 abbrev pub group_classes : ℕ → List (List ℕ)
 group_classes k =
     numbered_class (codes "A") k ∷ numbered_class (codes "B") k ∷ numbered_class (codes "C") k
@@ -31,6 +35,7 @@ abbrev pub workload_classes : ℕ → List (List ℕ)
 workload_classes zero = kernel_classes
 workload_classes (suc n) = workload_classes n ++ group_classes (n + 1)
 
+-- the names of the roles, in the order in which they are met
 abbrev pub workload_roles : List (List ℕ)
 workload_roles = full_name (codes "s") ∷ full_name (codes "r") ∷ []
 
@@ -40,9 +45,11 @@ workload_roles = full_name (codes "s") ∷ full_name (codes "r") ∷ []
 abbrev pub role_s : ℕ
 role_s = 0
 
+-- the number of the role r
 abbrev pub role_r : ℕ
 role_r = 1
 
+-- the seven first axioms
 abbrev pub kernel_axioms : List Axiom
 kernel_axioms =
     SubClassOf (name 0) (name 1)
@@ -58,15 +65,19 @@ kernel_axioms =
 abbrev pub class_a : ℕ → ℕ
 class_a k = 4 * k + 3
 
+-- the number of the class B of a group
 abbrev pub class_b : ℕ → ℕ
 class_b k = 4 * k + 4
 
+-- the number of the class C of a group
 abbrev pub class_c : ℕ → ℕ
 class_c k = 4 * k + 5
 
+-- the number of the class D of a group
 abbrev pub class_d : ℕ → ℕ
 class_d k = 4 * k + 6
 
+-- the four axioms of a group
 abbrev pub group_axioms : ℕ → List Axiom
 group_axioms k =
     SubClassOf (name (class_a k)) (some_of role_r (name (class_b k)))

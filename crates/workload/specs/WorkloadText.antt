@@ -23,6 +23,7 @@ kernel_text =
 abbrev pub with_two : ℕ → List ℕ → List ℕ → List ℕ → List ℕ
 with_two k first second last = first ++ decimal k ++ second ++ decimal k ++ last
 
+-- a text with the number of a group at three places
 abbrev pub with_three : ℕ → List ℕ → List ℕ → List ℕ → List ℕ → List ℕ
 with_three k first second third last = first ++ decimal k ++ second ++ decimal k ++ third ++ decimal k ++ last
 
@@ -30,15 +31,19 @@ with_three k first second third last = first ++ decimal k ++ second ++ decimal k
 abbrev pub some_text : ℕ → List ℕ
 some_text k = with_two k (codes "SubClassOf(:A") (codes " ObjectSomeValuesFrom(:r :B") (codes "))")
 
+-- the axiom of a group that has 'at least 2'
 abbrev pub two_text : ℕ → List ℕ
 two_text k = with_two k (codes "SubClassOf(:A") (codes " ObjectMinCardinality(2 :s :B") (codes "))")
 
+-- the axiom of a group that has 'all'
 abbrev pub all_text : ℕ → List ℕ
 all_text k = with_two k (codes "SubClassOf(:B") (codes " ObjectAllValuesFrom(:r :C") (codes "))")
 
+-- the axiom of a group that has a union
 abbrev pub either_text : ℕ → List ℕ
 either_text k = with_three k (codes "SubClassOf(:C") (codes " ObjectUnionOf(:A") (codes " :D") (codes "))")
 
+-- the four lines of a group
 abbrev pub group_text : ℕ → List ℕ
 group_text k = line (some_text k) ++ line (two_text k) ++ line (all_text k) ++ line (either_text k)
 
@@ -47,5 +52,6 @@ abbrev pub groups_text : ℕ → List ℕ
 groups_text zero = []
 groups_text (suc n) = groups_text n ++ group_text (n + 1)
 
+-- the text of a workload of n groups
 unfoldable pub workload_text : ℕ → List ℕ
 workload_text n = kernel_text ++ groups_text n ++ line (codes ")")
