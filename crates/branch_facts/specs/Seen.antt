@@ -32,17 +32,20 @@ pub record IsLink (before : List (ℕ × ℕ)) (link : ℕ × ℕ) : Type 0 wher
   pub from_representative : through before link.0 ≡ link.0
   pub to_representative : through before link.1 ≡ link.1
 
+-- each link may follow those before it
 pub record AreLinks (ls : List (ℕ × ℕ)) : Type 0 where
   pub each : (p : ℕ) (d : ℕ × ℕ) → p < length ls → IsLink (take p ls) (get_or ls p d)
 
 -- ---- facts
 
+-- two facts that are kept are the same
 abbrev pub is_same : Seen → Seen → Bool
 is_same (Has x c) (Has y d) = x == y && c == d
 is_same (Edge r x y) (Edge s v w) = r == s && (x == v && y == w)
 is_same (Apart x y) (Apart v w) = x == v && y == w
 is_same _ _ = false
 
+-- the fact is kept
 abbrev pub is_seen : List Seen → Seen → Bool
 is_seen seen f = list_any (is_same f) seen
 
@@ -52,14 +55,17 @@ are_seen_apart i x y =
     is_seen i.seen (Apart (through i.links x) (through i.links y))
     || is_seen i.seen (Apart (through i.links y) (through i.links x))
 
+-- the facts that are kept with one more, where it is not among them
 abbrev pub with_seen : List Seen → Seen → List Seen
 with_seen seen f = if is_seen seen f then seen else seen ++ f ∷ []
 
+-- the fact speaks of the node
 abbrev pub mentions : ℕ → Seen → Bool
 mentions x (Has y c) = y == x
 mentions x (Edge r y z) = y == x || z == x
 mentions x (Apart y z) = y == x || z == x
 
+-- the fact with one node in place of another one
 abbrev pub seen_renamed : ℕ → ℕ → Seen → Seen
 seen_renamed high low (Has x c) = Has (renamed high low x) c
 seen_renamed high low (Edge r x y) = Edge r (renamed high low x) (renamed high low y)
@@ -81,9 +87,11 @@ copied_at high low i (Some f) = record { seen = copied_one high low i.seen f; li
 
 -- ---- one fact more
 
+-- the index in which each fact of one node is said of another one too
 abbrev pub index_copied : Index → ℕ → ℕ → Index
 index_copied i high low = record { seen = copied high low i.seen i.seen; links = i.links }
 
+-- the index after one node is linked to another one
 abbrev pub index_linked : Index → ℕ → ℕ → Index
 index_linked i high low = record { seen = copied high low i.seen i.seen; links = i.links ++ (high, low) ∷ [] }
 
@@ -95,15 +103,18 @@ index_joined i y z = if y == z then i else index_linked i (max y z) (min y z)
 abbrev pub index_joining : Index → ℕ → ℕ → Index
 index_joining i x y = index_joined i (through i.links x) (through i.links y)
 
+-- the index with one fact more
 abbrev pub seeing : Index → Seen → Index
 seeing i f = record { seen = with_seen i.seen f; links = i.links }
 
+-- the index after one fact of a branch more
 abbrev pub index_after : Index → Fact ℕ → Index
 index_after i (F.Has x c) = seeing i (Has (through i.links x) c)
 index_after i (F.Edge r x y) = seeing i (Edge r (through i.links x) (through i.links y))
 index_after i (F.Apart x y) = seeing i (Apart (through i.links x) (through i.links y))
 index_after i (F.Same x y) = index_joining i x y
 
+-- the index after some facts of a branch more, in order
 abbrev pub index_from : Index → List (Fact ℕ) → Index
 index_from i [] = i
 index_from i (f ∷ fs) = index_from (index_after i f) fs
@@ -119,6 +130,7 @@ pub record Begins (earlier later : Index) : Type 0 where
 
 -- ---- entries
 
+-- the facts of some entries, in order
 abbrev pub entry_facts : List Entry → List (Fact ℕ)
 entry_facts es = map (λ e. e.fact) es
 

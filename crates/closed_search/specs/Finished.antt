@@ -20,6 +20,7 @@ use Rattle.closed_search.specs.declared.numbering.Naming.{Naming}
 abbrev pub is_over : ℕ → Line → Bool
 is_over n line = list_all (λ c. nat_lt c n) (concept_numbers line)
 
+-- the lines have numbers of concepts below n alone
 abbrev pub are_over : ℕ → List Line → Bool
 are_over n lines = list_all (is_over n) lines
 
@@ -58,6 +59,7 @@ pub record IsLine (table : List Shape) (old new : Naming) (line made : Line) : T
   pub used : are_used new.used.keys (concept_numbers line) ≡ true
   pub is : made ≡ renumbered (number_in new.used.keys) line
 
+-- the lines that were made are those of the search, with the concepts numbered anew
 pub record AreLines (table : List Shape) (old new : Naming) (lines made : List Line) : Type 0 where
   pub naming : IsNaming table new
   pub grown : Grows old new (length table)

@@ -39,6 +39,7 @@ is_axiom k (Some a) = a == k
 abbrev pub uses_axiom : ℕ → Line → Bool
 uses_axiom k line = is_axiom k (axiom_of line)
 
+-- there is an axiom, and it is one of roles
 abbrev pub says_of_roles : Option Numbered → Bool
 says_of_roles None = false
 says_of_roles (Some n) = is_role_axiom n.axiom
@@ -52,6 +53,7 @@ abbrev pub names_axiom : List Numbered → NumberSet → List Line → ℕ → B
 names_axiom axioms members lines k =
     sets.contains members k && (is_role_number axioms k || list_any (uses_axiom k) lines)
 
+-- the set that was made has just the axioms that the refutation has to name
 pub record NamesAxioms (axioms : List Numbered) (set : Limited) (lines : List Line) (named : Limited) : Type 0 where
   pub limit : named.limit ≡ length axioms
   pub members : (k : ℕ) → sets.contains named.members k ≡ names_axiom axioms set.members lines k

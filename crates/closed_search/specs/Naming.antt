@@ -46,12 +46,14 @@ pub record IsPut (old new : Naming) (c : ℕ) (s : Shape) (number : ℕ) : Type 
 
 -- ---- what naming answers
 
+-- a concept has got its number, and its parts too
 pub record IsNamed (table : List Shape) (old new : Naming) (c number : ℕ) : Type 0 where
   pub naming : IsNaming table new
   pub grown : Grows old new (c + 1)
   pub kinds : KeepsKinds table old new (c ∷ [])
   pub number' : IsNumberOf new c number
 
+-- the parts of a shape have got their numbers, and the shape is written by them
 pub record IsRenamed (table : List Shape) (old new : Naming) (bound : ℕ) (form s : Shape) : Type 0 where
   pub naming : IsNaming table new
   pub grown : Grows old new bound
@@ -59,6 +61,7 @@ pub record IsRenamed (table : List Shape) (old new : Naming) (bound : ℕ) (form
   pub parts : are_used new.used.keys (part_numbers form) ≡ true
   pub is : s ≡ renumbered_shape (number_in new.used.keys) form
 
+-- some concepts have got their numbers
 pub record AreRenamed (table : List Shape) (old new : Naming) (bound : ℕ) (parts numbers : List ℕ) : Type 0 where
   pub naming : IsNaming table new
   pub grown : Grows old new bound

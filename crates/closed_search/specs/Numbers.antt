@@ -8,6 +8,7 @@ use Rattle.calculus_specs.specs.Shape.{at_least, at_most}
 abbrev pub is_used : List ℕ → ℕ → Bool
 is_used used c = list_any (λ d. c == d) used
 
+-- each of the concepts has got a number
 abbrev pub are_used : List ℕ → List ℕ → Bool
 are_used used cs = list_all (is_used used) cs
 

@@ -10,6 +10,7 @@ use Rattle.set_questions.specs.InOrder.{HaveOneLimit}
 use Rattle.hitting_set_tree.specs.declared.tree.Found.{Found}
 use Rattle.hitting_set_tree.specs.Tree.{LacksSome, AreSettledOrOpen, ListsShown}
 
+-- what a list of smallest yes-sets and leaves says: each of them was shown to be one
 pub record IsFound (m : Meaning) (f : Found) : Type 0 where
   -- smallest yes-sets, in order, each of which was shown to be a yes-set
   pub order : IsAscending f.justifications.items

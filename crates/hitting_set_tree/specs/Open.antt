@@ -70,9 +70,11 @@ pub record IsEnded (taken : List Limited) (ls : Lists) : Type 0 where
   pub leaf_taken : (l : Limited) → Contains ls.leaves l → Contains taken l
   pub settled : AreSettled ls.justifications ls.leaves taken (length taken - 1)
 
+-- some labelling of the nodes shows which are still open
 abbrev pub HasOpen : List Limited → Lists → ℕ → Type 0
 HasOpen taken ls rooted = (label : ℕ → Limited) × IsOpen taken ls rooted label
 
+-- some labelling of the nodes shows that the node is still to be looked at
 abbrev pub HasPending : List Limited → Lists → Node → Type 0
 HasPending taken ls node = (label : ℕ → Limited) × IsPending taken ls node label
 

@@ -25,11 +25,13 @@ InScope f t = IsPart f.hit.members t
 abbrev pub InFrame : Frame → NumberSet → Type 0
 InFrame f t = InScope f t × DoMeet f.ahead.members t
 
+-- a node: its numbers are within the limit, and none that it hits is barred
 pub record IsNode (limit : ℕ) (n : Node) : Type 0 where
   pub hit_limit : n.hit.limit ≡ limit
   pub barred_limit : n.barred.limit ≡ limit
   pub apart : AreApart n.hit.members n.barred.members
 
+-- a node whose branches are gone through: those ahead are barred, and belong to its label
 pub record IsFrame (limit : ℕ) (f : Frame) : Type 0 where
   pub hit_limit : f.hit.limit ≡ limit
   pub barred_limit : f.barred.limit ≡ limit

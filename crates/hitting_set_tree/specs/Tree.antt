@@ -22,9 +22,11 @@ pub record Lists : Type 0 where
   pub leaves : List Limited
   pub frames : List Frame
 
+-- what the tree of the code keeps, as lists
 abbrev pub lists : Tree → Lists
 lists t = record { justifications = t.justifications.items; leaves = t.leaves.items; frames = t.frames.items }
 
+-- the lists with one frame more
 abbrev pub with_frame : Lists → Frame → Lists
 with_frame ls f = record { justifications = ls.justifications; leaves = ls.leaves; frames = ls.frames ++ f ∷ [] }
 
@@ -41,6 +43,7 @@ pub record HoldsLists (m : Meaning) (ls : Lists) : Type 0 where
   pub shown_no : (l : Limited) → Contains ls.leaves l → m.shown_no (rest l)
   pub frames : (f : Frame) → Contains ls.frames f → IsFrame m.size f
 
+-- each of them is a frame
 abbrev pub AreFrames : ℕ → List Frame → Type 0
 AreFrames size frames = (f : Frame) → Contains frames f → IsFrame size f
 
@@ -91,6 +94,7 @@ HasFoundIn m justifications s true = HasPart justifications s
 HasFoundIn m justifications s false = HasPart justifications s
     ⊎ ((kept : Limited) × IsPart kept.members s × IsUndecided m kept)
 
+-- where the answer is yes, the set that it names has a listed set as part, or the budget was spent
 abbrev pub HasFoundNamed : Meaning → List Limited → Reply → Bool → Type 0
 HasFoundNamed m justifications (Yes part) went_on = HasFoundIn m justifications part.members went_on
 HasFoundNamed m justifications No went_on = Unit {0}

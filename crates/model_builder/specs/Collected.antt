@@ -35,6 +35,7 @@ abbrev pub class_in : Shape → Option ℕ
 class_in (name_shape a) = Some a
 class_in _ = None
 
+-- that an element is in a class, where one is given
 abbrev pub member_of : ℕ → Option ℕ → List Member
 member_of v None = []
 member_of v (Some a) = record { class = a; element = v } ∷ []
@@ -55,6 +56,7 @@ AreMembers table fs originals n members = (a v : ℕ)
 
 -- ---- edges
 
+-- an edge from an element to another one, where one is given
 abbrev pub edge_to : ℕ → ℕ → Option ℕ → List Edge
 edge_to v r None = []
 edge_to v r (Some u) = record { role = r; from = v; to = u } ∷ []

@@ -33,6 +33,7 @@ pub record AreOfElements (w : SearchContext) (fs : List (Fact ℕ)) (roles : Lis
   pub as_many : length places + 1 ≡ w.first
   pub places_are : (a : ℕ) → a < length places → IsNumberOf w.first fs a (slice_index_or places a 0)
 
+-- what is collected of the facts of a trail gives the interpretation of its elements
 abbrev pub StructuresAreBuilt : Type 0
 StructuresAreBuilt =
     (o : Listed) (ks : List ℕ) (q : Query) (table : List Shape) (rows : List Row) (k : ℕ) (trail : List Item)

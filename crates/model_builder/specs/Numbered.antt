@@ -31,10 +31,12 @@ place_of numbers m a = unwrap_or (slice_index_or numbers (m a) None) 0
 
 -- ---- one node more, which is like a node where it is an element
 
+-- the number k, where there is an element
 abbrev pub number_in : ℕ → Option ℕ → Option ℕ
 number_in k None = None
 number_in k (Some z) = Some k
 
+-- the element as a list of one, or of none
 abbrev pub original_list : Option ℕ → List ℕ
 original_list None = []
 original_list (Some z) = z ∷ []

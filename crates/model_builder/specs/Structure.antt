@@ -29,9 +29,11 @@ leads roles edges s x y = list_any (λ e. is_pair roles e s x y) edges
 abbrev pub is_pair_above : ℕ → List RoleAxiom → Edge → ℕ → ℕ → ℕ → Bool
 is_pair_above count roles e s x y = nat_lt s count && is_pair roles e s x y
 
+-- the role is listed, and leads from one element to the other in the structure
 abbrev pub leads_listed : ℕ → List RoleAxiom → List Edge → ℕ → ℕ → ℕ → Bool
 leads_listed count roles edges s x y = nat_lt s count && leads roles edges s x y
 
+-- the condition holds, and the pair comes from the edge by a role above its own
 abbrev pub is_above_where : Bool → ℕ → List RoleAxiom → Edge → ℕ → ℕ → ℕ → Bool
 is_above_where condition count roles e s x y = condition && is_pair_above count roles e s x y
 

@@ -9,6 +9,7 @@ use Rattle.role_box.specs.Paths.{has_path}
 abbrev pub is_end : List (List ℕ) → ℕ → ℕ → Bool
 is_end next x y = list_any (λ z. z == y) (slice_index_or next x [])
 
+-- each edge ends at an element that is there
 abbrev pub IsInside : List (List ℕ) → Type 0
 IsInside next = (x y : ℕ) → is_end next x y ≡ true → y < length next
 
@@ -16,6 +17,7 @@ IsInside next = (x y : ℕ) → is_end next x y ≡ true → y < length next
 abbrev pub reaches : List (List ℕ) → ℕ → ℕ → Bool
 reaches next x y = has_path (is_end next) (length next) x y
 
+-- the element was seen
 abbrev pub is_seen : List Bool → ℕ → Bool
 is_seen seen y = slice_index_or seen y false
 
@@ -27,6 +29,7 @@ is_seen_from from seen x y = from == x && is_seen seen y
 abbrev pub reaches_from : ℕ → List (List ℕ) → ℕ → ℕ → Bool
 reaches_from from next x y = from == x && reaches next x y
 
+-- the element waits to be looked at
 abbrev pub is_waiting : List ℕ → ℕ → Bool
 is_waiting waiting y = list_any (λ z. z == y) waiting
 
@@ -35,6 +38,7 @@ abbrev pub left_of : Bool → ℕ
 left_of true = 0
 left_of false = 1
 
+-- how many elements were not seen yet
 abbrev pub unseen : List Bool → ℕ
 unseen seen = sum_by left_of seen
 

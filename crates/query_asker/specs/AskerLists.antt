@@ -18,6 +18,7 @@ pub record AskerLists : Type 0 where
   pub gained : List Entry
   pub asks : ℕ
 
+-- sets of numbers can be coded, and read back
 abbrev pub number_set_code : Coded NumberSet
 number_set_code = set.code coded_ℕ
 
@@ -29,6 +30,7 @@ pub record AskerOrigin : Type 0 where
   pub local_part : NumberSet
   pub before : List Entry
 
+-- what an asker began with
 abbrev pub origin_of : AskerLists → AskerOrigin
 origin_of a =
     record { ontology = a.ontology; query = a.query; budget = a.budget; local_part = a.local_part; before = a.before }

@@ -28,6 +28,7 @@ abbrev pub part_of : Listed → Option Limited → NumberSet
 part_of o None = numbers_to (length o.axioms)
 part_of o (Some m) = m.members
 
+-- what contracts see of an asker over an oracle
 abbrev pub lists_of : OracleLists → Query → Option Limited → ℕ → ℕ → AskerLists
 lists_of o q among first asks =
     record {
@@ -46,6 +47,7 @@ pub record CanAsk (a : AskerLists) : Type 0 where
   pub others : AreTestsOfOthers a.query a.before
   pub keeps : KeepsAnswers a.ontology.axioms a.query a.local_part
 
+-- an asker over an oracle may ask, and remembers its part of the log
 pub record IsAsker (o : OracleLists) (q : Query) (among : Option Limited) (first : ℕ) (memo : Memo) (asks : ℕ) :
     Type 0 where
   pub first_within : first ≤ length o.log

@@ -28,17 +28,21 @@ no_by s (E.Yes u) = []
 no_by s E.No = s ∷ []
 no_by s (E.Spent t) = []
 
+-- the set of axioms that an entry shows to be enough, if it shows one
 abbrev pub yes_of : Entry → List Limited
 yes_of (Test s q steps e) = yes_by e
 yes_of (Node s) = []
 
+-- the set of axioms that an entry shows not to be enough, if it shows one
 abbrev pub no_of : Entry → List Limited
 no_of (Test s q steps e) = no_by s e
 no_of (Node s) = []
 
+-- the sets that a log shows to be enough
 abbrev pub yes_sets : List Entry → List Limited
 yes_sets log = flat_map yes_of log
 
+-- the sets that a log shows not to be enough
 abbrev pub no_sets : List Entry → List Limited
 no_sets log = flat_map no_of log
 

@@ -39,6 +39,7 @@ abbrev pub IsTestOfOther : Query → Entry → Type 0
 IsTestOfOther q (Test s p steps e) = ¬ (p ≡ q)
 IsTestOfOther q (Node s) = Unit {0}
 
+-- each entry is a test of another query, or no test
 abbrev pub AreTestsOfOthers : Query → List Entry → Type 0
 AreTestsOfOthers q log = All (IsTestOfOther q) log
 

@@ -12,11 +12,13 @@ use Rattle.refutation_rules.specs.declared.outcome.Outcome.TheVariants.{Closed, 
 use Rattle.refutation_rules.specs.Outcomes.{known_of, branch_with_facts, branch_with_nodes, IsBranch}
 use Rattle.refutation_check.specs.declared.open_branches.Pending.{Pending}
 
+-- the branch that is read, unless it is closed, and those that wait
 pub record Open : Type 0 where
   pub branch : Branch
   pub waiting : List Branch
   pub closed : Bool
 
+-- the open branches, of which the first is left out where it is closed
 abbrev pub branches_of : Bool → Branch → List Branch → List Branch
 branches_of true k ks = []
 branches_of false k ks = k ∷ ks
@@ -25,9 +27,11 @@ branches_of false k ks = k ∷ ks
 abbrev pub branches : Open → List Branch
 branches o = branches_of o.closed o.branch o.waiting
 
+-- what is known in each of the branches
 abbrev pub are_known : List Shape → List Branch → List Known
 are_known table ks = map (known_of table) ks
 
+-- the concepts of each branch have numbers below the bound
 abbrev pub AreNumberedBranches : ℕ → List Branch → Type 0
 AreNumberedBranches bound ks = All (IsBranch bound) ks
 
@@ -39,6 +43,7 @@ knowing_nodes o xs = record {
   closed = o.closed;
 }
 
+-- the same with facts more in the branch that is read
 abbrev pub knowing : Open → List (Fact ℕ) → Open
 knowing o fs = record { branch = branch_with_facts o.branch fs; waiting = o.waiting; closed = o.closed }
 
@@ -50,6 +55,7 @@ with_new_nodes o n = record {
   closed = o.closed;
 }
 
+-- the facts of new nodes
 abbrev pub facts_of_new : NewNodes → List (Fact ℕ)
 facts_of_new n = new_nodes n.from n.role n.concept n.first n.count
 
@@ -57,6 +63,7 @@ facts_of_new n = new_nodes n.from n.role n.concept n.first n.count
 abbrev pub branches_for : Branch → List (Fact ℕ) → List Branch
 branches_for k fs = map (λ f. branch_with_facts k (f ∷ [])) fs
 
+-- the same with one branch more that waits, which has a fact more
 abbrev pub waiting_with : Open → Fact ℕ → Open
 waiting_with o f =
     record { branch = o.branch; waiting = branch_with_facts o.branch (f ∷ []) ∷ o.waiting; closed = o.closed }

@@ -14,6 +14,7 @@ use Rattle.refutation_check.specs.Open.{Open, branches, are_known, AreNumberedBr
 abbrev pub left_by_line : RefutationContext → Open → Line → Option (List Known)
 left_by_line f o line = open_after (question f) (concept_at f.shapes) (are_known f.table (branches o)) line
 
+-- what is known in the branches that lines leave open, or none where a line breaks the rules
 abbrev pub left_by_lines : RefutationContext → List Line → Option (List Known)
 left_by_lines f lines = open_after_all (question f) (concept_at f.shapes) (nothing_known ∷ []) lines
 
@@ -31,6 +32,7 @@ IsLeftIf false left f o = left ≡ None
 abbrev pub IsStep : RefutationContext → Open → Line → RefutationContext → Open → Bool → Type 0
 IsStep f o line g p taken = IsLeftIf taken (left_by_line f o line) g p
 
+-- the branch is ready for the outcome, if there is one
 abbrev pub IsReadyIf : Open → Option Outcome → Type 0
 IsReadyIf o None = Unit {0}
 IsReadyIf o (Some outcome) = IsReady o.branch outcome

@@ -30,6 +30,7 @@ abbrev pub IsRejectedAt : Listed → Limited → Query → RefutationLists → �
 IsRejectedAt o set query r zero = IsPart r.axioms.members set.members → ⊥
 IsRejectedAt o set query r (suc place) = IsBroken o set query r (suc place)
 
+-- the verdict is right: the refutation is valid over the set, or breaks the rules first at this place
 abbrev pub IsJudgedAs : Listed → Limited → Query → RefutationLists → Verdict → Type 0
 IsJudgedAs o set query r Accepted = IsValid o set query r
 IsJudgedAs o set query r (Rejected place) = IsRejectedAt o set query r place

@@ -26,9 +26,11 @@ HasCountsWithin (Same x y) = Unit {0}
 abbrev pub is_of_first : ℕ → Fact (Bor Concept) → Bool
 is_of_first count f = nodes_pass (λ x. nat_lt x count) (read_fact form_behind f)
 
+-- the fact that two individuals are the same
 abbrev pub same_pair : ℕ × ℕ → Fact Concept
 same_pair p = Same p.0 p.1
 
+-- the fact that two individuals are apart
 abbrev pub apart_pair : ℕ × ℕ → Fact Concept
 apart_pair p = Apart p.0 p.1
 

@@ -18,6 +18,7 @@ use Rattle.refutation_rules.specs.declared.outcome.Outcome.TheVariants.{Closed, 
 abbrev pub known_of : List Shape → Numbered → Known
 known_of table k = record { nodes = k.nodes; facts = read_facts (tree_of table) k.facts }
 
+-- the branch with facts more
 abbrev pub branch_with_facts : Numbered → List (Fact ℕ) → Numbered
 branch_with_facts k fs = record { nodes = k.nodes; facts = k.facts ++ fs }
 
@@ -52,6 +53,7 @@ IsFit bound k (Nodes n) = (n.concept < bound) × (n.first + n.count ≤ 2 ^ 32)
     × (list_any (λ z. list_any (λ y. nat_eq y z) k.nodes) (range_with_len n.first n.count) ≡ false)
 IsFit bound k (Branches fs) = are_listed bound fs.items ≡ true
 
+-- the outcome, if there is one, fits the branch
 abbrev pub IsFitIfSome : ℕ → Numbered → Option Outcome → Type 0
 IsFitIfSome bound k None = Unit {0}
 IsFitIfSome bound k (Some o) = IsFit bound k o

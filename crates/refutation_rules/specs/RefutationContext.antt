@@ -44,6 +44,7 @@ pub record RefutationContext : Type 0 where
 abbrev pub question : RefutationContext → Question
 question f = question_of f.individuals f.axioms f.named f.query
 
+-- the theory of the axioms that the refutation names
 abbrev pub theory : RefutationContext → Theory
 theory f = theory_of f.axioms f.named
 
@@ -81,6 +82,7 @@ AddsConcept table k children y None = children ≡ None
 AddsConcept table k children y (Some n) = (n < length table)
     × (children ≡ Some (known_of table (branch_with_facts k (Has y n ∷ [])) ∷ []))
 
+-- where the premises of the line hold, it leaves that the node is in the concept of the number, if there is one
 abbrev pub LineAdds : RefutationContext → Branch → Line → ℕ → Option ℕ → Type 0
 LineAdds f k line y found = AddsConcept f.table k (line_children f k line) y found
 
@@ -111,6 +113,7 @@ LineCloses f k x c (Some a) =
 abbrev pub IsUsableRow : RefutationContext → ℕ → ℕ → List ℕ → Option CachedRow → Type 0
 IsUsableRow f a p positions row = IsRow f.table (row_for (part_at (theory f) a p) positions) row
 
+-- the range is that of the named axiom, or there is none
 abbrev pub IsUsableRange : RefutationContext → ℕ → Option CachedRange → Type 0
 IsUsableRange f a row = IsRange f.table (range_for (part_at (theory f) a 1)) row
 

@@ -24,6 +24,7 @@ are_differing k x y = has_node k x && has_node k y && are_apart k.facts x y && r
 abbrev pub has_number : RefutationContext → Branch → ℕ → ℕ → Bool
 has_number f k x n = has_tree (known_of f.table k).facts x (tree_of f.table n)
 
+-- the node is known, and is in the concept
 abbrev pub is_in : RefutationContext → Branch → ℕ → ℕ → Bool
 is_in f k x n = knows (known_of f.table k) x && has_tree (known_of f.table k).facts x (tree_of f.table n)
 
@@ -31,6 +32,7 @@ is_in f k x n = knows (known_of f.table k) x && has_tree (known_of f.table k).fa
 abbrev pub leads : RefutationContext → Branch → ℕ → ℕ → ℕ → Bool
 leads f k role x y = has_edge (known_of f.table k).facts (λ r. (theory f).below r role) x y
 
+-- the other node is known, and an edge of a role below this one leads to it
 abbrev pub leads_to : RefutationContext → Branch → ℕ → ℕ → ℕ → Bool
 leads_to f k role x y =
     knows (known_of f.table k) y && has_edge (known_of f.table k).facts (λ r. (theory f).below r role) x y
@@ -52,6 +54,7 @@ is_filler f k x role filler y =
     knows (known_of f.table k) y && has_edge (known_of f.table k).facts (λ r. (theory f).below r role) x y
     && has_tree (known_of f.table k).facts y (tree_of f.table filler)
 
+-- each of the nodes is in the filler, at the end of an edge of a role below this one
 abbrev pub fill : RefutationContext → Branch → ℕ → ℕ → ℕ → List ℕ → Bool
 fill f k x role filler ys = are_fillers (theory f) (known_of f.table k) x role (tree_of f.table filler) ys
 

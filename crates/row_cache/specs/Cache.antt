@@ -53,6 +53,7 @@ pub record KeepsEntries (earlier later : CacheState) : Type 0 where
 abbrev pub IsRowOf : CacheState → ℕ → ℕ → List ℕ → Option CachedRow → Type 0
 IsRowOf c a p positions row = IsRow c.table (row_for (named_part c a p) positions) row
 
+-- the range is that of the axiom, or the axiom has none
 abbrev pub IsRangeOf : CacheState → ℕ → Option CachedRange → Type 0
 IsRangeOf c a row = IsRange c.table (range_for (named_part c a 1)) row
 
@@ -75,6 +76,7 @@ serving (Some e) positions = if pointwise nat_eq e.positions positions then Some
 abbrev pub cached_row : CacheState → ℕ → ℕ → List ℕ → Option CachedRow
 cached_row c a p positions = serving (entry_for c.rows a p) positions
 
+-- the range of an axiom that is in the cache, if it is
 abbrev pub cached_range : CacheState → ℕ → Option CachedRange
 cached_range c a = cached_range_for c.ranges a
 
@@ -82,6 +84,7 @@ cached_range c a = cached_range_for c.ranges a
 abbrev pub IsCached : CacheState → ℕ → ℕ → List ℕ → Option CachedRow → Type 0
 IsCached c a p positions answer = (r : CachedRow) → answer ≡ Some r → cached_row c a p positions ≡ Some r
 
+-- a range that was answered is in the cache
 abbrev pub IsRangeCached : CacheState → ℕ → Option CachedRange → Type 0
 IsRangeCached c a answer = (r : CachedRange) → answer ≡ Some r → cached_range c a ≡ Some r
 
@@ -91,6 +94,7 @@ pub record IsMadeOnce (earlier later : CacheState) (a p : ℕ) (positions : List
   pub from_cache : (r : CachedRow) → cached_row earlier a p positions ≡ Some r → (later ≡ earlier) × (answer ≡ Some r)
   pub afterwards : IsCached later a p positions answer
 
+-- a range that is in the cache is answered from it, and one that is answered is in it afterwards
 pub record IsRangeMadeOnce (earlier later : CacheState) (a : ℕ) (answer : Option CachedRange) : Type 0 where
   pub from_cache : (r : CachedRange) → cached_range earlier a ≡ Some r → (later ≡ earlier) × (answer ≡ Some r)
   pub afterwards : IsRangeCached later a answer

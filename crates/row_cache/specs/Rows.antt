@@ -45,6 +45,7 @@ IsRow table _ _ = ⊥
 abbrev pub part_in_set : List Numbered → Limited → ℕ → ℕ → Option Part
 part_in_set axioms named a p = part_at (theory_of axioms (member_list named)) a p
 
+-- the row is that of a part of a named axiom at these positions, or there is none
 abbrev pub IsRowIn : List Shape → List Numbered → Limited → ℕ → ℕ → List ℕ → Option CachedRow → Type 0
 IsRowIn table axioms named a p positions row = IsRow table (row_for (part_in_set axioms named a p) positions) row
 
@@ -53,16 +54,19 @@ pub record PlainRange : Type 0 where
   pub role : ℕ
   pub concept : Concept
 
+-- the role and the class of a part that is a range
 abbrev pub range_for : Option Part → Option PlainRange
 range_for None = None
 range_for (Some (range r d)) = Some (record { role = r; concept = d })
 range_for (Some (inclusion cs d)) = None
 
+-- the cached range has the same role, and the number of the same concept
 abbrev pub IsRange : List Shape → Option PlainRange → Option CachedRange → Type 0
 IsRange table None None = Unit {0}
 IsRange table (Some r) (Some k) = (k.role ≡ r.role) × IsNumber table k.concept r.concept
 IsRange table _ _ = ⊥
 
+-- the range is that of a named axiom, or there is none
 abbrev pub IsRangeIn : List Shape → List Numbered → Limited → ℕ → Option CachedRange → Type 0
 IsRangeIn table axioms named a row = IsRange table (range_for (part_in_set axioms named a 1)) row
 
@@ -74,6 +78,7 @@ IsPartFound table None None = Unit {0}
 IsPartFound table (Some p) (Some k) = StandsForPart table k p
 IsPartFound table _ _ = ⊥
 
+-- the part is that of a named axiom, or there is none
 abbrev pub IsPartIn : List Shape → List Numbered → Limited → ℕ → ℕ → Option PartByNumber → Type 0
 IsPartIn table axioms named a p found = IsPartFound table (part_in_set axioms named a p) found
 
@@ -83,6 +88,7 @@ abbrev pub row_at : List Shape → List ℕ → ℕ → List ℕ → Option Plai
 row_at table conjuncts right positions =
     row_for (Some (inclusion (trees_at table conjuncts) (tree_of table right))) positions
 
+-- the number stands for what remains of an inclusion at these positions
 abbrev pub IsRowConcept : List Shape → List Shape → List ℕ → ℕ → List ℕ → ℕ → Type 0
 IsRowConcept earlier later conjuncts right positions number =
     IsNumber later number (row_concept (trees_at earlier conjuncts) (tree_of earlier right) positions)
@@ -91,9 +97,11 @@ IsRowConcept earlier later conjuncts right positions number =
 abbrev pub is_name_at : List Shape → List ℕ → ℕ → Bool
 is_name_at table conjuncts position = is_name (conjunct_at (trees_at table conjuncts) position)
 
+-- the conjuncts at the positions are names
 abbrev pub are_names_at : List Shape → List ℕ → List ℕ → Bool
 are_names_at table conjuncts positions = list_all (is_name_at table conjuncts) positions
 
+-- the shape is a name
 abbrev pub is_name_shape : Shape → Bool
 is_name_shape (name a) = true
 is_name_shape _ = false

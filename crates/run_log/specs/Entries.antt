@@ -15,6 +15,7 @@ abbrev pub cost_of : Entry → ℕ
 cost_of (Test s q steps e) = steps
 cost_of (Node s) = 1
 
+-- how many steps a log has spent
 abbrev pub spent_of : List Entry → ℕ
 spent_of log = sum_by cost_of log
 
@@ -30,6 +31,7 @@ nodes_of [] = []
 nodes_of (Test s q steps e ∷ es) = nodes_of es
 nodes_of (Node s ∷ es) = s ∷ nodes_of es
 
+-- how many tests a log has
 abbrev pub test_count : List Entry → ℕ
 test_count log = count_by is_test log
 

@@ -37,6 +37,7 @@ pub record IsWhole (o : Listed) (s : Limited) : Type 0 where
   pub limit_is : s.limit ≡ length o.axioms
   pub is_full : IsFull (length o.axioms) s.members
 
+-- the axioms of a set, in order
 abbrev pub axioms_of : Listed → Limited → List Axiom
 axioms_of o s = named_axioms o.axioms (member_list s)
 
@@ -84,11 +85,13 @@ abbrev pub IsHonestEntry : Listed → Entry → Type 0
 IsHonestEntry o (Test s q steps e) = IsAxiomSet o s × IsHonestEnd o s q steps e
 IsHonestEntry o (Node s) = IsAxiomSet o s
 
+-- each entry of the log says what is so
 abbrev pub EachIsHonest : Listed → List Entry → Type 0
 EachIsHonest o log = All (IsHonestEntry o) log
 
 -- ---- the budget
 
+-- the log has spent no more than the budget
 abbrev pub IsWithinBudget : ℕ → List Entry → Type 0
 IsWithinBudget budget log = spent_of log ≤ budget
 
@@ -127,6 +130,7 @@ abbrev pub IsClassTest : Listed → Entry → Type 0
 IsClassTest o (Test s q steps e) = IsWhole o s × IsClass o q.sub × IsClass o q.sup × ¬ (q.sub ≡ q.sup) × (q.on ≡ Any)
 IsClassTest o (Node s) = ⊥
 
+-- each test of the log is one that a classification makes
 abbrev pub AreClassTests : Listed → List Entry → Type 0
 AreClassTests o log = All (IsClassTest o) log
 
@@ -155,6 +159,7 @@ AsksNoChain log = (place : ℕ) (s : Limited) (q : Query) (steps : ℕ) (e : Tes
 
 -- ---- pinpointing
 
+-- if the entry is a test, it is one of this query
 abbrev pub IsTestOf : Query → Entry → Type 0
 IsTestOf q (Test s p steps e) = p ≡ q
 IsTestOf q (Node s) = Unit {0}
@@ -184,6 +189,7 @@ pub record AreTreeNodes (o : Listed) (q : Query) (log : List Entry) : Type 0 whe
 abbrev pub AsksFewPerNode : Listed → List Entry → Type 0
 AsksFewPerNode o log = test_count log ≤ (length o.axioms + 1) * length (nodes_of log)
 
+-- if the entry is a test, it is one of axioms of this set
 abbrev pub IsTestIn : NumberSet → Entry → Type 0
 IsTestIn m (Test s q steps e) = IsPart s.members m
 IsTestIn m (Node s) = Unit {0}

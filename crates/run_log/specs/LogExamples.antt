@@ -31,6 +31,7 @@ bare =
 abbrev pub no_axioms : Limited
 no_axioms = record { limit = 0; members = set.empty }
 
+-- the query whether one class is part of another
 abbrev pub inclusion : ℕ → ℕ → Query
 inclusion a b = record { sub = name a; sup = name b; on = Any }
 
@@ -41,6 +42,7 @@ inclusion_at_one a b = record { sub = name a; sup = name b; on = Individual 0 }
 abbrev pub sub_of : Query → Concept
 sub_of q = q.sub
 
+-- the right side of a query
 abbrev pub sup_of : Query → Concept
 sup_of q = q.sup
 

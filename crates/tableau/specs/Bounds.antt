@@ -24,6 +24,7 @@ pub record HasFewSteps (s : SearchState) : Type 0 where
       → AreAtFirst (trail_of s)
       → s.steps ≤ nodes_of s * (length cs + 2) + length facts
 
+-- how many marks stand in the trail of a search at most, by its nodes and its concepts
 pub record HasFewMarks (s : SearchState) : Type 0 where
   pub few : (cs : List Concept) → AreItsConcepts s cs
       → mark_count (trail_of s) ≤ nodes_of s * (nodes_of s + length cs + 1)

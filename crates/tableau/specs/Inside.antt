@@ -76,11 +76,13 @@ pub record HasClosed (rules : RuleLists) (r : RefutationLists) (old new : Progre
 
 -- ---- one call
 
+-- what one call on the progress of a search comes to, for each event
 abbrev pub IsAdvanced : RuleLists → ProgressLists → ProgressLists → Event → Type 0
 IsAdvanced rules old new Moved = HasMoved (context_in rules) old new × IsSearching (context_in rules) new
 IsAdvanced rules old new Saturated = HasFollowed old new × IsSaturated (context_in rules) (items_of new.entries)
 IsAdvanced rules old new (Closed r) = HasClosed rules r old new
 
+-- what a run on the progress of a search comes to, for each end
 abbrev pub IsSettled : RuleLists → ProgressLists → ProgressLists → End → Type 0
 IsSettled rules old new Spent = IsSameButBlocks old new × IsSearching (context_in rules) new
     × HasNext (context_in rules) new
@@ -92,6 +94,7 @@ abbrev pub HasNotedNew : RuleLists → ℕ → ℕ → List Entry → SeenSets �
 HasNotedNew rules at before entries old new =
     HasNoted at rules.table (facts_of (drop (min before (length entries - 1)) (items_of entries))) old new
 
+-- what is noted of the classes that a search has to do with, after each event
 abbrev pub IsNotedAfter : RuleLists → ProgressLists → ProgressLists → SeenSets → SeenSets → Event → Type 0
 IsNotedAfter rules p q old new Moved = HasNotedNew rules p.at (length p.entries) q.entries old new
 IsNotedAfter rules p q old new Saturated = new ≡ old
@@ -103,6 +106,7 @@ goes_on Moved = true
 goes_on Saturated = false
 goes_on (Closed r) = false
 
+-- the run ended since its steps were spent
 abbrev pub is_spent : End → Bool
 is_spent Spent = true
 is_spent RunSaturated = false

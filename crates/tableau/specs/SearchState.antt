@@ -43,6 +43,7 @@ question_of s = question_in s.rules.ontology (numbers_in s.rules) s.query
 abbrev pub context_of : SearchState → SearchContext
 context_of s = context_in s.rules
 
+-- the trail of a search
 abbrev pub trail_of : SearchState → List Item
 trail_of s = items_of s.entries
 

@@ -18,12 +18,15 @@ pub record SeenSets : Type 0 where
   pub at_node : Limited
   pub complements : Limited
 
+-- the class is noted
 abbrev pub holds : Limited → ℕ → Bool
 holds s a = set.contains s.members (a + 1)
 
+-- no class is noted
 abbrev pub no_classes : ℕ → Limited
 no_classes count = record { limit = count; members = set.empty }
 
+-- nothing is noted of classes yet
 abbrev pub nothing_seen : ℕ → SeenSets
 nothing_seen count = record { at_node = no_classes count; complements = no_classes count }
 

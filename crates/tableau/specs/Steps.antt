@@ -63,6 +63,7 @@ pub record Stays (old new : SearchState) : Type 0 where
   pub entries : new.entries ≡ old.entries
   pub steps : new.steps ≡ old.steps
 
+-- what a step of a search comes to, for each event
 abbrev pub IsEvent : SearchState → SearchState → Event → Type 0
 IsEvent old new Moved = Moves old new
 IsEvent old new Saturated = Stays old new × IsAtModel new
@@ -83,6 +84,7 @@ pub record IsSpent (fuel : ℕ) (old new : SearchState) : Type 0 where
   pub next : List Item
   pub is_legal : IsLegal (context_of new) (trail_of new) next
 
+-- what a run of a search comes to, for each end
 abbrev pub IsEnd : ℕ → SearchState → SearchState → End → Type 0
 IsEnd fuel old new RunSaturated = Runs old new × IsAtModel new
 IsEnd fuel old new (RunClosed r) = Runs old new × IsAtRefutation r new
