@@ -3,6 +3,7 @@ use Rattle.std.specs.Prelude.{ℕ, ◌<◌}
 use Rattle.shq_nnf.specs.Truth.{Interpretation, PlacesIndividuals}
 use Rattle.all_worlds.specs.Worlds.{World}
 
+-- an element of a finite interpretation: a number below its size
 pub record Element (size : ℕ) : Type 0 where
   pub number : ℕ
   pub below : number < size

@@ -27,6 +27,7 @@ pub record MeansTheSame (i : Interpretation) (placed : PlacesIndividuals i) : Ty
   pub queries : (q : Query)
       → IsSo (world_of i placed) q.sub q.sup q.on ↔ ((x : ℕ) → x < i.size → IsFalse (refutes_at i q x))
 
+-- a finite interpretation, taken as a world, means the same there
 abbrev pub FiniteInterpretationsAreWorlds : Type 0
 FiniteInterpretationsAreWorlds = (i : Interpretation) (placed : PlacesIndividuals i) → MeansTheSame i placed
 

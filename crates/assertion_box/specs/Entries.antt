@@ -10,12 +10,14 @@ use Rattle.assertion_box.specs.declared.given.Given.{Given}
 use Rattle.assertion_box.specs.declared.given.Given.TheVariants as G
 use Rattle.assertion_box.specs.Stated.{Stated}
 
+-- a fact that is kept, as the definitions see it
 abbrev pub kept_fact : Says → Fact Concept
 kept_fact (K.Member c a) = Has a c
 kept_fact (K.Pair r a b) = Edge r a b
 kept_fact (K.Same a b) = Same a b
 kept_fact (K.Differ a b) = Apart a b
 
+-- a fact that is kept, with its axiom and its place
 abbrev pub kept_stated : Entry → Stated
 kept_stated e = record { axiom_number = e.«axiom»; place = e.place; fact = kept_fact e.says }
 

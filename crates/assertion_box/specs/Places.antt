@@ -12,6 +12,7 @@ is_named_at a facts p = names a (stated_at facts p).fact
 abbrev pub places_to : ℕ → List Stated → ℕ → List ℕ
 places_to a facts n = filter (is_named_at a facts) (range_with_len 0 n)
 
+-- the places of the facts that name an individual
 abbrev pub places_of : ℕ → List Stated → List ℕ
 places_of a facts = places_to a facts (length facts)
 

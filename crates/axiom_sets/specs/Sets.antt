@@ -12,6 +12,7 @@ pub record Limited : Type 0 where
   pub limit : ℕ
   pub members : NumberSet
 
+-- sets with a limit can be coded, and read back
 abbrev pub limited_code : Coded Limited
 limited_code =
     code_by (ℕ × NumberSet) (coded× coded_ℕ (set.code coded_ℕ)) (λ s. (s.limit, s.members))

@@ -13,10 +13,12 @@ least_with first m bound (Edge r y z) = if nat_lt z first then bound else min bo
 least_with first m bound (Apart y z) = bound
 least_with first m bound (Same y z) = min (min bound (m y)) (m z)
 
+-- the least of a bound and the nodes of which an item says something new
 abbrev pub least_of_item : ℕ → (ℕ → ℕ) → ℕ → Item → ℕ
 least_of_item first m bound (Says f) = least_with first m bound f
 least_of_item first m bound (Mark c) = bound
 
+-- the least of a bound and the nodes of which some facts say something new
 abbrev pub least_touched : ℕ → (ℕ → ℕ) → ℕ → List (Fact ℕ) → ℕ
 least_touched first m bound [] = bound
 least_touched first m bound (f ∷ fs) = least_touched first m (least_with first m bound f) fs

@@ -18,6 +18,7 @@ pub record Printed : Type 0 where
   pub blocks : List Block
   pub known : List KnownNode
 
+-- nothing is kept of blocks yet
 abbrev pub no_prints : Printed
 no_prints = record { blocks = []; known = [] }
 

@@ -13,15 +13,19 @@ pub record KnownNode : Type 0 where
   pub may_block : Bool
   pub hint : Block
 
+-- what is known of a node: its label, whether it may block, and its block
 abbrev pub known_of : List ℕ → Bool → Block → KnownNode
 known_of label may_block hint = record { label = label; may_block = may_block; hint = hint }
 
+-- what is known of a node that was not looked at
 abbrev pub nothing_known : KnownNode
 nothing_known = known_of [] false Under
 
+-- what is known of a node
 abbrev pub known_at : List KnownNode → ℕ → KnownNode
 known_at ks z = get_or ks z nothing_known
 
+-- the number is one of these
 abbrev pub is_among : ℕ → List ℕ → Bool
 is_among c cs = list_any (λ d. d == c) cs
 
@@ -39,6 +43,7 @@ IsHint ks but x label (By y) =
     × ((z : ℕ) → z < y → is_among z but ≡ false → covers (known_at ks z) label ≡ false)
 IsHint ks but x label Under = Unit {0}
 
+-- what the hint at a node says of it, of all nodes but some
 abbrev pub IsHintAt : List KnownNode → List ℕ → ℕ → Type 0
 IsHintAt ks but x = IsHint ks but x (known_at ks x).label (known_at ks x).hint
 
@@ -75,6 +80,7 @@ pub record HintLists : Type 0 where
   pub prints : List (List ℕ)
   pub changed : List ℕ
 
+-- nothing is known of any node yet
 abbrev pub no_hints : HintLists
 no_hints = record { known = []; prints = []; changed = [] }
 

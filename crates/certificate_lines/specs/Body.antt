@@ -22,6 +22,7 @@ malformed_after_line n first rest (l ∷ ls) = elim (first l) [ None ↦ Some n 
 
 -- ---- a body
 
+-- the line is `end`
 abbrev pub is_end_line : List ℕ → Bool
 is_end_line line = bytes_eq line (codes "end")
 

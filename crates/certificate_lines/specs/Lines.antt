@@ -37,6 +37,7 @@ is_numeral word =
 abbrev pub small_value : List ℕ → Option ℕ
 small_value word = if nat_lt (digits_value 10 word) (2 ^ 32) then Some (digits_value 10 word) else None
 
+-- the number that a word is, where it is one below 2 to the power of 32
 abbrev pub number_in : List ℕ → Option ℕ
 number_in word = if is_numeral word then small_value word else None
 
@@ -45,5 +46,6 @@ abbrev pub is_bracketed : List ℕ → Bool
 is_bracketed word =
     nat_lt 1 (length word) && nat_eq (slice_index word 0) 60 && nat_eq (slice_index word (length word - 1)) 62
 
+-- the IRI between the brackets of a word
 abbrev pub iri_in : List ℕ → Option (List ℕ)
 iri_in word = if is_bracketed word then Some (take (length word - 2) (drop 1 word)) else None

@@ -28,6 +28,7 @@ is_word word = list_all (λ b. not (nat_eq b 32)) word
 abbrev pub is_line : List ℕ → Bool
 is_line line = list_all (λ b. not (nat_eq b 10)) line && not (nat_eq (slice_index line (length line - 1)) 13)
 
+-- words that are written as a line are read back
 abbrev pub WordsAreReadBack : Type 0
 WordsAreReadBack = (word : List ℕ) (more : List (List ℕ)) → IsTrue (list_all is_word (word ∷ more))
     → words (line_of word more) ≡ word ∷ more
@@ -36,8 +37,10 @@ WordsAreReadBack = (word : List ℕ) (more : List (List ℕ)) → IsTrue (list_a
 abbrev pub LinesAreReadBack : Type 0
 LinesAreReadBack = (ls : List (List ℕ)) → IsTrue (list_all is_line ls) → lines (text_of ls) ≡ ls ++ [] ∷ []
 
+-- a number that is written is read back
 abbrev pub NumbersAreReadBack : Type 0
 NumbersAreReadBack = (n : ℕ) → n < 2 ^ 32 → number_in (decimal n) ≡ Some n
 
+-- an IRI that is written between brackets is read back
 abbrev pub IrisAreReadBack : Type 0
 IrisAreReadBack = (name : List ℕ) → iri_in (60 ∷ name ++ 62 ∷ []) ≡ Some name

@@ -36,6 +36,7 @@ first_node (Edge r x y) = x
 first_node (Apart x y) = x
 first_node (Same x y) = x
 
+-- the second node of a fact, or its only one
 abbrev pub second_node : Fact ℕ → ℕ
 second_node (Has x c) = x
 second_node (Edge r x y) = y

@@ -26,6 +26,7 @@ abbrev pub item_of : Entry → Item
 item_of (Grounded f by) = Says f
 item_of (Mark c) = Marks c
 
+-- the items of some entries, in order
 abbrev pub items_of : List Entry → List Item
 items_of es = map item_of es
 

@@ -23,11 +23,13 @@ pub record CanBegin (q : Question) (table : List Shape) (rows : List Row) : Type
 abbrev pub HasRunsWithin : Question → List Shape → List Row → ℕ → Type 0
 HasRunsWithin q table rows bound = (k : ℕ) (trail : List Item) → IsReached q table rows k trail → k ≤ bound
 
+-- what is entailed follows in the world, where a search can begin and its runs are bounded
 abbrev pub EntailedFollowsIn : {d : Type 0} → World d → Type 0
 EntailedFollowsIn w = (o : Listed) (ks : List ℕ) (q : Query) (table : List Shape) (rows : List Row) (bound : ℕ)
     → IsInLimit o q → CanBegin (question_in o ks q) table rows → HasRunsWithin (question_in o ks q) table rows bound
     → Entails (named_axioms o.axioms ks) q → FollowsIn w (named_axioms o.axioms ks) q
 
+-- without individuals, what is entailed follows in the world, where a search can begin
 abbrev pub EntailedFollowsWithoutIndividualsIn : {d : Type 0} → World d → Type 0
 EntailedFollowsWithoutIndividualsIn w = (o : Listed) (ks : List ℕ) (q : Query) (table : List Shape) (rows : List Row)
     → length o.individuals ≡ 0 → IsInLimit o q → CanBegin (question_in o ks q) table rows

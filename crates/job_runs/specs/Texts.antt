@@ -13,6 +13,7 @@ abbrev pub query_text : List ℕ → List ℕ → List ℕ
 query_text job asked =
     if bytes_eq job (codes "entails") then asked else codes "SubClassOf(" ++ asked ++ codes " owl:Nothing)"
 
+-- the byte ends no line
 abbrev pub is_in_line : ℕ → Bool
 is_in_line byte = not (byte == 10)
 

@@ -36,6 +36,7 @@ abbrev pub IsOnBefore : ℕ → On → Type 0
 IsOnBefore i Any = ⊥
 IsOnBefore i (Individual a) = a < i
 
+-- the entry is a test on an individual before this one
 abbrev pub IsTestBefore : ℕ → Entry → Type 0
 IsTestBefore i (Test s q steps e) = IsOnBefore i q.on
 IsTestBefore i (Node s) = ⊥
@@ -69,6 +70,7 @@ abbrev pub IsKnownOn : List Limited → ℕ → Limited → Concept → TestEnd 
 IsKnownOn rows a types sup e Any = Unit {0}
 IsKnownOn rows a types sup e (Individual b) = (b ≡ a → IsNoted rows a types sup e) × (b < a + 1)
 
+-- the entry is a test of which it is known what it found: of all elements, or on an individual up to this one
 abbrev pub IsKnown : List Limited → ℕ → Limited → Entry → Type 0
 IsKnown rows a types (Test s q steps e) = IsKnownOn rows a types q.sup e q.on
 IsKnown rows a types (Node s) = ⊥
@@ -78,6 +80,7 @@ abbrev pub IsOnEarlier : ℕ → On → Type 0
 IsOnEarlier a Any = Unit {0}
 IsOnEarlier a (Individual b) = b < a
 
+-- the entry is a test on an earlier individual
 abbrev pub IsEarlier : ℕ → Entry → Type 0
 IsEarlier a (Test s q steps e) = IsOnEarlier a q.on
 IsEarlier a (Node s) = ⊥

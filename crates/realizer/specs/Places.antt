@@ -19,9 +19,11 @@ abbrev pub left_of : Concept → On → Place
 left_of sub Any = class_place sub
 left_of sub (Individual a) = individual_place a
 
+-- the left side of a query: a class, or an individual
 abbrev pub left_side : Query → Place
 left_side q = left_of q.sub q.on
 
+-- the right side of a query: a class
 abbrev pub right_side : Query → Place
 right_side q = class_place q.sup
 

@@ -46,6 +46,7 @@ abbrev pub type_lists : ℕ → Parthood → ℕ → Typing → List TypeLists
 type_lists count r individuals typed =
     map (λ a. record { individual = a; types = direct_types count r (typed a) }) (range_with_len 0 individuals)
 
+-- the realization: inconsistent where owl:Thing is part of owl:Nothing, and else the types of each individual
 abbrev pub types_of : ℕ → Parthood → ℕ → Typing → Types
 types_of count r individuals typed =
     if r count (count + 1) then Inconsistent else Consistent (type_lists count r individuals typed)
@@ -75,10 +76,12 @@ abbrev pub type_line : Listed → TypeLists → List ℕ
 type_line o t =
     line (codes "individual " ++ (individual_text o t.individual ++ (codes " types" ++ names_or_thing_text o t.types)))
 
+-- a line for each individual, in order
 abbrev pub type_lines : Listed → List TypeLists → List ℕ
 type_lines o [] = []
 type_lines o (t ∷ ts) = type_line o t ++ type_lines o ts
 
+-- the text of a realization
 abbrev pub realization_text : Listed → Types → List ℕ
 realization_text o Inconsistent = line (codes "inconsistent")
 realization_text o (Consistent ts) = line (codes "consistent") ++ type_lines o ts

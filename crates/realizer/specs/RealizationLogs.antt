@@ -20,6 +20,7 @@ abbrev pub IsInstanceTest : Listed → Concept → Entry → Type 0
 IsInstanceTest o c (Test s q steps e) = IsWhole o s × ((a : ℕ) × (a < length o.individuals) × (q ≡ instance_query c a))
 IsInstanceTest o c (Node s) = ⊥
 
+-- each entry is a test whether an individual is in the class expression
 abbrev pub AreInstanceTests : Listed → Concept → List Entry → Type 0
 AreInstanceTests o c log = All (IsInstanceTest o c) log
 
@@ -47,6 +48,7 @@ abbrev pub IsTypingTest : Listed → Entry → Type 0
 IsTypingTest o (Test s q steps e) = IsWhole o s × IsTypingQuery o q.sub q.sup q.on
 IsTypingTest o (Node s) = ⊥
 
+-- each entry is a test that a realization makes
 abbrev pub AreTypingTests : Listed → List Entry → Type 0
 AreTypingTests o log = All (IsTypingTest o) log
 
@@ -55,6 +57,7 @@ abbrev pub AsksNoPlaceChain : List Entry → Type 0
 AsksNoPlaceChain log = (place : ℕ) (s : Limited) (q : Query) (steps : ℕ) (e : TestEnd)
     → slice_get log place ≡ Some (Test s q steps e) → ¬ IsPlaceChain (take place log) (left_side q) (right_side q)
 
+-- an honest log of a realization: it keeps the budget, and asks nothing twice or for nothing
 pub record IsRealizationLog (o : Listed) (budget : ℕ) (log : List Entry) : Type 0 where
   pub budget_kept : IsHonestWithin o budget log
   pub tests : AreTypingTests o log

@@ -34,6 +34,7 @@ all_axioms axioms = map (λ n. n.axiom) axioms
 
 -- ---- the parts of the axioms of these numbers
 
+-- the parts of an axiom, where there is one
 abbrev pub parts_in : Option Numbered → List Part
 parts_in None = []
 parts_in (Some n) = axiom_parts n.axiom
@@ -48,6 +49,7 @@ numbered_parts k first [] = []
 numbered_parts k first (q ∷ qs) =
     record { axiom_number = k; part_number = first; part = q } ∷ numbered_parts k (first + 1) qs
 
+-- the parts of the axioms of some numbers, each with its numbers
 abbrev pub named_parts : List Numbered → List ℕ → List NumberedPart
 named_parts axioms [] = []
 named_parts axioms (k ∷ ks) = numbered_parts k 1 (parts_at axioms k) ++ named_parts axioms ks

@@ -30,6 +30,7 @@ ConceptsAreInClosure = (q : Question) (table : List Shape) (rows : List Row) (k 
 
 -- ---- marks
 
+-- how many marks stand in a trail
 abbrev pub mark_count : List Item → ℕ
 mark_count [] = 0
 mark_count (Says f ∷ is) = mark_count is
@@ -57,6 +58,7 @@ pub record AreFewOfEach (c v f : ℕ) (n : StepCounts) : Type 0 where
   pub joining : n.joining ≤ v
   pub parting : n.parting ≤ v * v
 
+-- a trail keeps few steps of each kind, by its nodes, its concepts and the given facts
 abbrev pub FewOfEachKind : Type 0
 FewOfEachKind =
     (q : Question) (cs : List Concept) (facts : List (Fact Concept)) (table : List Shape) (rows : List Row) (k : ℕ)
@@ -75,6 +77,7 @@ FewStepsAtFirst =
     → IsClosure q cs → HasFacts q facts → IsReached q table rows k trail → AreAtFirst trail
     → k ≤ node_count_from q.first (facts_of trail) * (length cs + 2) + length facts
 
+-- a trail has few marks, by its nodes and the concepts of the closure
 abbrev pub FewMarks : Type 0
 FewMarks = (q : Question) (cs : List Concept) (table : List Shape) (rows : List Row) (k : ℕ) (trail : List Item)
     → IsClosure q cs → IsReached q table rows k trail
@@ -108,6 +111,7 @@ abbrev pub is_at : ℕ → Option ℕ → Bool
 is_at x None = false
 is_at x (Some p) = p == x
 
+-- how many nodes have this one as their parent
 abbrev pub children : ℕ → List (Fact ℕ) → ℕ → ℕ
 children first fs x = count_below (node_count_from first fs) (λ z. is_at x (parent_from first fs z))
 
@@ -149,6 +153,7 @@ pub record IsBounded (n : ℕ) (axioms : List Numbered) (ks : List ℕ) (q : Que
       ≤ node_count_from (n + 1) (facts_of trail)
       * (node_count_from (n + 1) (facts_of trail) + length (closure_of n axioms ks q) + 1)
 
+-- a run of legal steps is no longer than a number that axioms and query give
 abbrev pub LegalRunsAreBounded : Type 0
 LegalRunsAreBounded =
     (n : ℕ) (axioms : List Numbered) (ks : List ℕ) (q : Query) (table : List Shape) (rows : List Row) (k : ℕ)

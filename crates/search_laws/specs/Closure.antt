@@ -73,6 +73,7 @@ node_bound c g = (c * g + 1) ^ (2 ^ c + 2)
 abbrev pub steps_below : ℕ → ℕ → ℕ → ℕ
 steps_below b m c = (b + 1) ^ (m * (m + c + 2))
 
+-- a bound of the steps of a search, by the concepts of its closure
 abbrev pub step_bound : List Concept → ℕ
 step_bound cs = steps_below (most_parts cs) (node_bound (length cs) (most_made cs)) (length cs)
 

@@ -29,9 +29,11 @@ others_of [] = [] ∷ []
 others_of (c ∷ cs) =
     if is_name c then map (λ ds. c ∷ ds) (others_of cs) ++ others_of cs else map (λ ds. c ∷ ds) (others_of cs)
 
+-- what remains of an inclusion: the right side, or the complement of one of the other conjuncts
 abbrev pub row_of_others : Concept → List Concept → Concept
 row_of_others right others = or_of (map negated_form others ++ right ∷ [])
 
+-- the concepts that a part of an axiom may give to a node
 abbrev pub part_concepts : Part → List Concept
 part_concepts (inclusion cs d) = map (row_of_others d) (others_of cs)
 part_concepts (range r d) = d ∷ []
@@ -84,18 +86,22 @@ pub record IsMember (q : Question) (c : Concept) : Type 0 where
 
 -- ---- the closure
 
+-- the concepts with which the closure begins: those of the query, of the parts and of the given facts
 abbrev pub roots : Question → List Concept → List Concept
 roots q members =
     top ∷ normal_form q.sub ∷ negated_form q.sup ∷ (flat_map (λ n. part_concepts n.part) q.theory.parts ++ members)
 
+-- the greatest role depth of some concepts
 abbrev pub deepest : List Concept → ℕ
 deepest [] = 0
 deepest (c ∷ cs) = max (role_depth c) (deepest cs)
 
+-- the concepts, each once
 abbrev pub each_once : List Concept → List Concept
 each_once [] = []
 each_once (c ∷ cs) = if list_any (is_same c) cs then each_once cs else c ∷ each_once cs
 
+-- the closure of a question, as a list
 abbrev pub closure : Question → List ℕ → List Concept → List Concept
 closure q ts members = each_once (flat_map (given ts (deepest (roots q members))) (roots q members))
 
@@ -109,6 +115,7 @@ ClosureIsComputed = (q : Question) (ts : List ℕ) (members : List Concept)
 
 -- ---- of axioms
 
+-- the roles that axioms make transitive
 abbrev pub transitive_roles : List RoleAxiom → List ℕ
 transitive_roles [] = []
 transitive_roles (Transitivity r ∷ axioms) = r ∷ transitive_roles axioms
@@ -135,5 +142,6 @@ pub record IsComputed (n : ℕ) (axioms : List Numbered) (ks : List ℕ) (q : Qu
   pub facts : HasFacts (question_of n axioms ks q) (given_facts n axioms ks)
   pub concepts : IsClosure (question_of n axioms ks q) (closure_of n axioms ks q)
 
+-- the closure of axioms and a query is the list that is computed of them
 abbrev pub ClosureOfAxiomsIsComputed : Type 0
 ClosureOfAxiomsIsComputed = (n : ℕ) (axioms : List Numbered) (ks : List ℕ) (q : Query) → IsComputed n axioms ks q

@@ -45,6 +45,7 @@ pub record AreFew (first : ℕ) (fs : List (Fact ℕ)) : Type 0 where
   pub is_some : 1 ≤ length (elements first fs)
   pub not_more : length (elements first fs) ≤ count_below (node_count_from first fs) (λ x. rep fs x == x)
 
+-- where there is a first node, there is an element, and there are at most as many as representatives
 abbrev pub ElementsAreFew : Type 0
 ElementsAreFew = (first : ℕ) (fs : List (Fact ℕ)) → 0 < first → AreFew first fs
 
@@ -54,6 +55,7 @@ pub record IsOneWithElement (first : ℕ) (fs : List (Fact ℕ)) (x : ℕ) : Typ
   pub is_its : IsNumberOf first fs x number
   pub is_like_itself : original first fs (rep fs x) ≡ rep fs x
 
+-- each of the first nodes is one with an element
 abbrev pub FirstNodesAreElements : Type 0
 FirstNodesAreElements = (first : ℕ) (fs : List (Fact ℕ)) (x : ℕ) → x < first → IsOneWithElement first fs x
 

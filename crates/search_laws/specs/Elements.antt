@@ -11,6 +11,7 @@ use Rattle.tableau_specs.specs.declared.Block.{Block}
 use Rattle.tableau_specs.specs.declared.Block.TheVariants.{Clear, By, Under}
 use Rattle.tableau_specs.specs.Blocked.{block_of}
 
+-- the node is not under a blocked node
 abbrev pub is_above : Block → Bool
 is_above Clear = true
 is_above (By z) = true
@@ -42,6 +43,7 @@ place_in (x ∷ xs) y = if x == y then 0 else place_in xs y + 1
 abbrev pub number_at : ℕ → List (Fact ℕ) → ℕ → ℕ
 number_at first fs x = place_in (elements first fs) (rep fs x)
 
+-- the node itself, or the one by which it is blocked
 abbrev pub original_by : Block → ℕ → ℕ
 original_by Clear x = x
 original_by (By z) x = z

@@ -36,25 +36,31 @@ pub record StepCounts : Type 0 where
   -- set two nodes apart
   pub parting : ℕ
 
+-- no step of any kind
 abbrev pub no_steps : StepCounts
 no_steps = record { adding = 0; giving = 0; making = 0; joining = 0; parting = 0 }
 
+-- one step more that adds a concept to a node
 abbrev pub one_adding : StepCounts → StepCounts
 one_adding n =
     record { adding = n.adding + 1; giving = n.giving; making = n.making; joining = n.joining; parting = n.parting }
 
+-- one step more that takes a given fact
 abbrev pub one_giving : StepCounts → StepCounts
 one_giving n =
     record { adding = n.adding; giving = n.giving + 1; making = n.making; joining = n.joining; parting = n.parting }
 
+-- one step more that makes new nodes
 abbrev pub one_making : StepCounts → StepCounts
 one_making n =
     record { adding = n.adding; giving = n.giving; making = n.making + 1; joining = n.joining; parting = n.parting }
 
+-- one step more that joins two nodes
 abbrev pub one_joining : StepCounts → StepCounts
 one_joining n =
     record { adding = n.adding; giving = n.giving; making = n.making; joining = n.joining + 1; parting = n.parting }
 
+-- one step more that puts two nodes apart
 abbrev pub one_parting : StepCounts → StepCounts
 one_parting n =
     record { adding = n.adding; giving = n.giving; making = n.making; joining = n.joining; parting = n.parting + 1 }
@@ -66,6 +72,7 @@ one_choosing (Edge r x y) n = n
 one_choosing (Apart y z) n = one_parting n
 one_choosing (Same y z) n = one_joining n
 
+-- how many steps of each kind a trail keeps
 abbrev pub step_counts : (w : SearchContext) (first : List Item) (ds : List ℕ) (trail : List Item)
     → IsGrown w first ds trail → StepCounts
 step_counts w first ds trail at_first = no_steps

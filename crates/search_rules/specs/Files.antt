@@ -19,6 +19,7 @@ use Rattle.search_rules.specs.RuleLists.{RuleLists, theory_in}
 abbrev pub plain_of : Row → PlainRow
 plain_of r = record { «axiom» = r.«axiom»; part = r.part; gives = r.concept }
 
+-- the positions of the names that a trigger waits for
 abbrev pub positions_of : Trigger → List ℕ
 positions_of (Names positions) = positions
 positions_of _ = []
@@ -48,6 +49,7 @@ waits_for Begin (Edge role) = true
 waits_for Finish (End role) = true
 waits_for _ _ = false
 
+-- the row as a list of one, where the condition holds
 abbrev pub row_if : Bool → Row → List PlainRow
 row_if true r = plain_of r ∷ []
 row_if false r = []
@@ -70,6 +72,7 @@ edge_rows below p lists r = rows_among below p lists (keys_of lists) r
 
 -- ---- all of them
 
+-- the rows of the rules, by what they wait for
 abbrev pub files_in : RuleLists → Files
 files_in r = record {
   general = map plain_of r.filed.general;

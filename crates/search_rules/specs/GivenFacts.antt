@@ -54,5 +54,6 @@ edge_into x (Has y c) = []
 edge_into x (Apart y z) = []
 edge_into x (Same y z) = []
 
+-- the given edges that lead into a node
 abbrev pub edges_into : ℕ → List Given → List (ℕ × ℕ)
 edges_into x gs = flat_map (λ g. edge_into x g.fact) gs

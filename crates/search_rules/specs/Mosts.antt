@@ -5,6 +5,7 @@ use Rattle.calculus_specs.specs.Shape.{Shape, shape_of}
 use Rattle.calculus_specs.specs.Shape.Shape.{at_most}
 use Rattle.step_finders.specs.Clashing.{IsMost}
 
+-- the filler of a shape 'at most'
 abbrev pub filler_of_most : Shape → Option ℕ
 filler_of_most (at_most n s e) = Some e
 filler_of_most _ = None

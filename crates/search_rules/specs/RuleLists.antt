@@ -31,6 +31,7 @@ pub record RuleLists : Type 0 where
 abbrev pub numbers_in : RuleLists → List ℕ
 numbers_in r = member_list r.set
 
+-- the theory of the axioms of the rules
 abbrev pub theory_in : RuleLists → Theory
 theory_in r = theory_of r.ontology.axioms (numbers_in r)
 

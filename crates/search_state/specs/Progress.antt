@@ -78,6 +78,7 @@ pub record IsAsked (w : SearchContext) (q : Query) (at sub not_sup : ℕ) : Type
   pub not_sup_listed : not_sup < length w.table
   pub not_sup_is : tree_of w.table not_sup ≡ negated_form q.sup
 
+-- the search is still for the same query, from the same nodes and numbers
 pub record IsSameQuery (old new : ProgressLists) : Type 0 where
   pub query : new.query ≡ old.query
   pub at : new.at ≡ old.at
@@ -113,6 +114,7 @@ abbrev pub IsClashOf : SearchContext → List (Fact ℕ) → Option Clash → Ty
 IsClashOf w fs None = ¬ IsPlainClash w.first (below_of w) w.table fs
 IsClashOf w fs (Some clash) = IsShown w fs clash
 
+-- the search stands where its trail says, and a plain clash is known exactly where there is one
 pub record IsSearching (w : SearchContext) (s : ProgressLists) : Type 0 where
   pub standing : IsStanding w s
   pub clash : IsClashOf w (facts_in s.entries) s.clash

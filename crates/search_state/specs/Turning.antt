@@ -52,6 +52,7 @@ pub record IsClosing (w : SearchContext) (s : ProgressLists) : Type 0 where
   pub closes : leaves (step_of (asked_by w s) w.table) (start_of (asked_by w s) ∷ []) s.trace.lines ≡ Some []
   pub fit : All (IsFitLine w s.sub s.not_sup) s.trace.lines
 
+-- where a search is after going back: at a branching that turns, or closing
 abbrev pub HasGoneBack : SearchContext → ProgressLists → Back → Type 0
 HasGoneBack w s (Turned mark marks) = IsTurning w s mark marks
 HasGoneBack w s Closed = IsClosing w s

@@ -12,6 +12,7 @@ use Rattle.tableau_specs.specs.Lines.{concept_in}
 use Rattle.search_trace.specs.Premises.{Added, Rule, rule_of}
 use Rattle.search_trace.specs.Trail.{Puts}
 
+-- the rule line of a choice
 abbrev pub branch_line : Branch → Line
 branch_line (Or x c) = or_line x c
 branch_line (Choose y c) = choose_line y c
@@ -31,6 +32,7 @@ pub record IsPut (q : Question) (table : List Shape) (b : Branch) (k : ℕ) (f :
   pub is_child : slice_get rule.children k ≡ Some added
   pub puts : Puts q.first table added (f ∷ [])
 
+-- each alternative of a choice is put: the child of the line in its place adds its fact
 abbrev pub AlternativesArePut : Type 0
 AlternativesArePut = (q : Question) (table : List Shape) → IsTable table → (b : Branch) → HasShape table b
     → (k : ℕ) (f : Fact ℕ) → IsAlternative table b (k + 1) f → IsPut q table b k f

@@ -21,6 +21,7 @@ pub record Branching : Type 0 where
   pub taken : Added
   pub rest : List Added
 
+-- the frames of the open branchings
 abbrev pub frames_of : List Branching → List (Frame Noted NotedLine)
 frames_of bs = map (λ b. b.frame) bs
 
@@ -36,6 +37,7 @@ marks_in b = marks_given b.frame.branching
 abbrev pub child_by : Branching → Added → Noted
 child_by b a = noted_added (marks_in b) b.frame.at a
 
+-- the number is the mark of one of the open branchings
 abbrev pub is_mark : List Branching → ℕ → Bool
 is_mark bs m = list_any (λ b. mark_of b == m) bs
 

@@ -20,6 +20,7 @@ abbrev pub IsRule : Question → List Shape → Line → List Premise → List A
 IsRule q table line premises children =
     rule_of q (concept_in table) line ≡ Some (record { premises = premises; children = children })
 
+-- what each rule line asks for and adds, by the shape of its concept
 pub record RulesByShape (q : Question) (table : List Shape) : Type 0 where
   pub by_and : (x c : ℕ) (parts : List ℕ) → c < length table → shape_of table c ≡ intersection parts
       → IsRule q table (and_line x c) (is_node x ∷ has_concept x (tree_of table c) ∷ [])

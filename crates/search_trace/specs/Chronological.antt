@@ -25,9 +25,11 @@ facts_after u [] = []
 facts_after u (Says f ∷ is) = marked u f ∷ facts_after u is
 facts_after u (Mark c ∷ is) = facts_after (sets.insert u c.line) is
 
+-- the set of all choices of a trail
 abbrev pub choices_of : List Item → NumberSet
 choices_of is = choices_after sets.empty is
 
+-- the facts of a trail, each with the choices before it
 abbrev pub marked_facts : List Item → List MarkedFact
 marked_facts is = facts_after sets.empty is
 

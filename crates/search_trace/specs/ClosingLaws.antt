@@ -76,6 +76,7 @@ pub record TraceSteps (q : Question) (table : List Shape) (start : Noted) (lines
   pub open_places : (left : List Noted) × (now : Noted)
       × (leaves (step_of q table) (start ∷ []) lines ≡ Some (now ∷ left))
 
+-- where a trace is right, it is right after each step
 abbrev pub StepsAreTraced : Type 0
 StepsAreTraced = (q : Question) (table : List Shape) (start : Noted) (lines : List NotedLine) (ps : List Place)
     (ms : List MarkedFact)
@@ -93,6 +94,7 @@ pub record ClosingSteps (q : Question) (table : List Shape) (start : Noted) (lin
       → IsTraced q table start lines (turned_place p lines u rest ∷ ps)
       (p.facts ++ map (marked (sets.insert p.marks p.mark)) new)
 
+-- once the open child of the latest branching is closed, going back may do with it what it does
 abbrev pub ClosingGoesBack : Type 0
 ClosingGoesBack = (q : Question) (table : List Shape) (start : Noted) (lines : List NotedLine) (p : Place)
     (ps : List Place) (u : NumberSet)
@@ -140,6 +142,7 @@ pub record KnowsNodes (first : ℕ) (u : NumberSet) (ms : List MarkedFact) : Typ
   pub edge : (roles : ℕ → Bool) (x y : ℕ) → has_edge (within u ms) roles x y ≡ true
       → (is_known_within first u ms x ≡ true) × (is_known_within first u ms y ≡ true)
 
+-- where facts are grounded, the nodes of each are known by its own marks
 abbrev pub GroundedFactsKnow : Type 0
 GroundedFactsKnow = (first : ℕ) (u : NumberSet) (ms : List MarkedFact) → AreGrounded first ms → KnowsNodes first u ms
 

@@ -8,6 +8,7 @@ use Rattle.search_trace.specs.declared.opens.OpenBranching.{OpenBranching}
 use Rattle.search_trace.specs.Lines.{stays}
 use Rattle.search_trace.specs.Trace.{noted, ArePlaced, whole_marks, GoneBack, gone_back}
 
+-- the branching stands before its child, and that among the first n lines
 abbrev pub IsPlaced : ℕ → OpenBranching → Type 0
 IsPlaced n o = (o.at ≤ o.child) × (o.child ≤ n)
 
@@ -50,6 +51,7 @@ turns_at o u = sets.contains u o.mark && not (o.left == 0)
 abbrev pub passed_marks : OpenBranching → NumberSet → NumberSet
 passed_marks o u = if sets.contains u o.mark then whole_marks o u else u
 
+-- going back finds a branching at which the search turns
 abbrev pub turns : List OpenBranching → NumberSet → Bool
 turns [] u = false
 turns (o ∷ os) u = if turns_at o u then true else turns os (passed_marks o u)

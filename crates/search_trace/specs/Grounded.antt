@@ -22,5 +22,6 @@ is_known_within first u ms x = list_any (λ y. y == x) (within u (nodes_of first
 abbrev pub is_grounded : ℕ → List MarkedFact → MarkedFact → Bool
 is_grounded first ms m = list_all (is_known_within first m.marks ms) (named m.item)
 
+-- the nodes of each fact are known by what rests on its own marks
 abbrev pub AreGrounded : ℕ → List MarkedFact → Type 0
 AreGrounded first ms = list_all (is_grounded first ms) ms ≡ true

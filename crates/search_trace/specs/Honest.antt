@@ -25,6 +25,7 @@ pub record Tracing : Type 0 where
 abbrev pub trace_of : Tracing → List NotedLine
 trace_of t = lines_of (frames_of t.branchings) ++ t.lines
 
+-- the state of a trace is honest: its lines lead to the branch that is open, which has the facts of the trail
 pub record IsHonest (q : Question) (table : List Shape) (start : Noted) (t : Tracing) : Type 0 where
   pub are_open : AreBranchings q table start t.branchings
   pub singles : list_all (λ l. is_single l.line) t.lines ≡ true

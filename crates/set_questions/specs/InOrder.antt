@@ -4,6 +4,7 @@ use Rattle.std.specs.List.{Contains}
 use Rattle.std.specs.declared.cmp.Ordering.TheVariants.{Less, Greater}
 use Rattle.pinpointing_specs.specs.Sets.{Limited, list_cmp}
 
+-- all of the sets have the same limit
 abbrev pub HaveOneLimit : List Limited → Type 0
 HaveOneLimit sets = (s t : Limited) → Contains sets s → Contains sets t → s.limit ≡ t.limit
 

@@ -11,6 +11,7 @@ use Rattle.set_questions.specs.declared.antichain.Kind.TheVariants.{Minimal, Max
 abbrev pub kind_of : Antichain → Kind
 kind_of chain = chain.kind
 
+-- the sets that are kept
 abbrev pub kept_sets : Antichain → List Limited
 kept_sets chain = chain.sets.items
 

@@ -3,6 +3,7 @@ use Rattle.std.specs.Prelude.{◌≡◌, ◌⊎◌, ℕ, ◌+◌, ◌-◌, ◌^�
 use Rattle.lane_sieve.specs.Sets.{NumberSet, IsPart}
 use Rattle.pinpointing_specs.specs.Sets.{Limited}
 
+-- what an object that answers questions about sets means
 pub record Meaning : Type 1 where
   -- the greatest number
   pub size : ℕ

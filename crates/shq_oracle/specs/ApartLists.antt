@@ -44,6 +44,7 @@ pub record IsAbout (o : Listed) (s : Limited) (sub : Concept) (a : ApartLists) :
 abbrev pub query_of : ApartLists → ℕ → Query
 query_of a class = record { sub = a.sub; sup = name class; on = Any }
 
+-- the entry of a log for what the search shows of a class
 abbrev pub entry_of : ApartLists → ℕ → Entry
 entry_of a class = Test a.set (query_of a class) a.steps No
 

@@ -145,6 +145,7 @@ pub record IsTested (o : Listed) (s : Limited) (q : Query) (fuel : ℕ) (t : Tes
 abbrev pub IsFoundBy : SearchState → ℕ → Found → Type 0
 IsFoundBy s fuel f = IsFound s.rules.ontology s.rules.set s.query fuel f
 
+-- the test is that of the search's own set and query
 abbrev pub IsTestedBy : SearchState → ℕ → Tested → Type 0
 IsTestedBy s fuel t = IsTested s.rules.ontology s.rules.set s.query fuel t
 

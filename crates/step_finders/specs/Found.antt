@@ -26,6 +26,7 @@ pub record AreCarries (w : SearchContext) (s e : ℕ) (pairs : List (ℕ × ℕ)
   pub every : (t : ℕ) → w.theory.is_transitive t ≡ true → w.theory.below t s ≡ true
       → list_any (λ p. p.0 == t) pairs ≡ true
 
+-- the pairs are those to which a shape 'all' is carried
 abbrev pub AreCarriesOf : SearchContext → Shape → List (ℕ × ℕ) → Type 0
 AreCarriesOf w (all_of s e) pairs = AreCarries w s e pairs
 AreCarriesOf w _ pairs = Unit {0}
@@ -76,6 +77,7 @@ PlainHolds fs x u = has fs x u.gives ≡ true
 pub record NamedHold (fs : List (Fact ℕ)) (x : ℕ) (u : NamedRow) : Type 0 where
   pub holds : list_all (has fs x) u.waits ≡ true → has fs x u.gives ≡ true
 
+-- the node has all names that a row waits for, and lacks what the row gives
 pub record NamedLacks (fs : List (Fact ℕ)) (x : ℕ) (u : NamedRow) : Type 0 where
   pub waits : list_all (has fs x) u.waits ≡ true
   pub lacks : has fs x u.gives ≡ false
@@ -101,6 +103,7 @@ pub record EdgeHolds (files : Files) (fs : List (Fact ℕ)) (x r y : ℕ) : Type
   pub at_begin : All (PlainHolds fs x) (files.begins r)
   pub at_end : All (PlainHolds fs y) (files.ends r)
 
+-- what the rows ask of edges is so at each edge from the node
 pub record EdgesHold (files : Files) (fs : List (Fact ℕ)) (x : ℕ) : Type 0 where
   pub at_edges : (r y : ℕ) → is_successor fs (λ q. q == r) x y ≡ true → EdgeHolds files fs x r y
 

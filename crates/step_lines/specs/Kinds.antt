@@ -25,6 +25,7 @@ abbrev pub part_count : Shape → ℕ
 part_count (union parts) = length parts
 part_count _ = 0
 
+-- how many alternatives a choice has
 abbrev pub alternative_count : List Shape → Branch → ℕ
 alternative_count table (Or x c) = part_count (shape_of table c)
 alternative_count table (Choose y c) = 2

@@ -93,6 +93,7 @@ branch_nodes (Or x c) = x ∷ []
 branch_nodes (Choose y c) = y ∷ []
 branch_nodes (Pair y z) = y ∷ z ∷ []
 
+-- each alternative of a choice speaks of the nodes of the choice
 abbrev pub AlternativesSpeakOfNodes : Type 0
 AlternativesSpeakOfNodes = (table : List Shape) (b : Branch) (n : ℕ) (f : Fact ℕ) → IsAlternative table b n f
     → named f ≡ branch_nodes b

@@ -9,6 +9,7 @@ pub record Matrix : Type 0 where
   pub size : ℕ
   pub rows : List Limited
 
+-- relations can be coded, and read back
 abbrev pub matrix_code : Coded Matrix
 matrix_code =
     code_by (ℕ × List Limited) (coded× coded_ℕ (coded_list limited_code)) (λ m. (m.size, m.rows))
@@ -18,6 +19,7 @@ matrix_code =
 abbrev pub no_row : Limited
 no_row = record { limit = 0; members = set.empty }
 
+-- the set of numbers to which a number is related
 abbrev pub row_in : List Limited → ℕ → Limited
 row_in rows x = slice_index_or rows x no_row
 

@@ -9,6 +9,7 @@ pub record Rows : Type 0 where
   pub count : ℕ
   pub above : Matrix
 
+-- relations on the classes of an ontology can be coded, and read back
 abbrev pub rows_code : Coded Rows
 rows_code =
     code_by (ℕ × Matrix) (coded× coded_ℕ matrix_code) (λ r. (r.count, r.above))

@@ -6,5 +6,6 @@ use Rattle.subsumption.specs.declared.told.Inclusion.{Inclusion}
 abbrev pub IsOf : ℕ → Inclusion → Type 0
 IsOf classes i = (i.sub < classes) × (i.sup < classes)
 
+-- each of the inclusions is of classes below the count
 abbrev pub AreOf : ℕ → List Inclusion → Type 0
 AreOf classes told = All (IsOf classes) told

@@ -46,12 +46,14 @@ pub record AreWritable (o : Listed) : Type 0 where
   pub roles : AreNames o.roles
   pub individuals : AreNames o.individuals
 
+-- with the names that a query brings, the names of a document can still be written
 abbrev pub QueriesListNames : Type 0
 QueriesListNames =
     (text : List ℕ) (o : Listed) (kept : DocumentContext) (end : ℕ) → IsDocument text o kept end
     → (query : List ℕ) (after : Counts) (q : Query)
     → IsQuery kept.prefixes o.axioms (query_start o kept.nodes) query after q → AreWritable (with_names o after)
 
+-- with the names that a class expression brings, the names of a document can still be written
 abbrev pub ClassesListNames : Type 0
 ClassesListNames =
     (text : List ℕ) (o : Listed) (kept : DocumentContext) (end : ℕ) → IsDocument text o kept end
@@ -72,6 +74,7 @@ QueriesStayInLimit =
     (ps : List Prefix) (o : Listed) (nodes : ℕ) (query : List ℕ) (after : Counts) (q : Query) → IsOntologyInLimit o
     → IsQuery ps o.axioms (query_start o nodes) query after q → IsInLimit (with_names o after) q
 
+-- an ontology in limit stays so with a class expression that is read on it
 abbrev pub ClassesStayInLimit : Type 0
 ClassesStayInLimit =
     (ps : List Prefix) (o : Listed) (nodes : ℕ) (class : List ℕ) (after : Counts) (c : Concept) → IsOntologyInLimit o

@@ -61,6 +61,7 @@ is_named bottom = true
 is_named (name a) = true
 is_named _ = false
 
+-- how many brackets are open at once in the text of an axiom
 abbrev pub axiom_brackets : Axiom → ℕ
 axiom_brackets (SubClassOf c d) = max (brackets c) (brackets d) + 1
 axiom_brackets (EquivalentClasses cs) = most_brackets (parts_of cs) + 1

@@ -34,6 +34,7 @@ pub record IsDocumentOf (text : List ℕ) (o : Listed) : Type 0 where
   pub individuals : read.individuals ≡ o.individuals
   pub axioms : axioms_of read.axioms ≡ axioms_of o.axioms
 
+-- the text of an ontology that can be written is a document of it
 abbrev pub WrittenOntologiesAreRead : Type 0
 WrittenOntologiesAreRead = (o : Listed) → CanBeWritten o → IsDocumentOf (ontology_text o) o
 
@@ -61,6 +62,7 @@ EqualTextsSayTheSame = (o p : Listed) → CanBeWritten o → CanBeWritten p → 
 
 -- ---- class expressions and queries
 
+-- the IRI that the prefix `owl:` stands for
 abbrev pub owl_iri : List ℕ
 owl_iri = codes "http://www.w3.org/2002/07/owl#"
 
