@@ -68,6 +68,7 @@ pub record IsShown (may_block : Bool) (label : List ℕ) (print : List ℕ) : Ty
   pub shows : may_block ≡ true → (c : ℕ) → is_among c label ≡ true
       → set.contains (number_set print) (c % 256) ≡ true
 
+-- the print of each node that is known shows its label, where the node may block others
 abbrev pub AreShown : List KnownNode → List (List ℕ) → Type 0
 AreShown ks prints =
     (z : ℕ) → z < length ks → IsShown (known_at ks z).may_block (known_at ks z).label (get_or prints z [])
