@@ -1,17 +1,24 @@
-//! The decision whether axioms entail a query, with evidence and within a budget.
+//! Answers whether a query follows from a set of an ontology's axioms, within a budget of steps, and logs each answer.
 //!
-//! An [`Oracle`] stands on the search of a tableau for SHQ. Each question is one test: a search whose fuel is what is
-//! left of the budget. Where the query follows, the answer is a refutation that a checker accepts; where it does not,
-//! it is a finite counter-model (SHQ has the finite model property); and else the whole budget was spent on legal
-//! steps. Who needs no evidence asks for the outcome alone, and no model is made. Each test leaves one entry in the
-//! log, which says of which set and query it was, how many steps it took and how it ended, and this is so.
+//! An [`Oracle`] holds an ontology, a budget and a log. It answers a query by one test: a tableau search that makes at
+//! most as many steps as are left of the budget. A test ends in one of three ways. If the query follows, the answer is
+//! a refutation. If it does not follow, the answer is a finite interpretation in which the axioms hold and the query
+//! fails; there always is one, since SHQ has the finite model property. If the search has spent what was left of the
+//! budget before either was found, the answer is [`Answer::Undecided`]. A caller who needs no evidence calls
+//! [`Oracle::test`], which runs the same search and builds no interpretation.
 //!
-//! A search whether anything is in a class mostly shows of many other classes that the first is no part of them. What
-//! it shows is an [`Apart`], by which an oracle appends honest tests without searching again, each with the steps of
-//! that search (the pseudo-models of Haarslev, Möller and Turhan, "Exploiting Pseudo Models for TBox and ABox Reasoning
-//! in Expressive Description Logics", 2001).
+//! Each test appends one entry to the log: the set, the query, the number of steps, and how the test ended. The
+//! contracts say that each entry is honest: what it says to follow from the set follows, what it says not to follow does
+//! not, and that many legal steps of the calculus decide it. [`Oracle::take_node`] takes one unit of the budget for a
+//! node of a hitting-set tree, and logs that too.
 //!
-//! All that a search needs of the axioms alone is made once, and kept until another set is asked.
+//! A search that finds a member of a class expression mostly shows as well that the expression is no subclass of many
+//! named classes. [`Oracle::test_apart`] returns these classes as an [`Apart`]. For each of them [`Oracle::note_apart`]
+//! appends the entry of a test without searching again, and charges the budget the steps of the search that showed it
+//! (the pseudo-models of Haarslev, Möller and Turhan, "Exploiting Pseudo Models for TBox and ABox Reasoning in
+//! Expressive Description Logics", 2001).
+//!
+//! What a search derives from the axioms alone is computed once and kept until a query about another set is asked.
 #![tactic(auto)]
 
 mod answer;
