@@ -8,9 +8,9 @@
 //! [`Oracle::test`], which runs the same search and builds no interpretation.
 //!
 //! Each test appends one entry to the log: the set, the query, the number of steps, and how the test ended. The
-//! contracts say that each entry is honest: what it says to follow from the set follows, what it says not to follow does
-//! not, and that many legal steps of the calculus decide it. [`Oracle::take_node`] takes one unit of the budget for a
-//! node of a hitting-set tree, and logs that too.
+//! contracts say that each entry is honest: the query follows from the set, or does not, as the entry says, and that
+//! many legal steps of the calculus decide it. [`Oracle::take_node`] takes one unit of the budget for a node of a
+//! hitting-set tree, and logs that too.
 //!
 //! A search that finds a member of a class expression mostly shows as well that the expression is no subclass of many
 //! named classes. [`Oracle::test_apart`] returns these classes as an [`Apart`]. For each of them [`Oracle::note_apart`]
