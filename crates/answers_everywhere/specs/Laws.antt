@@ -52,6 +52,7 @@ pub record IsOfNames (o : Listed) (q : Query) : Type 0 where
   pub sup : is_listed_class (length o.classes) q.sup ≡ true
   pub on : is_on_listed (length o.individuals) q.on ≡ true
 
+-- each query of listed names on a document that is read is one of the world
 abbrev pub NamesAreOfWorld : {d : Type 0} → World d → Type 0
 NamesAreOfWorld w = (bytes : List ℕ) (o : Listed) (kept : DocumentContext) (end : ℕ) → IsDocument bytes o kept end
     → (q : Query) → IsOfNames o q → IsOfWorld w o.axioms q
