@@ -2,6 +2,7 @@
 import shlex
 
 from shq_tools.budgets import FIRST, MOST, budget_in
+from shq_tools.messages import seconds_text
 from shq_tools.words import without_budget
 
 NO_MORE = "and no more can be allowed"
@@ -41,5 +42,5 @@ def hint_on_seconds(question, known, seconds):
     if known.budget >= MOST:
         return f"undecided: the greatest budget, {MOST:,} steps, is spent, {NO_MORE}"
     spent = f"with a budget of {known.budget:,} steps" if known.budget else "before any run had ended"
-    said = f"undecided after {seconds:g} seconds, {spent}"
+    said = f"undecided after {seconds_text(seconds)}, {spent}"
     return f"{said}; to allow more, write\n  {asked_again(question, '--seconds', f'{10 * seconds:g}')}"

@@ -16,3 +16,8 @@ def say_plainly(text):
         print(text, file=sys.stderr, flush=True)
     except (OSError, ValueError):
         pass
+
+
+def seconds_text(seconds):
+    """So many seconds, in words."""
+    return f"{seconds:g} second{'' if seconds == 1 else 's'}"

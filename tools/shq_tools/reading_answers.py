@@ -28,7 +28,12 @@ BAD_ANSWER = 3
 MISFIT = "the answer is to another statement than that of --query"
 NO_LINES = "The script has no lines."
 NOT_WHOLE = "The answer is not whole."
-NO_TEXT = "The answer has no line: of why it says that no individual is in the class, of session that it has no script."
+NOTHING_TO_READ = (
+    "there is nothing to read. Where a job stands before read in a pipe, it says itself why it printed nothing. Only the "
+    "answer of why to a class without individuals has no line, and is read with --query CLASS; and that of session to a "
+    "script without lines"
+)
+READ_AS_WHY = "nothing was read, which is the answer of why where no individual is in the class. Of another job it is none"
 NOT_COMPARED = "whether the answer is to the statement of --query cannot be told"
 
 
@@ -53,6 +58,10 @@ def words_of(words):
 
 class Unshown(Exception):
     """A wish that cannot be met for an answer, with what to say."""
+
+
+class NothingToRead(Exception):
+    """There is no text, and it is not known to be the answer of a job that may print none."""
 
 
 @dataclass
@@ -156,7 +165,7 @@ def compared(reading):
 
 
 def reading_of(given, text, label_data):
-    """The answer with what is known of its ontology. Raises `Unread`, `Refused` and `Unshown`."""
+    """The answer with what is known of its ontology. Raises `Unread`, `NothingToRead`, `Refused` and `Unshown`."""
     if given.approximate is None:
         known = known_from(label_data, given.language, given.labels)
     else:
@@ -166,15 +175,18 @@ def reading_of(given, text, label_data):
     known.names.add_forms(forms)
     caveat = SEEN_TO_BE_TRANSLATED if forms and given.approximate is None else known.caveat
     how = {"file": known.file, "originals": known.originals, "caveat": caveat, "shows_all": given.all}
-    found = answer(text) if text else answer_without_lines(query)
+    found = answer(text) if text.strip() else answer_without_lines(query)
     reading = Reading(found, known.names, known.ontology, query, **how)
+    reading.notes += [READ_AS_WHY] * (not text.strip())
     reading = compared(reading)
     return cut_to(reading, given.about, known) if given.about else reading
 
 
 def answer_without_lines(query):
-    """What an answer without a line says, which is that of `why`, or of a session, that has nothing to tell."""
-    return Reasons([]) if query and is_of_class(query) else Plain([NO_TEXT])
+    """What an answer without a line says to a question on a class, which is that of `why`. Raises `NothingToRead`."""
+    if query is None or not is_of_class(query):
+        raise NothingToRead
+    return Reasons([])
 
 
 def known_for(question, source):
@@ -245,6 +257,9 @@ def read(given, text, label_data):
     try:
         reading = reading_of(given, text, label_data)
         output = shown(given, reading)
+    except NothingToRead:
+        say(NOTHING_TO_READ)
+        return BAD_ANSWER
     except Unread as fault:
         say(f"this is no answer of the reasoner: {fault}")
         return BAD_ANSWER

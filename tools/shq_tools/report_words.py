@@ -1,4 +1,5 @@
 """The sentences of a report, for a page and for a pull request."""
+from shq_tools.messages import seconds_text
 from shq_tools.reading import Reading
 from shq_tools.wording import counted, verdict
 
@@ -21,14 +22,10 @@ def reading_for(given, answer, query=None):
     return Reading(answer, given.names, given.ontology, query, is_asked=query is not None, **how)
 
 
-def seconds_text(report):
-    return f"{report.seconds:g} second{'' if report.seconds == 1 else 's'}"
-
-
 def verdict_of(report):
     """What a report says in one sentence."""
     if report.is_undecided:
-        return f"Not decided within {seconds_text(report)}."
+        return f"Not decided within {seconds_text(report.seconds)}."
     return reading_for(report.given, report.taxonomy).heading()
 
 
@@ -73,8 +70,8 @@ def command_for(job, report, iri):
 def cut_short_text(report):
     """That some lists are not whole, and what to do."""
     return (
-        f"Some reasons or ways to stop a contradiction were not found within {seconds_text(report)}; the places say "
-        f"so. --seconds allows more."
+        f"Some reasons or ways to stop a contradiction were not found within {seconds_text(report.seconds)}; the "
+        f"places say so. --seconds allows more."
     )
 
 

@@ -520,14 +520,17 @@ class Shown(unittest.TestCase):
         for text, part in cases.items():
             self.assertIn(part, shown(text + "\n")[0])
 
-    def test_an_answer_without_lines(self):
-        """It is what `why` prints where no individual is in the class, and a session whose script is empty."""
-        said, _, status = shown("")
-        self.assertEqual(status, 0)
-        self.assertIn("The answer has no line: of why it says that no individual is in the class", said)
-        said, _, status = shown("", b"", "--query", f"<{E}A>")
+    def test_nothing_to_read(self):
+        """It may come of a job that failed, so it is no answer, unless a class is known that `why` was asked about."""
+        for text in ("", "\n", "  \n\n"):
+            for words in ((), ("--html",), ("--dot",), ("--pipe-status",), ("--query", f"SubClassOf(<{E}A> <{E}B>)")):
+                with self.subTest(text=text, words=words):
+                    said, complaint, status = shown(text, b"", *words)
+                    self.assertEqual((said, status), ("", 3))
+                    self.assertIn("there is nothing to read", complaint)
+        said, complaint, status = shown("", b"", "--query", f"<{E}A>")
         self.assertEqual((said.strip(), status), ("No individual is in the class.", 0))
-        self.assertEqual(shown("", b"", "--dot")[2], 2)
+        self.assertIn("Of another job it is none", complaint)
 
     def test_no_answer(self):
         for text in ("hello\n", "consistently\n", "yes\n", "undecided\nhello\n", "axiom x\n", "bad text thing line 3\n"):

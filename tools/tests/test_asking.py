@@ -83,6 +83,7 @@ class Words(unittest.TestCase):
         hint = hint_on_seconds(question, Known(None, 8_000_000), 2)
         self.assertIn("undecided after 2 seconds, with a budget of 8,000,000 steps", hint)
         self.assertIn("./shq explain 'SubClassOf(:A :B)' --seconds 20 < FILE", hint)
+        self.assertIn("undecided after 1 second, ", hint_on_seconds(question, Known(None, 0), 1))
         self.assertIn("no more can be allowed", hint_on_seconds(question, Known(None, 4_294_967_295), 2))
 
 
