@@ -403,15 +403,18 @@ def chosen_values(axioms, chooser):
     return tuple(chooser.sample(first if chooser.random() < 0.7 else pool, 2))
 
 
-def worlds_of(size, values, seed, ask, most_facts=12, count=2048):
-    """All interpretations of a size where there are not too many ways, else so many random ones. `ask` asks for all
-    that will be asked for.
+def all_worlds_of(size, values, ask, most_facts):
+    """All interpretations of a size, or None where there are too many ways. `ask` asks for all that will be asked for.
     """
-    worlds = Worlds(size, values, random.Random(seed), 1)
+    worlds = Worlds(size, values, random.Random(0), 1)
     ask(worlds)
-    if len(worlds.facts) <= most_facts:
-        worlds.have_all_ways()
-    else:
-        worlds.facts = {}
-        worlds.set_count(count)
+    if len(worlds.facts) > most_facts:
+        return None
+    worlds.have_all_ways()
     return worlds
+
+
+def worlds_of(size, values, seed, ask, most_facts=12, count=2048):
+    """All interpretations of a size where there are not too many ways, else so many random ones. Of `ask` see above."""
+    found = all_worlds_of(size, values, ask, most_facts)
+    return found or Worlds(size, values, random.Random(seed), count)
