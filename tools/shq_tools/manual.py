@@ -6,6 +6,8 @@ from shq_tools.commands import COMMANDS, GENERAL_OPTIONS
 from shq_tools.places import TOOLS
 
 STATUSES = "Prints its answer, and ends with a status:"
+# Words such as AXIOM and ClassAssertion are never cut at the end of a line.
+NO_HYPHENS = (".nr HY 0", ".nh")
 # In which column the text behind a term begins, and how far an example is indented at least.
 TEXT_COLUMN, EXAMPLE_COLUMN = 16, 18
 
@@ -91,7 +93,7 @@ def manual(version, date):
     usage, *blocks = blocks_of(lines)
     at = next(number for number, block in enumerate(blocks) if block == [STATUSES])
     statuses, behind = blocks[at + 1], blocks[at + 2 :]
-    made = [f'.TH SHQ 1 "{date}" "jezundwa {version}" "User commands"', ".SH NAME"]
+    made = [f'.TH SHQ 1 "{date}" "jezundwa {version}" "User commands"', *NO_HYPHENS, ".SH NAME"]
     made += ["shq \\- reasoner for ontologies in OWL 2, with every reason and every repair", ".SH SYNOPSIS", ".nf"]
     made += [escaped(re.sub(r"^usage: | {7}", "", it)) for it in usage]
     made += [".fi", ".SH DESCRIPTION"]
