@@ -119,10 +119,10 @@ def tokens(data):
     place = GAP.match(front, len(BYTE_ORDER_MARK) if front.startswith(BYTE_ORDER_MARK) else 0).end()
     line, found, document_end = 1 + front.count("\n", 0, place), [], DocumentEnd()
     for match in PATTERN.finditer(front, place):
-        if match.start() != place:
-            break
         kind = match.lastgroup
         start, end = match.span(kind)
+        if start != place:
+            break
         place = match.end()
         if kind != "comment":
             text = front[start + 1 : end - 1] if kind in DELIMITED else front[start:end]

@@ -175,7 +175,7 @@ class OwlReader:
         if last.endswith("*"):
             shape = shape[:-1] + (last[:-1],) * (len(items) - len(shape) + 1)
         expect(len(items) == len(shape) and items, line)
-        return tuple(self.kinds[kind](it) for kind, it in zip(shape, items))
+        return tuple([self.kinds[kind](it) for kind, it in zip(shape, items)])
 
     def class_of(self, item):
         if item.kind != "group":
@@ -188,7 +188,8 @@ class OwlReader:
         elif keyword in CONNECTIVES:
             expect(items, item.line)
             found = (CONNECTIVES[keyword], tuple(map(self.class_of, items)))
-            self.features |= {"single"} if len(items) == 1 else set()
+            if len(items) == 1:
+                self.features.add("single")
         elif keyword == "ObjectComplementOf":
             expect(len(items) == 1, item.line)
             found = ("not", self.class_of(items[0]))

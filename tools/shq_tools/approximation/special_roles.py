@@ -21,15 +21,13 @@ TRUE_OF_BOTTOM = {
 
 def roles_of(axiom):
     """The roles that stand in an axiom of roles, or in an assertion, outside of its class expressions."""
-    if "Object" not in axiom.keyword:
-        return ()
     found = []
     for item in axiom.items[:1] if "Assertion" in axiom.keyword else axiom.items:
         if isinstance(item, str) or item[0] == "inverse":
             found.append(item)
         elif item[0] == "chain":
             found += item[1]
-    return tuple(found)
+    return found
 
 
 def is_special(axiom):

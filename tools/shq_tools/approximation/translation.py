@@ -93,7 +93,7 @@ class Source:
 
 def source_of(axiom, features):
     says = [axiom]
-    if special_roles.is_special(axiom):
+    if "special role" in features and special_roles.is_special(axiom):
         says, features = special_roles.without_special(axiom), features | {"rewritten"}
     elif axiom.keyword in ("ObjectPropertyAssertion", "NegativeObjectPropertyAssertion"):
         says = [role_axioms.normal_pair(axiom)]
