@@ -66,7 +66,7 @@ row_up theory table more row h = record {
   is_right = h.is_right ∙ ap (λ (t : Concept). Some t) (sym (tree_of-append table more row.concept h.listed));
 }
 
-choice_up : (theory : Theory) (table more : List Shape) (rows : List Row) → IsChoice theory table rows
+pub choice_up : (theory : Theory) (table more : List Shape) (rows : List Row) → IsChoice theory table rows
     → IsChoice theory (table ++ more) rows
 choice_up theory table more rows h = record {
   rows_fit =

@@ -78,14 +78,14 @@ module _ (first : ℕ) (fs : List (Fact ℕ)) (x s e n : ℕ) where
   abbrev fresh : List (Fact ℕ)
   fresh = fresh_facts x s e (node_count_from first fs) (suc n)
 
-  old_parent : (z : ℕ) → z < node_count_from first fs → first_origin (fs ++ fresh) z ≡ first_origin fs z
+  pub old_parent : (z : ℕ) → z < node_count_from first fs → first_origin (fs ++ fresh) z ≡ first_origin fs z
   old_parent z lt = none_or_some (first_origin fs z) (first_origin (fs ++ fresh) z ≡ first_origin fs z)
       (λ q k. origin_keeps fs fresh z q k ∙ sym k)
       (λ k. origin-append fs fresh z k
       ∙ new_origin_old x s e (node_count_from first fs) (suc n) (pairwise_apart (node_count_from first fs) (suc n)) z lt
       ∙ pairs_origin (node_count_from first fs) (suc n) z ∙ sym k)
 
-  new_parent : (z p : ℕ) → node_count_from first fs ≤ z → first_origin (fs ++ fresh) z ≡ Some p → p ≡ x
+  pub new_parent : (z p : ℕ) → node_count_from first fs ≤ z → first_origin (fs ++ fresh) z ≡ Some p → p ≡ x
   new_parent z p from h =
       new_origin x s e (node_count_from first fs) (suc n) (pairwise_apart (node_count_from first fs) (suc n)) z p
       (pairs_origin (node_count_from first fs) (suc n) z)

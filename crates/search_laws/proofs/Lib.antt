@@ -51,3 +51,9 @@ pub mod Running
 pub mod Answering
 pub mod Last
 pub mod Unnamed
+pub mod FullerStart
+pub mod FullerBlocks
+pub mod LongerShapes
+pub mod FullerSteps
+pub mod Beginning
+pub mod ParentsAsk

@@ -128,7 +128,7 @@ new_origin_at x s e next (suc n) rest v from before = elim (cases_eq next v) [
   | inr ne ↦ rw (ne_eqb next v ne) (new_origin_at x s e (next + 1) n rest v (omega arith) (omega arith))
 ]
 
-fresh_parent : (first : ℕ) (fs : List (Fact ℕ)) (x s e n v : ℕ) → node_count_from first fs ≤ v
+pub fresh_parent : (first : ℕ) (fs : List (Fact ℕ)) (x s e n v : ℕ) → node_count_from first fs ≤ v
     → v < node_count_from first fs + n
     → parent_from first (fs ++ fresh_facts x s e (node_count_from first fs) n) v ≡ Some x
 fresh_parent first fs x s e n v from before =

@@ -1,16 +1,14 @@
 -- The same steps are legal, and the same ends saturated, where the node in question has the complement of a class from
 -- the start. The table may have grown by then.
 use Rattle.std.proofs.Common.{◌≡◌, ℕ, ◌<◌, ◌&&◌, Bool, true, false, List, ◌++◌, length, Option, Some, None, refl, ap}
-use Rattle.std.proofs.Common.{◌∙◌, sym, subst, arith, inl, inr, length-append}
+use Rattle.std.proofs.Common.{◌∙◌, sym, subst, inl, inr}
 use Rattle.std.specs.List.{list_all, range_with_len, All, Contains}
-use Rattle.std.proofs.lemmas.List.{get_or_append_left, get_or_default}
+use Rattle.std.proofs.lemmas.List.{get_or_default}
 use Rattle.std.proofs.lemmas.Bool.{cases_Bool}
 use Rattle.calculus_specs.specs.Concept.{Concept, name}
-use Rattle.calculus_specs.specs.Normal.{negated_form}
 use Rattle.calculus_specs.specs.Shape.{Shape, shape_of, IsTable}
-use Rattle.calculus_specs.specs.Shape.Shape.{top, bottom, name as name_shape, not_name, union, some_of, all_of}
+use Rattle.calculus_specs.specs.Shape.Shape.{bottom, name as name_shape, not_name, union, some_of, all_of}
 use Rattle.calculus_specs.specs.Shape.Shape.{at_least, at_most}
-use Rattle.calculus_specs.specs.Tree.{IsComplement}
 use Rattle.calculus_specs.specs.Rules.{Question}
 use Rattle.calculus_specs.specs.Rows.{Part, Row, Trigger, part_at, conjunct_at}
 use Rattle.calculus_specs.specs.Rows.Part.{inclusion, range}
@@ -20,21 +18,20 @@ use Rattle.calculus_specs.specs.declared.facts.Fact.TheVariants.{Has, Edge, Apar
 use Rattle.calculus_specs.specs.Joins.{rep}
 use Rattle.calculus_specs.specs.State.{has, has_edge, all_apart, is_so}
 use Rattle.calculus_specs.specs.Reading.{are_listed}
-use Rattle.calculus_specs.proofs.Tree.{tree_of-append}
 use Rattle.tableau_specs.specs.declared.Branch.{Branch}
 use Rattle.tableau_specs.specs.Clash.{filled_successors, IsClash, IsPlainClash}
 use Rattle.tableau_specs.specs.Clash.IsClash.{of_bottom, of_names, of_most, of_differ}
 use Rattle.tableau_specs.specs.Clash.IsPlainClash.{plain_bottom, plain_names, plain_most, plain_differ}
 use Rattle.tableau_specs.specs.Steps.{SearchContext, is_named, has_name, has_names, is_triggered, is_used_at, is_run}
-use Rattle.tableau_specs.specs.Steps.{Adds, IsCarried, IsOpen, Generates, MayBranch, IsAlternative}
+use Rattle.tableau_specs.specs.Steps.{Adds, IsCarried, IsOpen, Generates, MayBranch}
 use Rattle.tableau_specs.specs.Steps.Adds.{by_and, by_all, by_carry, by_row}
 use Rattle.tableau_specs.specs.Steps.Generates.{by_some, by_least}
 use Rattle.tableau_specs.specs.Steps.MayBranch.{on_union, on_filler, on_pair}
-use Rattle.tableau_specs.specs.Steps.IsAlternative.{of_union, of_filler, of_complement, of_joining, of_parting}
 use Rattle.tableau_specs.specs.Reached.{context_of}
-use Rattle.tableau_specs.proofs.Listed.{listed, most_listed, BranchListed}
+use Rattle.tableau_specs.proofs.Listed.{most_listed}
 use Rattle.tableau_specs.proofs.PlainClash.{successor_has_edge}
 use Rattle.search_laws.proofs.Root.{Avoids}
+use Rattle.search_laws.proofs.LongerShapes.{same_shape, shape_up, shape_down, complement_up, complement_down}
 use Rattle.search_laws.proofs.Turned.{old_facts, new_facts, has_listed, has_up, has_cases, has_other, label_alike}
 use Rattle.search_laws.proofs.Turned.{filled_same, run_same, block_same}
 
@@ -60,38 +57,6 @@ pub record IsSetting (q : Question) (table : List Shape) (sub n a : ℕ) (gs : L
 
 module _ (q : Question) (table more : List Shape) (rows : List Row) (good : IsTable table) (n a : ℕ)
     (shape_n : shape_of (table ++ more) n ≡ not_name a) where
-  same_shape : (c : ℕ) → c < length table → shape_of (table ++ more) c ≡ shape_of table c
-  same_shape c lt = get_or_append_left table more top c lt
-
-  pub shape_up : (c : ℕ) (s : Shape) → ¬ (s ≡ top) → shape_of table c ≡ s → shape_of (table ++ more) c ≡ s
-  shape_up c s ne e = same_shape c (listed table c (λ k. ne (sym e ∙ k))) ∙ e
-
-  pub shape_down : (c : ℕ) (s : Shape) → c < length table → shape_of (table ++ more) c ≡ s → shape_of table c ≡ s
-  shape_down c s lt e = sym (same_shape c lt) ∙ e
-
-  complement_up : (e d : ℕ) → e < length table → IsComplement table e d → IsComplement (table ++ more) e d
-  complement_up e d lt neg = record {
-    listed = omega (arith, neg.listed, length-append table more);
-    negates =
-        tree_of-append table more d neg.listed ∙ neg.negates ∙ ap negated_form (sym (tree_of-append table more e lt));
-  }
-
-  complement_down : (e d : ℕ) → e < length table → d < length table → IsComplement (table ++ more) e d
-      → IsComplement table e d
-  complement_down e d lt mt neg =
-      record {
-        listed = mt;
-        negates = sym (tree_of-append table more d mt) ∙ neg.negates ∙ ap negated_form (tree_of-append table more e lt);
-      }
-
-  pub alternative_up : (b : Branch) (k : ℕ) (f : Fact ℕ) → BranchListed (length table) b → IsAlternative table b k f
-      → IsAlternative (table ++ more) b k f
-  alternative_up b k f lt (of_union x c k' d parts sh read) = of_union x c k' d parts (shape_up c _ (λ e. cc) sh) read
-  alternative_up b k f lt (of_filler y e) = of_filler y e
-  alternative_up b k f lt (of_complement y e d neg) = of_complement y e d (complement_up e d lt neg)
-  alternative_up b k f lt (of_joining y z) = of_joining y z
-  alternative_up b k f lt (of_parting y z) = of_parting y z
-
   module _ (sub : ℕ) (gs : List (Fact ℕ)) (set : IsSetting q table sub n a gs) where
     abbrev old : List (Fact ℕ)
     old = old_facts q.at sub n gs
@@ -112,7 +77,7 @@ module _ (q : Question) (table more : List Shape) (rows : List Row) (good : IsTa
 
     pub down : (x c : ℕ) (s : Shape) → ¬ (not_name a ≡ s) → shape_of (table ++ more) c ≡ s → has new x c ≡ true
         → (has old x c ≡ true) × (shape_of table c ≡ s)
-    down x c s ne sh h = let before = held_down x c s ne sh h in (before, shape_down c s (held_listed x c before) sh)
+    down x c s ne sh h = let before = held_down x c s ne sh h in (before, shape_down table more c s (held_listed x c before) sh)
 
     pub up : (x c : ℕ) → has old x c ≡ true → has new x c ≡ true
     up = has_up q.first q.at sub n gs set.stays
@@ -136,7 +101,7 @@ module _ (q : Question) (table more : List Shape) (rows : List Row) (good : IsTa
         label_alike q.first q.at sub n gs set.stays (λ c. is_named b (shape_of (table ++ more) c))
         (λ c. is_named b (shape_of table c)) (length table) x
         (ap (is_named b) shape_n) (ap (is_named b) good.begins_with_top) good.has_top
-        (λ c lt. ap (is_named b) (same_shape c lt)) set.known
+        (λ c lt. ap (is_named b) (same_shape table more c lt)) set.known
     same_name x _ = refl
 
     same_names : (x : ℕ) (positions : List ℕ) (p : Option Part)
@@ -164,7 +129,7 @@ module _ (q : Question) (table more : List Shape) (rows : List Row) (good : IsTa
     plain_down (plain_names x c d b lt h sh g th) =
         let t = down x c (name_shape b) (λ k. cc) sh h in
         elim (has_cases q.first q.at sub n gs set.stays x d g) [
-          | inl before ↦ plain_names x c d b lt t.0 t.1 before (shape_down d (not_name b) (held_listed x d before) th)
+          | inl before ↦ plain_names x c d b lt t.0 t.1 before (shape_down table more d (not_name b) (held_listed x d before) th)
           | inr root ↦
               let e : not_name a ≡ not_name b = sym shape_n ∙ ap (shape_of (table ++ more)) root.1 ∙ th in
               let same : a ≡ b = cc in
@@ -178,11 +143,11 @@ module _ (q : Question) (table more : List Shape) (rows : List Row) (good : IsTa
     plain_down (plain_differ y z lt mt apart same) = plain_differ y z lt mt apart same
 
     pub clash_up : IsClash q.first q.theory.below table old → IsClash q.first q.theory.below (table ++ more) new
-    clash_up (of_bottom x c lt h sh) = of_bottom x c lt (up x c h) (shape_up c _ (λ k. cc) sh)
+    clash_up (of_bottom x c lt h sh) = of_bottom x c lt (up x c h) (shape_up table more c _ (λ k. cc) sh)
     clash_up (of_names x c d b lt h sh g th) =
-        of_names x c d b lt (up x c h) (shape_up c _ (λ k. cc) sh) (up x d g) (shape_up d _ (λ k. cc) th)
+        of_names x c d b lt (up x c h) (shape_up table more c _ (λ k. cc) sh) (up x d g) (shape_up table more d _ (λ k. cc) th)
     clash_up (of_most x c m s e ys lt h sh len all apart) =
-        of_most x c m s e ys lt (up x c h) (shape_up c _ (λ k. cc) sh) len
+        of_most x c m s e ys lt (up x c h) (shape_up table more c _ (λ k. cc) sh) len
         (run_same q.first q.at sub n gs set.stays set.ends q.theory.below x s e ys ∙ all) apart
     clash_up (of_differ y z lt mt apart same) = of_differ y z lt mt apart same
 
@@ -194,7 +159,7 @@ module _ (q : Question) (table more : List Shape) (rows : List Row) (good : IsTa
       begin_is_node = h.begin_is_node;
       end_is_node = h.end_is_node;
       holds = up x c h.holds;
-      shape = shape_up c _ (λ k. cc) h.shape;
+      shape = shape_up table more c _ (λ k. cc) h.shape;
       transitive = h.transitive;
       role_below = h.role_below;
       edge = h.edge;
@@ -215,11 +180,11 @@ module _ (q : Question) (table more : List Shape) (rows : List Row) (good : IsTa
         }
 
     pub adds_up : (x d : ℕ) → Adds (short q table more rows) old x d → Adds (long q table more rows) new x d
-    adds_up x d (by_and x' c d' parts lt h sh m) = by_and x c d parts lt (up x c h) (shape_up c _ (λ k. cc) sh) m
+    adds_up x d (by_and x' c d' parts lt h sh m) = by_and x c d parts lt (up x c h) (shape_up table more c _ (λ k. cc) sh) m
     adds_up x d (by_all x' y c s e lt mt h sh leads) =
-        by_all x' x c s d lt mt (up x' c h) (shape_up c _ (λ k. cc) sh) leads
+        by_all x' x c s d lt mt (up x' c h) (shape_up table more c _ (λ k. cc) sh) leads
     adds_up x d (by_carry x' y c s t e d' carried sh) =
-        by_carry x' x c s t e d (carried_up x' x c s t e carried) (shape_up d _ (λ k. cc) sh)
+        by_carry x' x c s t e d (carried_up x' x c s t e carried) (shape_up table more d _ (λ k. cc) sh)
     adds_up x d (by_row x' row lt m used) = by_row x row lt m (same_use x row ∙ used)
 
     -- ---- Generate
@@ -247,9 +212,9 @@ module _ (q : Question) (table more : List Shape) (rows : List Row) (good : IsTa
     pub generates_up : (fs : List (Fact ℕ)) → Generates (short q table more rows) old fs
         → Generates (long q table more rows) new fs
     generates_up fs (by_some x c s e at h sh none) =
-        by_some x c s e (open_up x at) (up x c h) (shape_up c _ (λ k. cc) sh) (filled x s e ∙ none)
+        by_some x c s e (open_up x at) (up x c h) (shape_up table more c _ (λ k. cc) sh) (filled x s e ∙ none)
     generates_up fs (by_least x c m s e at h sh none) =
-        by_least x c m s e (open_up x at) (up x c h) (shape_up c _ (λ k. cc) sh) (λ y. same_run x s e m y ∙ none y)
+        by_least x c m s e (open_up x at) (up x c h) (shape_up table more c _ (λ k. cc) sh) (λ y. same_run x s e m y ∙ none y)
 
     pub generates_down : (fs : List (Fact ℕ)) → Generates (long q table more rows) new fs
         → Generates (short q table more rows) old fs
@@ -273,23 +238,23 @@ module _ (q : Question) (table more : List Shape) (rows : List Row) (good : IsTa
 
     pub may_up : (b : Branch) → MayBranch (short q table more rows) old b → MayBranch (long q table more rows) new b
     may_up b (on_union x c parts lt h sh none) =
-        on_union x c parts lt (up x c h) (shape_up c _ (λ k. cc) sh) (part_out x c parts h sh none)
+        on_union x c parts lt (up x c h) (shape_up table more c _ (λ k. cc) sh) (part_out x c parts h sh none)
     may_up b (on_filler x c m s e y lt h sh next none out) =
         let other : (d : ℕ) → ¬ ((rep old y ≡ q.at) × (n ≡ d)) =
         λ d root. set.ends (λ r. q.theory.below r s) x y (successor_has_edge old (λ r. q.theory.below r s) x y next)
         root.0 in
-        on_filler x c m s e y lt (up x c h) (shape_up c _ (λ k. cc) sh) next (out_up y e (other e) none)
+        on_filler x c m s e y lt (up x c h) (shape_up table more c _ (λ k. cc) sh) next (out_up y e (other e) none)
         (λ d neg. elim (cases_Bool (has new y d)) [
           | inr f ↦ f
           | inl held ↦
               let before = sym (has_other q.first q.at sub n gs set.stays y d (other d)) ∙ held in
               let k =
-              out d (complement_down e d (most_listed (short q table more rows) good c m s e sh)
+              out d (complement_down table more e d (most_listed (short q table more rows) good c m s e sh)
               (held_listed y d before) neg) in
               cc
         ])
     may_up b (on_pair x c m s e y z lt h sh many cy cz ne apart) =
-        on_pair x c m s e y z lt (up x c h) (shape_up c _ (λ k. cc) sh)
+        on_pair x c m s e y z lt (up x c h) (shape_up table more c _ (λ k. cc) sh)
         (subst (λ (ys : List ℕ). m < length ys) (sym (filled x s e)) many)
         (subst (λ (ys : List ℕ). Contains ys y) (sym (filled x s e)) cy)
         (subst (λ (ys : List ℕ). Contains ys z) (sym (filled x s e)) cz) ne apart
@@ -301,7 +266,7 @@ module _ (q : Question) (table more : List Shape) (rows : List Row) (good : IsTa
     may_down b (on_filler x c m s e y lt h sh next none out) =
         let t = down x c (at_most m s e) (λ k. cc) sh h in
         on_filler x c m s e y lt t.0 t.1 next (out_down y e none)
-        (λ d neg. out_down y d (out d (complement_up e d (most_listed (short q table more rows) good c m s e t.1) neg)))
+        (λ d neg. out_down y d (out d (complement_up table more e d (most_listed (short q table more rows) good c m s e t.1) neg)))
     may_down b (on_pair x c m s e y z lt h sh many cy cz ne apart) =
         let t = down x c (at_most m s e) (λ k. cc) sh h in
         on_pair x c m s e y z lt t.0 t.1 (subst (λ (ys : List ℕ). m < length ys) (filled x s e) many)

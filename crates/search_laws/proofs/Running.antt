@@ -37,7 +37,7 @@ run_follows q table more rows first trail [] r = r
 run_follows q table more rows first trail (before ∷ earlier) r =
     (before, run_follows q table more rows first before earlier r.1, r.0)
 
-ever_now : (p : Fact ℕ → Bool) (trail : List Item) (earlier : List (List Item)) → list_any p (facts_of trail) ≡ true
+pub ever_now : (p : Fact ℕ → Bool) (trail : List Item) (earlier : List (List Item)) → list_any p (facts_of trail) ≡ true
     → was_ever p (trail ∷ earlier) ≡ true
 ever_now p trail earlier h = or_left (list_any p (facts_of trail)) (was_ever p earlier) h
 
@@ -68,7 +68,7 @@ given_puts c m at (Edge r y z ∷ fs) h = given_puts c m at fs h
 given_puts c m at (Apart y z ∷ fs) h = given_puts c m at fs h
 given_puts c m at (Same y z ∷ fs) h = given_puts c m at fs h
 
-given_there : (node c : ℕ) (m : ℕ → ℕ) (at : ℕ) → at ≡ node → ((y : ℕ) → m y ≡ node → y ≡ node) → (fs : List (Fact ℕ))
+pub given_there : (node c : ℕ) (m : ℕ → ℕ) (at : ℕ) → at ≡ node → ((y : ℕ) → m y ≡ node → y ≡ node) → (fs : List (Fact ℕ))
     → list_any (gives_concept (λ d. eqb d c) m at) fs ≡ true
     → list_any (puts_at node c) fs ≡ true
 given_there node c m at there alone [] h = cc

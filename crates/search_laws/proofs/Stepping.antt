@@ -30,8 +30,9 @@ use Rattle.tableau_specs.proofs.Built.{facts_of-snoc}
 use Rattle.tableau_specs.proofs.Listed.{listed, branch_listed, BranchListed, ItemListed}
 use Rattle.search_laws.specs.Runs.{puts}
 use Rattle.search_laws.proofs.Turned.{old_facts, new_facts}
-use Rattle.search_laws.proofs.ReuseSetting.{short, long, IsSetting, alternative_up, shape_up, shape_down, held_listed}
-use Rattle.search_laws.proofs.ReuseSetting.{down, up, out_up, same_use, plain_down, clash_up, carried_down, adds_up}
+use Rattle.search_laws.proofs.LongerShapes.{alternative_up, shape_up, shape_down}
+use Rattle.search_laws.proofs.ReuseSetting.{short, long, IsSetting, held_listed, down, up, out_up, same_use}
+use Rattle.search_laws.proofs.ReuseSetting.{plain_down, clash_up, carried_down, adds_up}
 use Rattle.search_laws.proofs.ReuseSetting.{generates_up, generates_down, may_up, may_down, so_same}
 use Rattle.search_laws.specs.ReuseLaws.{IsUnnamed}
 use Rattle.search_laws.proofs.LongerGiven.{given_avoids, given_up, given_down}
@@ -112,7 +113,7 @@ module _ (q : Question) (table more : List Shape) (rows : List Row) (good : IsTa
       is_legal =
           choose c f (λ k. nc (plain_down q table more rows good n a shape_n sub (facts_of rest) set k))
           (may_up q table more rows good n a shape_n sub (facts_of rest) set c.branch may) one
-          (alternative_up q table more rows good n a shape_n c.branch 1 f
+          (alternative_up table more c.branch 1 f
           (branch_listed q table rows good fits (old_facts q.at sub n (facts_of rest)) c.branch may) alt);
     }
     turned new' items fits never (back place c f clash read alt) =
@@ -123,7 +124,7 @@ module _ (q : Question) (table more : List Shape) (rows : List Row) (good : IsTa
         rw (get_or_from_slice_get is place (Mark c) (Mark c) read) at g) in
         turned_back place c f (back place c f clash read alt) read
         (λ again. back place c f (clash_up q table more rows good n a shape_n sub (facts_of rest) set clash) again
-        (alternative_up q table more rows good n a shape_n c.branch (c.alternative + 1) f about alt))
+        (alternative_up table more c.branch (c.alternative + 1) f about alt))
 
     -- ---- the end
 
@@ -151,7 +152,7 @@ module _ (q : Question) (table more : List Shape) (rows : List Row) (good : IsTa
           sat.no_carry x' x c s t e
           (carried_down q table more rows good n a shape_n sub (facts_of rest) set x' x c s t e carried) in
           let is =
-          same_number k.0 d t e (shape_up q table more rows good n a shape_n k.0 (all_of t e) (λ l. cc) k.1) sh in
+          same_number k.0 d t e (shape_up table more k.0 (all_of t e) (λ l. cc) k.1) sh in
           up q table more rows good n a shape_n sub (facts_of rest) set x d
           (subst (λ (c : ℕ). has (old_facts q.at sub n (facts_of rest)) x c ≡ true) is k.2)
       added x d (by_row x' row lt m used) =
@@ -167,7 +168,7 @@ module _ (q : Question) (table more : List Shape) (rows : List Row) (good : IsTa
           sat.no_carry x y c s t e
           (carried_down q table more rows good n a shape_n sub (facts_of rest) set x y c s t e h) in (
             k.0,
-            shape_up q table more rows good n a shape_n k.0 (all_of t e) (λ l. cc) k.1,
+            shape_up table more k.0 (all_of t e) (λ l. cc) k.1,
             up q table more rows good n a shape_n sub (facts_of rest) set y k.0 k.2,
           )
 
@@ -186,7 +187,7 @@ module _ (q : Question) (table more : List Shape) (rows : List Row) (good : IsTa
       first_down : (b : Branch) (k : ℕ) (f : Fact ℕ) → UnionListed b → k ≡ 1 → IsAlternative (table ++ more) b k f
           → IsAlternative table b k f
       first_down b k f lt one (of_union x c k' d parts sh read) =
-          of_union x c k' d parts (shape_down q table more rows good n a shape_n c (union parts) lt sh) read
+          of_union x c k' d parts (shape_down table more c (union parts) lt sh) read
       first_down b k f lt one (of_filler y e) = of_filler y e
       first_down b k f lt one (of_complement y e d neg) = absurd (omega (arith, one))
       first_down b k f lt one (of_joining y z) = of_joining y z

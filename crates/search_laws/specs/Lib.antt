@@ -15,6 +15,8 @@ pub mod FirstNodeExamples
 pub mod Runs
 pub mod ReuseLaws
 pub mod ReuseExamples
+pub mod BeginningLaws
+pub mod BeginningExamples
 pub use Rattle.refutation_truth.specs.Theory
 pub use Rattle.ontology_limits.specs.Limits
 pub use Rattle.ontology_limits.specs.Counted

@@ -6,13 +6,16 @@
 //! - `counter_model_laws`: a saturated trail describes a finite interpretation that meets the axioms and refutes the
 //!   query.
 //! - `reuse_laws`: what the run of one search shows of other queries (Haarslev, Möller and Turhan, 2001).
+//! - `beginning_laws`: one run over what axioms assert begins the searches for many queries.
 #![tactic(auto)]
 
+mod beginning_laws;
 mod bound_laws;
 mod counter_model_laws;
 mod reuse_laws;
 mod trail_laws;
 
+pub use beginning_laws::{one_beginning_serves_many, parents_have_what_asked_for_nodes};
 pub use bound_laws::{
     concepts_are_in_the_closure, few_children, few_marks, few_nodes, few_of_each_kind, few_steps,
     few_steps_without_going_back, legal_runs_are_bounded, paths_are_short, the_closure_is_computed,
