@@ -1,7 +1,7 @@
 // Copies of lines.
-ghost use Rattle.std.specs.Prelude.{◌≡◌, [], ◌∷◌, ◌++◌, map, IfOk, OnOk};
+ghost use Rattle.std.specs.Prelude.{◌≡◌, [], ◌∷◌, ◌++◌, false, map, get_or, IfOk, OnOk};
 ghost use Rattle.search_trace.specs.RuleLine.{line_of};
-ghost use Rattle.closed_search.specs.Shorter.{AreAmong};
+ghost use Rattle.closed_search.specs.Shorter.{staying, line_if, AreAmong};
 
 use crate::NoMemory;
 use search_trace::Line;
@@ -19,22 +19,43 @@ pub(crate) fn copies(alloc: Global, lines: &[Line]) -> Result<Vec<Line>, NoMemor
     Ok(copies)
 }
 
-/// Copies of the lines at the places that are to be kept, in their order.
+/// Copies of the lines at the places that are to be kept, in their order. Of a line at which nothing is said there is
+/// none.
 pub(crate) fn kept_lines(
     alloc: Global,
     lines: &[Line],
     keep: &[bool],
 ) -> Result<Vec<Line>, NoMemory>
-    ensures { IfOk result (λ ls. AreAmong (map line_of lines.now) (map line_of ls.items)) }
+    ensures stay { IfOk result (λ ls. map line_of ls.items ≡ staying keep.now (map line_of lines.now)) }
+    ensures among { IfOk result (λ ls. AreAmong (map line_of lines.now) (map line_of ls.items)) }
 {
     let mut kept = Vec::new(alloc);
     for place in 0..lines.len() {
-        if keep.get(place) != Some(&true) {
-            continue;
-        }
-        put_copy(alloc, &mut kept, &lines[place])?;
+        put_if(alloc, &mut kept, &lines[place], stays(keep, place))?;
     }
     Ok(kept)
+}
+
+// Whether the line at a place is to be kept.
+fn stays(keep: &[bool], place: usize) -> bool
+    ensures { result ≡ get_or keep.now place false }
+{
+    match keep.get(place) {
+        Some(stays) => *stays,
+        None => false,
+    }
+}
+
+// Puts a copy of the line last, where it is to be kept.
+fn put_if(alloc: Global, lines: &mut Vec<Line>, line: &Line, stays: bool) -> Result<(), NoMemory>
+    ensures { OnOk result
+        (map line_of lines.new.items ≡ map line_of lines.old.items ++ line_if stays (line_of line.now)) }
+{
+    if stays {
+        put_copy(alloc, lines, line)
+    } else {
+        Ok(())
+    }
 }
 
 // Puts a copy of the line last.

@@ -11,6 +11,7 @@ ghost use Rattle.search_trace.specs.Trace.{TraceLists, lines_in};
 ghost use Rattle.closed_search.specs.Finished.{are_over, IsNumbered};
 ghost use Rattle.closed_search.specs.Named.{NamesAxioms, NamesNoOther};
 ghost use Rattle.closed_search.specs.Refuted.{uses_names, CloseAll, IsWrittenRefutation};
+ghost use Rattle.closed_search.specs.Shorter.{HasSomeOf};
 
 use crate::copying::copies;
 use crate::gathering::refutation_by;
@@ -24,8 +25,9 @@ use shq_terms::{Ontology, Query};
 use std::alloc::Global;
 
 /// A refutation of the query by lines of a search over a set of axioms, where these close everything: by those on which
-/// the ends of the branches rest, or by all. Of the set it names role axioms alone, and axioms that stand in its lines.
-/// The concepts of the lines are numbers of the table, and `roles` is the role box of the set.
+/// the ends of the branches rest, or by all. What is left out is needed by none of the lines that stay, since these are
+/// a valid refutation where all lines close everything. Of the set it names role axioms alone, and axioms that stand in
+/// its lines. The concepts of the lines are numbers of the table, and `roles` is the role box of the set.
 ///
 /// # Errors
 ///
@@ -46,6 +48,7 @@ pub fn refutation_of(
     ensures axioms { IfOk result (λ r. NamesNoOther ontology.now.axioms set.now r.lines r.axioms) }
     ensures part { IfOk result (λ r. IsPart r.axioms.members set.now.members) }
     ensures listed { IfOk result (λ r. IsTrue (names_are_listed ontology.now r)) }
+    ensures lines { IfOk result (HasSomeOf concepts.now (start_line ∷ lines_in trace)) }
     ensures refutes { IfOk result (λ r. CloseAll ontology.now set.now concepts.now query.now trace.lines
         → IsWrittenRefutation ontology.now query.now r) }
 {
@@ -72,6 +75,7 @@ fn whole(
     ensures axioms { IfOk result (λ r. NamesNoOther ontology.now.axioms set.now r.lines r.axioms) }
     ensures part { IfOk result (λ r. IsPart r.axioms.members set.now.members) }
     ensures listed { IfOk result (λ r. IsTrue (names_are_listed ontology.now r)) }
+    ensures lines { IfOk result (HasSomeOf concepts.now (map line_of lines.items)) }
     ensures refutes { IfOk result (λ r. (trace : TraceLists) → map line_of lines.items ≡ start_line ∷ lines_in trace
         → (query : Asked) → CloseAll ontology.now set.now concepts.now query trace.lines
         → IsWrittenRefutation ontology.now query r) }

@@ -4,9 +4,9 @@ ghost use Rattle.std.specs.List.{list_all};
 ghost use Rattle.refutation_check.specs.Limits.{IsInLimit};
 ghost use Rattle.search_trace.specs.ReadBack.{has_nodes};
 ghost use Rattle.search_trace.specs.RuleLine.{line_of};
-ghost use Rattle.closed_search.specs.Finished.{are_over};
+ghost use Rattle.closed_search.specs.Finished.{are_over, IsNumbered};
 ghost use Rattle.closed_search.specs.Refuted.{uses_names};
-ghost use Rattle.closed_search.specs.Shorter.{IsOver, IsShorter};
+ghost use Rattle.closed_search.specs.Shorter.{HasSomeOf, IsOver, IsShorter};
 
 use crate::copying::kept_lines;
 use crate::gathering::refutation_by;
@@ -22,7 +22,8 @@ use std::alloc::Global;
 
 const MOST_LINES: usize = 4294967293;
 
-/// The refutation of those lines of the whole one on which the ends of its branches rest, if it is valid.
+/// The refutation of those lines of the whole one on which the ends of its branches rest, if it is valid. So what is
+/// left out is needed by none of the lines that stay.
 ///
 /// # Errors
 ///
@@ -42,7 +43,8 @@ pub(crate) fn shorter(
     requires in_limit { IsInLimit ontology.now query.now }
     requires over { are_over (length concepts.now) (map line_of lines.now) ≡ true }
     requires listed { list_all (uses_names ontology.now concepts.now) (map line_of lines.now) ≡ true }
-    ensures { IfOk result (λ found. IfSome found (IsShorter ontology.now set.now query.now)) }
+    ensures valid { IfOk result (λ found. IfSome found (IsShorter ontology.now set.now query.now)) }
+    ensures lines { IfOk result (λ found. IfSome found (HasSomeOf concepts.now (map line_of lines.now))) }
 {
     if whole.lines().len() > MOST_LINES {
         return Ok(None);
@@ -69,7 +71,8 @@ fn of_lines(
     requires over { are_over (length concepts.now) (map line_of lines.items) ≡ true }
     requires listed { list_all (uses_names ontology.now concepts.now) (map line_of lines.items) ≡ true }
     requires nodes { list_all has_nodes (map line_of lines.items) ≡ true }
-    ensures { IfOk result (IsOver ontology.now set.now) }
+    ensures over { IfOk result (IsOver ontology.now set.now) }
+    ensures numbered { IfOk result (λ r. IsNumbered concepts.now r.axioms (map line_of lines.items) r) }
 {
     let idle = idle_role_axioms(alloc, &lines, ontology, set, concepts, roles)?;
     let mut named = axioms_named(alloc, ontology, set, &lines)?;
@@ -90,7 +93,8 @@ fn if_valid(
     requires set { set.now.limit ≡ length ontology.now.axioms }
     requires in_limit { IsInLimit ontology.now query.now }
     requires over { IsOver ontology.now set.now refutation }
-    ensures { IfOk result (λ found. IfSome found (IsShorter ontology.now set.now query.now)) }
+    ensures valid { IfOk result (λ found. IfSome found (IsShorter ontology.now set.now query.now)) }
+    ensures same { IfOk result (λ found. IfSome found (λ r. r ≡ refutation)) }
 {
     if refutation.lines().len() > MOST_LINES {
         return Ok(None);

@@ -2,11 +2,12 @@ use Rattle.std.proofs.Common.{List, map, subst}
 use Rattle.search_trace.specs.Line.{Line as Kept}
 use Rattle.search_trace.specs.RuleLine.{line_of}
 use Rattle.closed_search.specs.Named.{NamesAxioms}
+use Rattle.closed_search.proofs.Among.{numbered_by_own}
 use Rattle.closed_search.proofs.Refuted.{fewer_named, no_others_numbered, named_are_part}
 use Rattle.closed_search.proofs.shortening.of_lines.Goals as goal
 
-pub returns : goal.returns
-returns c =
+pub returns-clause-over : goal.returns-clause-over
+returns-clause-over c =
     let axioms = c.args.ontology.now.axioms in
     let s = c.args.set.now in
     let lines = map line_of c.args.lines.items in
@@ -25,3 +26,8 @@ returns c =
       part = named_are_part axioms s r.lines r.axioms others;
       writable = c.in_ok-refutation.ensures.writable c.requires.nodes;
     }
+
+pub returns-clause-numbered : goal.returns-clause-numbered
+returns-clause-numbered c =
+    numbered_by_own c.args.concepts.now c.take_all.new.self (map line_of c.args.lines.items)
+    c.in_ok-refutation.refutation c.in_ok-refutation.ensures.numbered
