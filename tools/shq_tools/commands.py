@@ -74,8 +74,8 @@ def called(place):
     return getattr(importlib.import_module(module), name)
 
 
-BUDGET = Option("--budget", "STEPS", "allow so many steps of search, from 1 to 4,294,967,295")
-SECONDS = Option("--seconds", "N", "allow so many seconds (60 without it), with budgets that grow; not with --budget")
+BUDGET = Option("--budget", "STEPS", "one run with a budget of so many steps, from 1 to 4,294,967,295")
+SECONDS = Option("--seconds", "N", "stop after so many seconds (60 without it), with growing budgets; not with --budget")
 
 APPROXIMATE = Option(
     "--approximate",
@@ -84,12 +84,12 @@ APPROXIMATE = Option(
     may_lack_value=True,
     prepares="shq_tools.approximation.command:prepared",
 )
-STRICT = Option("--strict", "", "end with status 10 where the file does not have a name of the question")
+STRICT = Option("--strict", "", "end with status 10 if the file lacks a name of the question")
 
 TIMED = (BUDGET, SECONDS)
 JSON = Option("--json", "", "the answer as one object of JSON, of the form of docs/answer.schema.json")
 LANGUAGE = Option("--language", "TAG", "the language of the names in that object or page, as en")
-FAIL_ON = Option("--fail-on", "contradictory", "end with status 1 where a class, or the whole, is contradictory")
+FAIL_ON = Option("--fail-on", "contradictory", "end with status 1 if a class, or the whole ontology, is contradictory")
 
 HTML = Option("--html", "", "the answer as a page")
 MARKDOWN = Option("--markdown", "", "the answer as text for a pull request or an issue")
@@ -102,15 +102,17 @@ ASK_OPTIONS = (*TIMED, STRICT, *JOB_OPTIONS)
 WHOLE_OPTIONS = (*TIMED, *JOB_OPTIONS)
 
 JOBS = (
-    Command("check", "whether a certificate behind the ontology is right", ("AXIOM",), options=CHECK_OPTIONS),
-    Command("audit", "whether an audit behind the ontology is right", ("AXIOM",), options=CHECK_OPTIONS),
+    Command("check", "whether the certificate after the ontology is right", ("AXIOM",), options=CHECK_OPTIONS),
+    Command(
+        "audit", "whether the audit after the ontology is right, and lacks nothing", ("AXIOM",), options=CHECK_OPTIONS
+    ),
     Command("entails", "whether AXIOM follows, with a certificate", ("AXIOM",), options=ASK_OPTIONS, has_budget=True),
     Command(
         "sat", "whether CLASS can have a member, with a certificate", ("CLASS",), options=ASK_OPTIONS, has_budget=True
     ),
     Command(
         "classify",
-        "the hierarchy of all classes, and those that are contradictory",
+        "the hierarchy of all classes, and which of them are contradictory",
         options=(*WHOLE_OPTIONS, FAIL_ON),
         has_budget=True,
     ),
@@ -119,8 +121,20 @@ JOBS = (
     Command(
         "why", "the individuals in CLASS, each with every reason", ("CLASS",), options=ASK_OPTIONS, has_budget=True
     ),
-    Command("explain", "every reason why AXIOM follows", ("AXIOM",), options=ASK_OPTIONS, has_budget=True),
-    Command("repair", "every way to stop AXIOM from following", ("AXIOM",), options=ASK_OPTIONS, has_budget=True),
+    Command(
+        "explain",
+        "every reason why AXIOM follows: each smallest set of axioms from which it does",
+        ("AXIOM",),
+        options=ASK_OPTIONS,
+        has_budget=True,
+    ),
+    Command(
+        "repair",
+        "every repair: each smallest set of axioms without which AXIOM does not follow",
+        ("AXIOM",),
+        options=ASK_OPTIONS,
+        has_budget=True,
+    ),
     Command(
         "evidence",
         "all reasons and repairs as an audit, with what shows each",
@@ -130,14 +144,14 @@ JOBS = (
     ),
     Command(
         "session",
-        "an answer to each line of a script, which stands behind the ontology or in SCRIPT",
+        "an answer to each line of a script, which follows the ontology or is in SCRIPT",
         files=("FILE", "SCRIPT"),
         options=WHOLE_OPTIONS,
         has_budget=True,
     ),
     Command(
         "workload",
-        "counts over an ontology that the program makes itself",
+        "counts the reasons and repairs of a query in an ontology that the program makes",
         ("N",),
         files=(),
         options=(*TIMED, JSON, HTML, MARKDOWN),
@@ -153,29 +167,29 @@ READ_OPTIONS = (
     Option("--labels", "FILE", "the ontology, or another file that has the labels"),
     Option("--language", "TAG", "the language of the labels, as en"),
     Option("--query", "AXIOM", "the statement, or the class, that was asked about"),
-    Option("--about", "CLASS", "of a taxonomy only what is above this class, and two levels below it"),
-    Option("--all", "", "of a world also what has nothing to do with the statement"),
+    Option("--about", "CLASS", "of a taxonomy only the classes above this class, and two levels below it"),
+    Option("--all", "", "of a world (an interpretation) also what has nothing to do with the statement"),
     Option("--dot", "", "a picture for Graphviz"),
     Option("--html", "", "one page"),
     Option("--markdown", "", "text for a pull request or an issue"),
-    Option("--pipe-status", "", "end with the status that the answer had"),
+    Option("--pipe-status", "", "end with the status that belongs to the answer"),
 )
 REPORT_OPTIONS = (
     APPROXIMATE,
-    Option("-o", "PAGE", "where it is written, in place of standard output"),
+    Option("-o", "PAGE", "the file to write, in place of standard output"),
     Option("--markdown", "", "text for a pull request or an issue, in place of a page"),
     Option("--language", "TAG", "the language of the labels, as en"),
-    Option("--seconds", "N", "how long the hierarchy may take, and all reasons together (60 without it)"),
+    Option("--seconds", "N", "the seconds that the hierarchy may take, and all reasons together (60 without it)"),
     Option("-j", "N", "how many questions are asked at once"),
-    Option("--fail-on", "contradictory", "end with 1 where something is contradictory"),
+    Option("--fail-on", "contradictory", "end with status 1 if a class, or the whole ontology, is contradictory"),
 )
 
-AT_ONCE = Option("-j", "N", "so many questions at once; as many as there are processors without it")
-EACH_SECONDS = Option("--seconds", "N", "allow so many seconds (60 without it) for each question")
+AT_ONCE = Option("-j", "N", "ask so many questions at once (without it, as many as there are processors)")
+EACH_SECONDS = Option("--seconds", "N", "stop each question after so many seconds (60 without it)")
 VERIFY_OPTIONS = (
     EACH_SECONDS,
     AT_ONCE,
-    Option("--junit", "REPORT", "write what came of each check to this file too, in the form of JUnit"),
+    Option("--junit", "REPORT", "write the result of each check to this file too, in the form of JUnit"),
     Option("--any-names", "", "ask also about names that the file does not have"),
     JSON,
     LANGUAGE,
@@ -185,8 +199,8 @@ VERIFY_OPTIONS = (
 DIFF_OPTIONS = (
     EACH_SECONDS,
     AT_ONCE,
-    Option("--all", "", "tell also what follows from the rest of what came or went"),
-    Option("--reasons", "N", "tell a reason for the first N statements that came (20 without it)"),
+    Option("--all", "", "list also what follows from other listed lines"),
+    Option("--reasons", "N", "give a reason for the first N statements that follow from NEW alone (20 without it)"),
     JSON,
     LANGUAGE,
     APPROXIMATE,
@@ -194,18 +208,21 @@ DIFF_OPTIONS = (
 
 TOOLS = (
     Command(
-        "profile", "lists all that is outside of the language", runner="shq_tools.profile:main", needs_program=False
+        "profile",
+        "lists everything that is outside of the language",
+        runner="shq_tools.profile:main",
+        needs_program=False,
     ),
     Command(
         "cut",
-        "writes the ontology without what is outside of the language",
+        "writes the ontology without the axioms that are outside of the language",
         runner="shq_tools.cut:main",
         needs_program=False,
     ),
     Command(
         "approximate",
-        "writes the ontology with what is outside of the language translated, as far as it can be said",
-        options=(Option("--full", "", "also what chains and inverses of roles say of each `all r C`"),),
+        "translates the ontology into the language, and says what is lost",
+        options=(Option("--full", "", "write also what chains and inverses of roles say of each `all r C`"),),
         runner="shq_tools.approximation.command:main",
         needs_program=False,
     ),
@@ -223,7 +240,7 @@ TOOLS = (
     ),
     Command(
         "verify",
-        "asks whether each check of a file holds: what must follow, and what must not",
+        "says of each line of CHECKS whether it holds: what must follow, and what must not",
         ("FILE", "CHECKS"),
         files=(),
         options=VERIFY_OPTIONS,
@@ -231,7 +248,7 @@ TOOLS = (
     ),
     Command(
         "diff",
-        "tells what follows from NEW and not from OLD, and the other way round",
+        "says what follows from NEW and not from OLD, and the other way round",
         ("OLD", "NEW"),
         files=(),
         options=DIFF_OPTIONS,
@@ -247,7 +264,7 @@ TOOLS = (
 )
 
 GENERAL_OPTIONS = (
-    Option("--help", "", "what the commands are, or with a command what it is for and its options"),
+    Option("--help", "", "the commands; with a command, what it does and its options"),
     Option("--version", "", "the version, and by which kit and when the program was proved"),
     Option("--unproved", "", "with a job: run the sources in a trial, before anything is proved, for a first look"),
 )
