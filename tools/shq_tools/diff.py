@@ -7,9 +7,8 @@ from shq_tools.answers import Realization, Taxonomy, Unread, answer
 from shq_tools.asker import Asker, at_once_in
 from shq_tools.budgets import SECONDS
 from shq_tools.commands import COMMANDS, JSON
-from shq_tools.differences import Said, came, first_ones, said_of
+from shq_tools.differences import Said, came, first_ones, said_of, statement_text, without_new_names
 from shq_tools.json_of_tools import object_of_changes, print_object
-from shq_tools.manchester import name_text
 from shq_tools.messages import say, say_plainly
 from shq_tools.names import Names
 from shq_tools.preparing import Unprepared, prepared
@@ -74,20 +73,10 @@ def what_follows(asker, side):
     return said_of(taxonomy, answered(asker, side, "realize", Realization) if has_types else None)
 
 
-def text_of(statement, names):
-    """A statement in Manchester syntax."""
-    if statement.kind == "inconsistent":
-        return "the ontology is inconsistent"
-    about = name_text(statement.about, names)
-    if statement.kind == "contradictory":
-        return f"{about} is contradictory"
-    return f"{about} {'Type' if statement.kind == 'type' else 'SubClassOf'} {name_text(statement.other, names)}"
-
-
 def tell(sign, statements, names, reasons, originals):
     """Prints statements, each with its reason where it has one."""
     for statement in statements:
-        print(f"{sign} {text_of(statement, names)}")
+        print(f"{sign} {statement_text(statement, names)}")
         for line in reason_lines(reasons.get(statement), names, originals):
             print(f"    {line}")
     sys.stdout.flush()
@@ -97,11 +86,6 @@ def reasons_for(asker, side, statements, most):
     """The axioms of a reason for each of the first statements, or None where none was found in time."""
     first = statements[:most]
     return dict(zip(first, asker.all(lambda it: smallest_reason(asker, it.question(), side.source, 0, 0), first)))
-
-
-def without_new_names(statements, names):
-    """The statements but those on what a translation made new."""
-    return [it for it in statements if it.about not in names.left_out and it.other not in names.left_out]
 
 
 @dataclass

@@ -1,6 +1,8 @@
 """What two ontologies say differently: of superclasses, of contradictory classes, and of the types of individuals."""
 from dataclasses import dataclass, field
 
+from shq_tools.manchester import name_text
+
 
 @dataclass
 class Said:
@@ -61,6 +63,21 @@ class Statement:
         if self.kind == "type":
             return f"ClassAssertion(<{self.other}> <{self.about}>)"
         return f"SubClassOf(<{self.about}> {f'<{self.other}>' if self.other else 'owl:Nothing'})"
+
+
+def statement_text(statement, names):
+    """A statement in Manchester syntax."""
+    if statement.kind == "inconsistent":
+        return "the ontology is inconsistent"
+    about = name_text(statement.about, names)
+    if statement.kind == "contradictory":
+        return f"{about} is contradictory"
+    return f"{about} {'Type' if statement.kind == 'type' else 'SubClassOf'} {name_text(statement.other, names)}"
+
+
+def without_new_names(statements, names):
+    """The statements but those on what a translation made new."""
+    return [it for it in statements if it.about not in names.left_out and it.other not in names.left_out]
 
 
 def pairs_of(found):

@@ -1,6 +1,7 @@
 """All that a report says of an ontology, gathered by questions to the program."""
 import time
 from dataclasses import dataclass, field
+from functools import partial
 
 from shq_tools.answers import Plain, Realization, SetList, Taxonomy, answer
 from shq_tools.approximation.command import translated
@@ -9,6 +10,7 @@ from shq_tools.asker import Deadline
 from shq_tools.caveats import NO_CAVEAT, Caveat
 from shq_tools.cut import blanked
 from shq_tools.documents import walked
+from shq_tools.fuller import FEW_SECONDS, TOO_SLOW, Added, Fuller, may_add
 from shq_tools.names import Names, labels_in, labels_of
 from shq_tools.ontology_facts import Ontology, ontology_in
 from shq_tools.profile import NOTES, counted, lines_text
@@ -27,7 +29,8 @@ MOST_OF_THE_TIME = 0.25
 class Given:
     """An ontology as the program is asked about it: its bytes, the ontology in them, and the names of things; of the
     file its name, how many axioms it has, and what of it is not said: rows with the construct, how often it stands
-    there, where, and a note. The rest is as in a `Reading`.
+    there, where, and a note. Of a translation of which the full form may say more, `fuller` makes what asks an asker
+    about that. The rest is as in a `Reading`.
     """
 
     data: bytes
@@ -38,6 +41,7 @@ class Given:
     not_said: list = field(default_factory=list)
     originals: dict = field(default_factory=dict)
     caveat: Caveat = NO_CAVEAT
+    fuller: object = None
 
 
 @dataclass
@@ -64,7 +68,8 @@ class Explained:
 @dataclass
 class Report:
     """What was given, the answers to `classify` and `realize` (None where there are no individuals), and what is
-    contradictory: classes, those first whose contradiction comes from no other one, or the ontology as a whole.
+    contradictory: classes, those first whose contradiction comes from no other one, or the ontology as a whole. What
+    the full form of a translation adds, or None where there is nothing to be had from it.
     """
 
     given: Given
@@ -72,6 +77,7 @@ class Report:
     realization: object
     explained: list
     seconds: float
+    added: Added = None
 
     @property
     def is_undecided(self):
@@ -88,7 +94,12 @@ class Report:
 
     @property
     def is_contradictory(self):
-        return bool(self.explained)
+        return bool(self.explained or self.contradictions_added)
+
+    @property
+    def contradictions_added(self):
+        """The statements of the full form alone that something is contradictory."""
+        return self.added.contradictions() if self.added else []
 
     def is_cut_short(self):
         """Whether some reasons or repairs were not found within the time."""
@@ -139,6 +150,8 @@ def given_of_translation(data, strength, file="", language=""):
     ontology = ontology_in(found.data)
     names = names_of(ontology, labels_in(found.data), language)
     told = {"originals": originals_of(found, names), "caveat": caveat_of(found)}
+    if may_add(found):
+        told["fuller"] = partial(Fuller, data, file, language)
     return Given(found.data, ontology, names, file, len(found.sources), **told)
 
 
@@ -220,6 +233,7 @@ class Reporter:
         classified = self.asker.later(("classify",), self.source, deadline)
         realized = self.asker.later(("realize",), self.source, deadline) if has_individuals else None
         taxonomy = answered(classified)
+        is_quick = time.monotonic() - begun < FEW_SECONDS
         explained = []
         if isinstance(taxonomy, Taxonomy) and not taxonomy.is_consistent:
             explained = self.explained([(ALL_FALSE, (TOP, BOTTOM, None))])
@@ -229,9 +243,18 @@ class Reporter:
         realization = realization if isinstance(realization, (Realization, Plain)) else None
         if isinstance(realization, Realization) and isinstance(taxonomy, Taxonomy):
             realization = shown_types(realization, taxonomy, self.given.names.shown)
+        added = self.added(taxonomy, realization, is_quick)
         is_ended = self.asker.signals.got is not None
         seconds = max(1, round(time.monotonic() - begun)) if is_ended else self.asker.seconds
-        return Report(self.given, taxonomy, realization, explained, seconds)
+        return Report(self.given, taxonomy, realization, explained, seconds, added)
+
+    def added(self, taxonomy, realization, is_quick):
+        """What the full form of a translation adds, behind all else, where it may be had."""
+        if self.given.fuller is None or not isinstance(taxonomy, Taxonomy) or not taxonomy.is_consistent:
+            return None
+        if not is_quick:
+            return Added(unknown=TOO_SLOW)
+        return self.given.fuller(self.asker).added(taxonomy, realization)
 
 
 def report_on(given, asker):

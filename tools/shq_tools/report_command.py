@@ -25,7 +25,8 @@ def words_of(words):
     parser.add_argument("--markdown", action="store_true", help="text for a pull request, in place of a page")
     parser.add_argument("--language", metavar="TAG", default="", help="the language of the labels, as en")
     parser.add_argument("--seconds", metavar="N", type=float, default=SECONDS,
-                        help=f"how long the hierarchy may take, and all reasons together ({SECONDS} without it)")
+                        help=f"how long the hierarchy may take, then all reasons together, then what the full "
+                             f"translation adds ({SECONDS} without it)")
     parser.add_argument("-j", "--jobs", metavar="N", type=int, default=None, help="how many questions at once")
     parser.add_argument("--fail-on", choices=["contradictory"], help="end with 1 where something is contradictory")
     parser.add_argument("--approximate", metavar="full", nargs="?", const="",

@@ -1,18 +1,21 @@
 """A report as text for a pull request or an issue, in GitHub's Markdown."""
 from dataclasses import replace
 
+from shq_tools.differences import statement_text
 from shq_tools.report_words import (
+    ADDED,
     ANY_ONE,
     CHECKED_APART,
     MOST_SETS,
-    NO_CLASS,
     NOT_ASKED,
     RULE,
+    added_text,
     caveat_behind,
     cut_short_text,
     facts_of,
     found_text,
     is_plain_choice,
+    no_class_text,
     reading_for,
     title_of,
 )
@@ -69,7 +72,7 @@ def html_text(text):
 def contradictory_lines(report):
     """What is contradictory, as far as there is room."""
     if not report.explained:
-        return [NO_CLASS, ""]
+        return [no_class_text(report), ""]
     lines = [RULE, ""] if any(it.is_derived for it in report.explained) else []
     lines += [cut_short_text(report), ""] if report.is_cut_short() else []
     size, names = 0, report.given.names
@@ -83,6 +86,18 @@ def contradictory_lines(report):
     return lines
 
 
+def added_lines(report):
+    """What the full form of a translation adds, each statement with its reason where there is one."""
+    added = report.added
+    if added is None:
+        return []
+    lines = [f"### {ADDED}", "", added_text(added), ""]
+    rows = []
+    for statement in added.statements:
+        rows += [statement_text(statement, added.names), *(f"  {it}" for it in added.reasons.get(statement, []))]
+    return [*lines, *["```text", *rows, "```", ""] * bool(rows)]
+
+
 def markdown_of_report(report):
     """The whole text."""
     lines = [f"## {plain(title_of(report))}", "", *caveat_behind(report)]
@@ -92,5 +107,6 @@ def markdown_of_report(report):
     if not report.is_undecided:
         lines += ["### Contradictory classes" if not report.is_inconsistent else "### Why", ""]
         lines += contradictory_lines(report)
+    lines += added_lines(report)
     lines += [CHECKED_APART, ""] * bool(report.explained)
     return "\n".join([*lines, f"Made by `./shq report`, {made_at()}.", ""])

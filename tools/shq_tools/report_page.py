@@ -3,22 +3,25 @@ from dataclasses import replace
 from html import escape
 
 from shq_tools.answers import Realization
+from shq_tools.differences import statement_text
 from shq_tools.markup import bar, details, element, fold_buttons, note_box, table, whole_page, wrapped
 from shq_tools.ontology_facts import made_at
 from shq_tools.page import linked, list_parts, tree_parts
 from shq_tools.report_words import (
+    ADDED,
     ANY_ONE,
     CHECKED_APART,
     MOST_SETS,
-    NO_CLASS,
     NOT_ASKED,
     RULE,
+    added_text,
     caveat_behind,
     command_for,
     cut_short_text,
     facts_of,
     found_text,
     is_plain_choice,
+    no_class_text,
     reading_for,
     title_of,
     verdict_of,
@@ -113,7 +116,7 @@ class ReportPage:
         """The contradictory classes."""
         explained = self.report.explained
         if not explained:
-            return [element("p", NO_CLASS)]
+            return [element("p", no_class_text(self.report))]
         first = [it for it in explained if not it.is_derived]
         others = [it for it in explained if it.is_derived]
         parts = [element("p", RULE, "quiet")] * bool(others)
@@ -151,6 +154,16 @@ class ReportPage:
         shown = table(["individual", "most specific classes"], rows, "Individuals")
         return [details(counted(len(rows), "individual"), shown, len(rows) <= OPEN_ROWS)]
 
+    def added(self):
+        """What the full form of a translation adds, each statement with its reason, to be opened, where there is one."""
+        added = self.report.added
+        rows = []
+        for statement in added.statements:
+            text, lines = escape(statement_text(statement, added.names)), added.reasons.get(statement, [])
+            reason = "".join(element("li", it) for it in lines)
+            rows.append(f"<li>{details(text, f'<ul>{reason}</ul>') if lines else text}</li>")
+        return [element("p", added_text(added)), *[f"<ul>{''.join(rows)}</ul>"] * bool(rows)]
+
     def sections(self):
         """The parts of the page, each with its place and its heading."""
         report = self.report
@@ -163,6 +176,8 @@ class ReportPage:
         found = [("contradictory", heading, self.contradictory()), ("classes", "Classes", self.classes())]
         if report.realization is not None:
             found.append(("individuals", "Individuals", self.individuals()))
+        if report.added is not None:
+            found.append(("added", ADDED, self.added()))
         return found
 
     def head(self):

@@ -1,4 +1,5 @@
 """The sentences of a report, for a page and for a pull request."""
+from shq_tools.differences import statement_text
 from shq_tools.messages import seconds_text
 from shq_tools.reading import Reading
 from shq_tools.wording import counted, verdict
@@ -12,6 +13,7 @@ RULE = (
     "one of its reasons."
 )
 NO_CLASS = "No class is contradictory: each can have a member."
+NO_CLASS_IN_LIGHT = "By the light form of the translation no class is contradictory."
 ANY_ONE = "Without any one of these axioms there is no contradiction."
 NOT_ASKED = "There was no time to ask for its reasons."
 
@@ -26,7 +28,23 @@ def verdict_of(report):
     """What a report says in one sentence."""
     if report.is_undecided:
         return f"Not decided within {seconds_text(report.seconds)}."
+    if report.contradictions_added:
+        return verdict_with_added(report)
     return reading_for(report.given, report.taxonomy).heading()
+
+
+def verdict_with_added(report):
+    """The same where the full form of a translation finds more contradictory."""
+    found = report.contradictions_added
+    if found[0].kind == "inconsistent":
+        return "By the full form of the translation the ontology is contradictory as a whole."
+    count = len(found) + len(report.given.names.shown(report.taxonomy.nothing))
+    classes = report.given.ontology.counts(report.given.names)["class"]
+    alone = "" if count == len(found) == 1 else f"{len(found):,} of them "
+    return (
+        f"{count:,} of {counted(classes, 'class')} {'is' if count == 1 else 'are'} contradictory, "
+        f"{alone}by the full form of the translation alone."
+    )
 
 
 def title_of(report):
@@ -46,7 +64,35 @@ def facts_of(report):
 
 def caveat_behind(report):
     """What the verdict on the whole is worth, as sentences."""
-    return report.given.caveat.behind(verdict(report.taxonomy))
+    return [*report.given.caveat.behind(verdict(report.taxonomy)), *contradictions_added(report)]
+
+
+def contradictions_added(report):
+    """What the full form of a translation finds contradictory besides, as sentences."""
+    found = [statement_text(it, report.added.names) for it in report.contradictions_added]
+    return [f"By the full form of the translation more is contradictory: {'; '.join(found)}."] if found else []
+
+
+def no_class_text(report):
+    """That no class is contradictory, where that is not said of the light form of a translation alone."""
+    return NO_CLASS_IN_LIGHT if report.contradictions_added else NO_CLASS
+
+
+ADDED = "What the full form adds"
+
+
+def added_text(added):
+    """What the full form of a translation adds, in a sentence or two."""
+    if added.unknown:
+        return added.unknown
+    if not added.statements:
+        return "The full form of the translation adds nothing: no superclass, no contradictory class, no type."
+    more = f" {added.left_out:,} that follow from these are left out." if added.left_out else ""
+    return (
+        f"By the full form of the translation {counted(len(added.statements), 'statement')} more "
+        f"follow{'s' if len(added.statements) == 1 else ''} from the whole file.{more} The rest of this page is on the "
+        "light form."
+    )
 
 
 def is_plain_choice(one):
