@@ -75,7 +75,7 @@ def called(place):
 
 
 BUDGET = Option("--budget", "STEPS", "one run with a budget of so many steps, from 1 to 4,294,967,295")
-SECONDS = Option("--seconds", "N", "stop after so many seconds (60 without it), with growing budgets; not with --budget")
+SECONDS = Option("--seconds", "N", "stop after N seconds (60 without it), with growing budgets; not with --budget")
 
 APPROXIMATE = Option(
     "--approximate",
