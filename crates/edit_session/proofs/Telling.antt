@@ -21,7 +21,7 @@ use Rattle.shq_oracle.specs.Entry.{Entry}
 use Rattle.shq_oracle.specs.Entry.TheVariants.{Test}
 use Rattle.shq_oracle.specs.TestEnd.{TestEnd}
 use Rattle.shq_oracle.specs.TestEnd.TheVariants as E
-use Rattle.shq_oracle.specs.Entries.{spent_of, is_spent, IsAnswered}
+use Rattle.shq_oracle.specs.Entries.{spent_of, is_spent}
 use Rattle.shq_oracle.specs.HonestLog.{IsAxiomSet, IsHonestEntry}
 use Rattle.shq_oracle.proofs.Named.{follows_from}
 use Rattle.job_inputs.specs.Complaints.{Complaint, complaint}
@@ -34,7 +34,7 @@ use Rattle.edit_session.specs.Said.{bad_line, yes_line, no_line, IsRemoved, IsYe
 use Rattle.edit_session.specs.Said.{IsNo, IsAddedOrRefused, IsRemovedOrNot, IsAnsweredOrRefused, SaidTo, Said}
 use Rattle.edit_session.specs.SessionLog.{Tests}
 use Rattle.edit_session.specs.Held.{IsOfHeld, Holds}
-use Rattle.edit_session.specs.Logged.{LogsAtMostOne, ShowsAnswer}
+use Rattle.edit_session.specs.Logged.{LogsAtMostOne, ShowsVerdict, ShowsAnswer}
 use Rattle.edit_session.specs.Places.{AreFiled, MayBeNotedOf}
 use Rattle.edit_session.specs.Asking.{IsTold, TestsAtMostOnce}
 use Rattle.edit_session.specs.Asked.{IsAsked, IsUnasked}
@@ -183,26 +183,29 @@ module _ (old new : SessionLists) (budget : ℕ) (text : List ℕ) (before after
         says = says;
       }
 
-  -- an entry answers the query
-  told_answers : (v : Outcome) (q : Query) → IsTold after s q v → IsAnswered after s q
-  told_answers (Yes u) q told = (Test told.0 q told.1 (E.Yes u), told.2, (refl, told.3))
-  told_answers No q told = (Test told.0 q told.1 E.No, told.2, (refl, told.3))
-  told_answers Undecided q told = absurd told
+  yes_shown : (u : Limited) (q : Query) (answer : List ℕ) → IsTold after s q (Yes u) → answer ≡ yes_line u
+      → ShowsVerdict after s q answer
+  yes_shown u q answer told says =
+      inl (record { tested = told.0; steps = told.1; found = u; is_yes = told.2; part = told.3; says = says })
 
-  shows : (v : Outcome) (a : IsSo v) (l : List ℕ) → request l ≡ asks text → IsTold after s a.query v
-      → ShowsAnswer old.state l after
-  shows v a l asked told again both q asked_too is =
+  no_shown : (q : Query) (answer : List ℕ) → IsTold after s q No → answer ≡ no_line → ShowsVerdict after s q answer
+  no_shown q answer told says =
+      inr (record { tested = told.0; steps = told.1; is_no = told.2; has_part = told.3; says = says })
+
+  shows : (v : Outcome) (a : IsSo v) (answer l : List ℕ) → request l ≡ asks text → ShowsVerdict after s a.query answer
+      → ShowsAnswer old.state l answer after
+  shows v a answer l asked shown again both q asked_too is =
       let same_text : text ≡ again = cc (sym asked ∙ asked_too) in
       let is' : IsQueryOn old.state.context o text both q =
       subst (λ (t : List ℕ). IsQueryOn old.state.context o t both q) (sym same_text) is in
       let same =
       queries old.state.context.prefixes o.axioms (query_start o old.state.context.nodes) text a.is_query.0 is'.0
       a.query q a.is_query.1 is'.1 in
-      subst (IsAnswered after s) same.1 (told_answers v a.query told)
+      subst (λ (asks' : Query). ShowsVerdict after s asks' answer) same.1 shown
 
-  shows_none : (e : Refusal) (l : List ℕ) → request l ≡ asks text → IsNoQueryOn old.state.context o text e
-      → ShowsAnswer old.state l after
-  shows_none e l asked why again both q asked_too is =
+  shows_none : (e : Refusal) (answer l : List ℕ) → request l ≡ asks text → IsNoQueryOn old.state.context o text e
+      → ShowsAnswer old.state l answer after
+  shows_none e answer l asked why again both q asked_too is =
       let same_text : text ≡ again = cc (sym asked ∙ asked_too) in
       let is' : IsQueryOn old.state.context o text both q =
       subst (λ (t : List ℕ). IsQueryOn old.state.context o t both q) (sym same_text) is in
@@ -211,13 +214,12 @@ module _ (old new : SessionLists) (budget : ℕ) (text : List ℕ) (before after
 
   answered : (v : Outcome) (a : IsSo v) (answer l : List ℕ) → request l ≡ asks text
       → IsYes old.state a.query answer ⊎ IsNo old.state a.query answer → TestsAtMostOnce a.both s a.query before after
-      → IsTold after s a.query v
-      → IsAnsweredLine budget old l before new after answer
-  answered v a answer l asked verdict once told = record {
+      → ShowsVerdict after s a.query answer → IsAnsweredLine budget old l before new after answer
+  answered v a answer l asked verdict once shown = record {
     is_said = said l answer asked
         (inl (record { both = a.both; query = a.query; is_query = a.is_query; verdict = verdict; same = state }));
     logged = logs v a l asked once;
-    shown = shows v a l asked told;
+    shown = shows v a answer l asked shown;
     may_go_on = go_on a.both a.query (same_axioms v a) once;
   }
 
@@ -225,10 +227,11 @@ module _ (old new : SessionLists) (budget : ℕ) (text : List ℕ) (before after
       → OnErr asked (after ≡ before) → (found : Option (List ℕ)) → IsTextOf asked found
       → IsAskTold budget old text before new after found
   ask_told (Ok (Yes u)) a un same (Some answer) t l asked =
-      answered (Yes u) a answer l asked (inl (yes_is u a answer t.1 t.0)) a.decided.0 a.decided.1
+      answered (Yes u) a answer l asked (inl (yes_is u a answer t.1 t.0)) a.decided.0
+      (yes_shown u a.query answer a.decided.1 t.0)
   ask_told (Ok (Yes u)) a un same None t l asked = absurd t
   ask_told (Ok No) a un same (Some answer) t l asked =
-      answered No a answer l asked (inr (no_is a answer t)) a.decided.0 a.decided.1
+      answered No a answer l asked (inr (no_is a answer t)) a.decided.0 (no_shown a.query answer a.decided.1 t)
   ask_told (Ok No) a un same None t l asked = absurd t
   ask_told (Ok Undecided) a un same (Some answer) t l asked = absurd t
   ask_told (Ok Undecided) a un same None t l asked = (
@@ -250,7 +253,7 @@ module _ (old new : SessionLists) (budget : ℕ) (text : List ℕ) (before after
     is_said = said l answer asked
         (inr (record { refusal = e; is_why = un (complaint_known e t.wrong t.is_wrong); same = state; says = t }));
     logged = inl same;
-    shown = shows_none e l asked (un (complaint_known e t.wrong t.is_wrong));
+    shown = shows_none e answer l asked (un (complaint_known e t.wrong t.is_wrong));
     may_go_on = go_on_same same;
   }
   ask_told (Err e) a un same None t l asked = absurd t

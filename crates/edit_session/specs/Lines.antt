@@ -33,7 +33,7 @@ pub record IsAnsweredLine (budget : ℕ) (old : SessionLists) (l : List ℕ) (be
     (after : List Entry) (answer : List ℕ) : Type 0 where
   pub is_said : Said old.state l new.state answer
   pub logged : LogsAtMostOne old.state l before after
-  pub shown : ShowsAnswer old.state l after
+  pub shown : ShowsAnswer old.state l answer after
   pub may_go_on : MayGoOn new budget after
 
 -- the line was answered, or its query could not be decided and there is no answer

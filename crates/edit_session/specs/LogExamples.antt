@@ -54,8 +54,8 @@ module _ (s : State) (k : ℕ) (l : List ℕ) (is_removal : request l ≡ remove
   answered : (old new : State) (answer : List ℕ) → SaidTo old (removes k) new answer → Said old l new answer
   answered old new answer said = subst (λ (r : Request). SaidTo old r new answer) (sym is_removal) said
 
-  asks_nothing : (old : State) → ShowsAnswer old l log
-  asks_nothing old text both q is_asked is_query =
+  asks_nothing : (old : State) (answer : List ℕ) → ShowsAnswer old l answer log
+  asks_nothing old answer text both q is_asked is_query =
       let clash : removes k ≡ asks text = sym is_removal ∙ is_asked in cc clash
 
   pub two_removals : set.contains s.live k ≡ true
@@ -63,5 +63,7 @@ module _ (s : State) (k : ℕ) (l : List ℕ) (is_removal : request l ≡ remove
   two_removals live =
       one_more (l ∷ []) (without s k) log (numbered_line (codes "removed") k) l (without s k) log bad_line
       (one_more [] s log [] l (without s k) log (numbered_line (codes "removed") k) nothing
-      (answered s (without s k) _ (removes_live s k live)) (inl refl) (asks_nothing s))
-      (answered (without s k) (without s k) bad_line (removes_none_twice s k)) (inl refl) (asks_nothing (without s k))
+      (answered s (without s k) _ (removes_live s k live)) (inl refl)
+      (asks_nothing s (numbered_line (codes "removed") k)))
+      (answered (without s k) (without s k) bad_line (removes_none_twice s k)) (inl refl)
+      (asks_nothing (without s k) bad_line)

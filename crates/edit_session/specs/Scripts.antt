@@ -18,7 +18,8 @@ pub data HasTold (start : State) (before : List Entry) : List (List ℕ) → Sta
   nothing : HasTold start before [] start before []
   one_more : (ls : List (List ℕ)) (s : State) (log : List Entry) (text : List ℕ) (l : List ℕ) (next : State)
       (after : List Entry) (answer : List ℕ)
-      → HasTold start before ls s log text → Said s l next answer → LogsAtMostOne s l log after → ShowsAnswer s l after
+      → HasTold start before ls s log text → Said s l next answer → LogsAtMostOne s l log after
+      → ShowsAnswer s l answer after
       → HasTold start before (ls ++ l ∷ []) next after (text ++ answer)
 
 -- all lines of the script are answered, and the log is honest
