@@ -10,6 +10,7 @@ use Rattle.realizer.specs.declared.types.Types.{Types}
 use Rattle.realizer.specs.Instances.{AreInstances, instances_text}
 use Rattle.realizer.specs.Realization.{AreTypes, realization_text}
 use Rattle.realizer.specs.RealizationLogs.{IsInstancesLog, IsRealizationLog}
+use Rattle.realizer.specs.ShownLogs.{ShowsInstances, ShowsTypes}
 use Rattle.job_inputs.specs.Answer.{line}
 use Rattle.job_inputs.specs.Refusals.{OnDocument, IsRefusedDocument, IsOutOfMemory}
 use Rattle.job_inputs.specs.declared.status.Status.{Status}
@@ -19,12 +20,14 @@ use Rattle.individual_jobs.specs.Answers.{AnswersOnClass}
 
 -- ---- the types of all individuals
 
--- they are found: the text is that of the realization, and the log is honest and has no test that spent the budget
+-- they are found: the text is that of the realization, and the log is honest, shows it of each individual and each
+-- class, and has no test that spent the budget
 pub record IsRealized (budget : ℕ) (out : List ℕ) (log : List Entry) (o : Listed) : Type 0 where
   pub types : Types
   pub are_types : AreTypes o types
   pub text : out ≡ realization_text o types
   pub honest : IsRealizationLog o budget log
+  pub shown : ShowsTypes o log
   pub unspent : list_any is_spent log ≡ false
 
 -- the budget was spent in the middle of a test, the last one of an honest log, and the text says nothing else
@@ -52,12 +55,14 @@ AnswersRealization budget bytes out WriteFault log = ⊥
 
 -- ---- the instances of a class expression
 
--- they are found: the text lists them, and the log is honest and has no test that spent the budget
+-- they are found: the text lists them, and the log is honest, shows it of each individual, and has no test that spent
+-- the budget
 pub record IsFound (budget : ℕ) (out : List ℕ) (log : List Entry) (o : Listed) (c : Concept) : Type 0 where
   pub found : List ℕ
   pub are_instances : AreInstances o c found
   pub text : out ≡ instances_text o found
   pub honest : IsInstancesLog o c budget log
+  pub shown : ShowsInstances o c log
   pub unspent : list_any is_spent log ≡ false
 
 -- the budget was spent in the middle of a test, the last one of an honest log, and the text says nothing else

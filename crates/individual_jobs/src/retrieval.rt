@@ -7,6 +7,7 @@ ghost use Rattle.realizer.specs.Stops.{IsStop};
 ghost use Rattle.realizer.specs.ClassNames.{are_listed};
 ghost use Rattle.realizer.specs.Instances.{AreInstances, instances_text};
 ghost use Rattle.realizer.specs.RealizationLogs.{IsInstancesLog};
+ghost use Rattle.realizer.specs.ShownLogs.{ShowsInstances};
 ghost use Rattle.job_inputs.specs.Answer.{text_bytes, is_fault};
 ghost use Rattle.job_inputs.specs.Questions.{has_element};
 ghost use Rattle.job_inputs.specs.Refusals.{IsUnanswered};
@@ -113,6 +114,7 @@ fn list_of(
     requires in_limit { AreInLimit ontology.now class.now }
     requires unlogged { log.old ≡ [] }
     ensures found { IfOk result (AreInstances ontology.now class.now) }
+    ensures shown { OnOk result (ShowsInstances ontology.now class.now log.new) }
     ensures unspent { OnOk result (list_any is_spent log.new ≡ false) }
     ensures listed { IfOk result (λ found. IsTrue (are_listed (length ontology.now.individuals) found)) }
     ensures halted { IfErr result (IsStop budget log.new) }

@@ -1,7 +1,7 @@
 -- How the questions on one individual begin and end.
 use Rattle.std.proofs.Common.{◌≡◌, ℕ, ◌+◌, ◌<◌, ◌&&◌, not, Bool, true, false, List, length, refl, sym, subst, ◌∙◌}
 use Rattle.std.proofs.Common.{arith, inl, inr}
-use Rattle.std.specs.Prelude.{None}
+use Rattle.std.specs.Prelude.{Option, Some, None}
 use Rattle.std.proofs.lemmas.Bool.{cases_lt, lt-ltb}
 use Rattle.std.proofs.lemmas.List.Elements.{All-weaker}
 use Rattle.axiom_sets.specs.Sets.{Limited}
@@ -26,18 +26,21 @@ use Rattle.subsumption.proofs.InLimit.{at_top, at_name}
 use Rattle.subsumption.specs.ClassSets.{has_class}
 use Rattle.realizer.specs.Instances.{instance_query, IsInstance}
 use Rattle.realizer.specs.TypeRows.{typed_by}
-use Rattle.realizer.specs.Candidates.{AreCandidateRows}
+use Rattle.realizer.specs.Candidates.{AreCandidateRows, AreFullRows}
+use Rattle.realizer.specs.ShownLogs.{IsShownType}
 use Rattle.realizer.specs.Asked.{IsBefore, IsOnEarlier, IsEarlier, IsKnownOn, IsKnown, IsAmid, IsOpenClass}
 use Rattle.realizer.proofs.Truths.{instance_of_all}
 use Rattle.realizer.proofs.Chains.{realization_log, earlier_class}
+use Rattle.realizer.proofs.Shown.{rows_at_first}
 
 -- ---- before the first individual
 
 pub before_all : (l : OracleLists) (known : Rows) (axioms : Limited) (rows : List Limited)
     → IsOntologyInLimit l.ontology → IsClassificationLog l.ontology l.budget l.log → IsStop l.budget l.log stop.NoMemory
     → IsSettled l.ontology l.log known
-    → IsWhole l.ontology axioms → AreCandidateRows l.ontology 0 rows → IsBefore l known axioms 0 rows
-before_all l known axioms rows limit honest goes settled whole candidates = record {
+    → IsWhole l.ontology axioms → AreCandidateRows l.ontology 0 rows → AreFullRows l.ontology rows
+    → IsBefore l known axioms 0 rows
+before_all l known axioms rows limit honest goes settled whole candidates full = record {
   typing = record {
     in_limit = limit;
     honest = realization_log l.ontology l.budget l.log honest;
@@ -47,6 +50,7 @@ before_all l known axioms rows limit honest goes settled whole candidates = reco
     order = settled.order;
     is_so = settled.is_so;
     candidates = candidates;
+    shown = rows_at_first l.ontology l.budget l.log known rows honest settled full;
   };
   earlier = All-weaker (IsClassTest l.ontology) (IsEarlier 0) (earlier_class l.ontology 0) l.log honest.tests;
 }
@@ -55,13 +59,14 @@ before_all l known axioms rows limit honest goes settled whole candidates = reco
 pub before_on : (o : Listed) (l : OracleLists) (known : Rows) (axioms : Limited) (rows : List Limited) → l.ontology ≡ o
     → IsOntologyInLimit o → IsClassificationLog o l.budget l.log → IsStop l.budget l.log stop.NoMemory
     → IsSettled o l.log known
-    → IsWhole o axioms → AreCandidateRows o 0 rows → IsBefore l known axioms 0 rows
-before_on o l known axioms rows same limit honest goes settled whole candidates =
+    → IsWhole o axioms → AreCandidateRows o 0 rows → AreFullRows o rows → IsBefore l known axioms 0 rows
+before_on o l known axioms rows same limit honest goes settled whole candidates full =
     before_all l known axioms rows (subst IsOntologyInLimit (sym same) limit)
     (subst (λ (p : Listed). IsClassificationLog p l.budget l.log) (sym same) honest) goes
     (subst (λ (p : Listed). IsSettled p l.log known) (sym same) settled)
     (subst (λ (p : Listed). IsWhole p axioms) (sym same) whole)
     (subst (λ (p : Listed). AreCandidateRows p 0 rows) (sym same) candidates)
+    (subst (λ (p : Listed). AreFullRows p rows) (sym same) full)
 
 -- ---- the questions
 
@@ -121,6 +126,12 @@ module _ (l : OracleLists) (known : Rows) (axioms : Limited) (a : ℕ) (rows : L
           (record { sub = class_at n known.count; sup = c; on = Any }))
           (at_name n y (omega (arith, ly, b.typing.count_is))) e));
     };
+    types_shown =
+        λ y ly h. record {
+          lower = known.count;
+          is_part = sym (is y (omega (arith, ly))) ∙ h;
+          is_type = inl refl;
+        };
   }
 
 -- ---- and the last
@@ -164,6 +175,25 @@ module _ (l : OracleLists) (known : Rows) (axioms : Limited) (a : ℕ) (rows : L
               (amid.types_known.sure y yc (member (typed_by rows a y) (has_class types y) (none y yc) here))
         ];
       };
+      shown = record {
+        chains = amid.typing.shown.chains;
+        in_rows = λ c y before_next lc ly h. elim (cases_lt c a) [
+          | inl lt ↦ amid.typing.shown.in_rows c y lt lc ly h
+          | inr ge ↦
+              let e : c ≡ a = omega (arith, before_next, ge) in
+              let yc : y < known.count = omega (arith, ly, amid.typing.count_is) in
+              let here : typed_by rows a y ≡ true = subst (λ (d : ℕ). typed_by rows d y ≡ true) e h in
+              subst (λ (d : ℕ). IsShownType known l.log d y) (sym e)
+              (amid.types_shown y yc (member (typed_by rows a y) (has_class types y) (none y yc) here))
+        ];
+        out_of_rows = amid.typing.shown.out_of_rows;
+      };
     };
     earlier = All-weaker (IsKnown rows a types) (IsEarlier (a + 1)) earlier_known l.log amid.noted;
   }
+
+  -- the same where no class was found
+  pub ends_at : (r : Option ℕ) → IsOpenClass known.count rows a types r → ((x : ℕ) → r ≡ Some x → ⊥)
+      → IsBefore l known axioms (a + 1) rows
+  ends_at None none found = ends none
+  ends_at (Some x) some found = absurd (found x refl)

@@ -3,7 +3,7 @@ use Rattle.std.proofs.Common.{◌≡◌, ℕ, ◌+◌, ◌<◌, ◌≤◌, ◌&&
 use Rattle.std.proofs.Common.{sym, ap, subst, ◌∙◌, arith, inl, inr}
 use Rattle.std.specs.Prelude.{nat_lt, nat_le}
 use Rattle.std.specs.List.{list_any, All}
-use Rattle.std.proofs.lemmas.Bool.{cases_lt, and_parts, and_from, or_right, le-leb, le-ltb, true≢false}
+use Rattle.std.proofs.lemmas.Bool.{cases_Bool, cases_lt, and_parts, and_from, or_right, le-leb, le-ltb, true≢false}
 use Rattle.std.proofs.lemmas.List.Elements.{All-nil, All-push, All-weaker}
 use Rattle.lane_sieve.specs.Sets.{passing}
 use Rattle.axiom_sets.specs.Sets.{Limited, IsFull}
@@ -31,7 +31,9 @@ use Rattle.realizer.specs.RealizationLogs.{IsInstancesLog, IsInstanceTest}
 use Rattle.realizer.specs.Candidates.{has_individual, stays_possible, AreCandidates}
 use Rattle.realizer.specs.Asked.{AreAlike, IsOnBefore, IsTestBefore, IsAsking, HasHalted}
 use Rattle.realizer.proofs.Truths.{follows_by_yes, no_instance, asked_is_out}
+use Rattle.realizer.specs.ShownLogs.{ShowsMembers}
 use Rattle.realizer.proofs.Logged.{instances_more}
+use Rattle.realizer.proofs.Shown.{members_stay, members_next, last_yes, last_no}
 
 -- ---- the individuals before one, and that one
 
@@ -66,6 +68,7 @@ passed_over l c i members h out = record {
   goes_on = h.goes_on;
   before = All-weaker (IsTestBefore i) (IsTestBefore (i + 1)) (before_more i) l.log h.before;
   candidates = candidates_next l.ontology c i members h.candidates (λ member. absurd (true≢false (sym member ∙ out)));
+  shown = members_next l.ontology c l.log i members h.shown (λ member. absurd (true≢false (sym member ∙ out)));
 }
 
 -- ---- one question more
@@ -98,8 +101,10 @@ module _ (before : OracleLists) (c : Concept) (i : ℕ) (members : Limited) (ask
 
     asking_with : (steps : ℕ) (e : TestEnd) → after.log ≡ before.log ++ entry steps e ∷ []
         → IsHonestEntry before.ontology (entry steps e) → ended_spent e ≡ false
-        → (members' : Limited) → AreCandidates before.ontology c (i + 1) members' → IsAsking after c (i + 1) members'
-    asking_with steps e same so goes members' candidates =
+        → (members' : Limited) → AreCandidates before.ontology c (i + 1) members'
+        → ShowsMembers before.ontology c (before.log ++ entry steps e ∷ []) (i + 1) members'
+        → IsAsking after c (i + 1) members'
+    asking_with steps e same so goes members' candidates shown =
         subst (λ (l : OracleLists). IsAsking l c (i + 1) members') (is_with steps e same) (record {
           in_limit = asking.in_limit;
           honest = honest_with steps e same so (λ h. absurd (true≢false (sym h ∙ goes)));
@@ -109,6 +114,7 @@ module _ (before : OracleLists) (c : Concept) (i : ℕ) (members : Limited) (ask
               (All-weaker (IsTestBefore i) (IsTestBefore (i + 1)) (before_more i) before.log asking.before)
               (omega arith);
           candidates = candidates;
+          shown = shown;
         })
 
     -- it is an instance
@@ -119,6 +125,9 @@ module _ (before : OracleLists) (c : Concept) (i : ℕ) (members : Limited) (ask
         asking_with steps (E.Yes v) same so refl members
         (candidates_next before.ontology c i members asking.candidates
         (λ member. follows_by_yes before.ontology axioms asked steps v whole so))
+        (members_next before.ontology c (before.log ++ entry steps (E.Yes v) ∷ []) i members
+        (members_stay before.log (entry steps (E.Yes v)) before.ontology c i members asking.shown)
+        (λ member. last_yes before.log axioms asked steps v))
     yes_by_end steps u E.No ends same so = absurd ends
     yes_by_end steps u (E.Spent t) ends same so = absurd ends
 
@@ -170,11 +179,36 @@ module _ (before : OracleLists) (c : Concept) (i : ℕ) (members : Limited) (ask
           shut false true h k is = absurd (cc k)
           shut false false h k is = absurd (cc is)
 
+      -- those that it takes out are shown to be none
+      shown_fewer : (steps : ℕ)
+          → ShowsMembers before.ontology c (before.log ++ entry steps E.No ∷ []) i members'
+      shown_fewer steps =
+          let old = members_stay before.log (entry steps E.No) before.ontology c i members asking.shown in
+          record {
+            in_them =
+                λ a lt la h. old.in_them a lt la
+                (and_parts (has_individual members a) (stays_possible (meaning m) c i a) (sym (was a la) ∙ h)).0;
+            out_of_them = λ a la gone. elim (cases_Bool (has_individual members a)) [
+              | inl member ↦ elim (cases_Bool (holds (meaning m) c ((meaning m).individual a))) [
+                | inl there ↦
+                    absurd (true≢false
+                    (sym (was a la
+                    ∙ and_from (has_individual members a) (stays_possible (meaning m) c i a) member
+                    (or_right (nat_lt a i) (holds (meaning m) c ((meaning m).individual a)) there))
+                    ∙ gone))
+                | inr out ↦ last_no before.ontology before.log axioms asked steps m r c a out
+              ]
+              | inr none ↦ old.out_of_them a la none
+            ];
+          }
+
       no_by_end : (steps : ℕ) (e : TestEnd) → EndsAs No e → after.log ≡ before.log ++ entry steps e ∷ []
           → IsHonestEntry before.ontology (entry steps e) → IsAsking after c (i + 1) members'
       no_by_end steps E.No ends same so =
           asking_with steps E.No same so refl members'
           (candidates_next before.ontology c i members' fewer (λ member. absurd (out_now member)))
+          (members_next before.ontology c (before.log ++ entry steps E.No ∷ []) i members' (shown_fewer steps)
+          (λ member. absurd (out_now member)))
       no_by_end steps (E.Yes u) ends same so = absurd ends
       no_by_end steps (E.Spent t) ends same so = absurd ends
 
@@ -229,14 +263,21 @@ first l c members limit none is full = record {
   before = subst (λ (es : List Entry). All (IsTestBefore 0) es) (sym none) (All-nil (IsTestBefore 0));
   candidates = record {
     limit_is = is;
-    possible =
-        λ a la h. full (a + 1)
-        ∙ and_from (nat_le 1 (a + 1)) (nat_le (a + 1) members.limit) (le-leb 1 (a + 1) (omega arith))
-        (le-leb (a + 1) members.limit (omega (arith, la, is)));
+    possible = λ a la h. possible_all a la;
     sure = λ a lt la h. absurd (omega (arith, lt));
+  };
+  shown = record {
+    in_them = λ a lt la h. absurd (omega (arith, lt));
+    out_of_them = λ a la gone. absurd (true≢false (sym (possible_all a la) ∙ gone));
   };
 }
   where
+    possible_all : (a : ℕ) → a < length l.ontology.individuals → has_individual members a ≡ true
+    possible_all a la =
+        full (a + 1)
+        ∙ and_from (nat_le 1 (a + 1)) (nat_le (a + 1) members.limit) (le-leb 1 (a + 1) (omega arith))
+        (le-leb (a + 1) members.limit (omega (arith, la, is)))
+
     nothing_asked : (o : Listed) (c : Concept) (budget : ℕ) → IsInstancesLog o c budget []
     nothing_asked o c budget = record {
       budget_kept = record {

@@ -9,5 +9,6 @@ pub mod Realized
 pub mod Counting
 pub mod Pruned
 pub mod Unique
+pub mod Shown
 pub use Rattle.subsumption.proofs.Passing
 pub use Rattle.subsumption.proofs.Named

@@ -5,7 +5,7 @@ use Rattle.std.specs.Prelude.{nat_lt}
 use Rattle.std.specs.List.{list_any, All, Contains}
 use Rattle.std.specs.FinSet as sets
 use Rattle.std.specs.Cmp.{nat_cmp_total}
-use Rattle.std.proofs.lemmas.Bool.{and_parts, and_from, or_cases, or_left, or_right, le-ltb, true≢false}
+use Rattle.std.proofs.lemmas.Bool.{cases_Bool, and_parts, and_from, or_cases, or_left, or_right, le-ltb, true≢false}
 use Rattle.std.proofs.lemmas.List.Elements.{All-push, All-weaker, All-contains, All-contains_itself}
 use Rattle.lane_sieve.specs.Sets.{NumberSet}
 use Rattle.axiom_sets.specs.Sets.{Limited}
@@ -40,7 +40,9 @@ use Rattle.realizer.specs.Candidates.{stays_possible, AreCandidateRows, ArePrune
 use Rattle.realizer.specs.Asked.{AreAlike, IsTyping, IsNoted, IsKnownOn, IsKnown, AreKnownTypes, IsAmid, is_open}
 use Rattle.realizer.specs.Asked.{IsCloser, HasStopped}
 use Rattle.realizer.proofs.Truths.{follows_by_yes, instance_above, no_instance, asked_is_out}
+use Rattle.realizer.specs.ShownLogs.{ShowsRows}
 use Rattle.realizer.proofs.Logged.{realization_more}
+use Rattle.realizer.proofs.Shown.{types_stay, rows_stay, last_yes, last_no}
 
 -- ---- entries that are known stay so
 
@@ -120,8 +122,9 @@ module _ (before : OracleLists) (known : Rows) (axioms : Limited) (a : ℕ) (row
     typing_with : (steps : ℕ) (e : TestEnd) → after.log ≡ before.log ++ entry steps e ∷ []
         → IsHonestEntry before.ontology (entry steps e) → ended_spent e ≡ false
         → (rows' : List Limited) → AreCandidateRows before.ontology a rows'
+        → ShowsRows before.ontology known (before.log ++ entry steps e ∷ []) a rows'
         → IsTyping (with_entry steps e) known axioms a rows'
-    typing_with steps e same so goes rows' candidates = record {
+    typing_with steps e same so goes rows' candidates shown = record {
       in_limit = amid.typing.in_limit;
       honest = honest_with steps e same so (λ h. absurd (true≢false (sym h ∙ goes)));
       goes_on = goes_on_with steps e goes;
@@ -130,6 +133,7 @@ module _ (before : OracleLists) (known : Rows) (axioms : Limited) (a : ℕ) (row
       order = amid.typing.order;
       is_so = amid.typing.is_so;
       candidates = candidates;
+      shown = shown;
     }
 
     -- the individual is in the class
@@ -191,7 +195,9 @@ module _ (before : OracleLists) (known : Rows) (axioms : Limited) (a : ℕ) (row
           → IsHonestEntry before.ontology (entry steps (E.Yes u))
           → IsAmid (with_entry steps (E.Yes u)) known axioms a rows types'
       amid_yes steps u same so = record {
-        typing = typing_with steps (E.Yes u) same so refl rows amid.typing.candidates;
+        typing =
+            typing_with steps (E.Yes u) same so refl rows amid.typing.candidates
+            (rows_stay before.log (entry steps (E.Yes u)) before.ontology known a rows amid.typing.shown);
         is_individual = amid.is_individual;
         noted =
             All-push (IsKnown rows a types') before.log (entry steps (E.Yes u))
@@ -199,6 +205,13 @@ module _ (before : OracleLists) (known : Rows) (axioms : Limited) (a : ℕ) (row
             before.log amid.noted)
             (λ e. new_type x (omega (arith, lx)) is_itself, omega arith);
         types_known = types_with (follows_by_yes before.ontology axioms asked steps u amid.typing.whole so);
+        types_shown = λ y ly h. old_or_above y (omega (arith, ly)) h
+            (λ k. types_stay before.log (entry steps (E.Yes u)) known a types amid.types_shown y ly k)
+            (λ k. record {
+              lower = x;
+              is_part = k;
+              is_type = inr (lx, last_yes before.log axioms asked steps u);
+            });
       }
 
       yes_by_end : (steps : ℕ) (u : Limited) (e : TestEnd) → EndsAs (Yes u) e
@@ -264,6 +277,29 @@ module _ (before : OracleLists) (known : Rows) (axioms : Limited) (a : ℕ) (row
             (and_parts (typed_by rows b y) (stays_possible (meaning m) (name y) a b) (sym (was b y lb ly) ∙ h)).0;
       }
 
+      -- what it takes out is shown to be impossible
+      shown_with : (steps : ℕ) → ShowsRows before.ontology known (before.log ++ entry steps E.No ∷ []) a rows'
+      shown_with steps =
+          let old = rows_stay before.log (entry steps E.No) before.ontology known a rows amid.typing.shown in
+          record {
+            chains = old.chains;
+            in_rows =
+                λ b y before_a lb ly h. old.in_rows b y before_a lb ly
+                (and_parts (typed_by rows b y) (stays_possible (meaning m) (name y) a b) (sym (was b y lb ly) ∙ h)).0;
+            out_of_rows = λ b y lb ly gone. elim (cases_Bool (typed_by rows b y)) [
+              | inl typed ↦ elim (cases_Bool (has_element (meaning m) (name y) ((meaning m).individual b))) [
+                | inl there ↦
+                    absurd (true≢false
+                    (sym (was b y lb ly
+                    ∙ and_from (typed_by rows b y) (stays_possible (meaning m) (name y) a b) typed
+                    (or_right (nat_lt b a) (has_element (meaning m) (name y) ((meaning m).individual b)) there))
+                    ∙ gone))
+                | inr out ↦ last_no before.ontology before.log axioms asked steps m r (name y) b out
+              ]
+              | inr none ↦ old.out_of_rows b y lb ly none
+            ];
+          }
+
       less : (y : ℕ) → y < length before.ontology.classes → typed_by rows a y ≡ false → typed_by rows' a y ≡ false
       less y ly h = was a y amid.is_individual ly ∙ ap (λ (v : Bool). v && stays_possible (meaning m) (name y) a a) h
 
@@ -291,12 +327,13 @@ module _ (before : OracleLists) (known : Rows) (axioms : Limited) (a : ℕ) (row
       amid_no : (steps : ℕ) → after.log ≡ before.log ++ entry steps E.No ∷ []
           → IsHonestEntry before.ontology (entry steps E.No) → IsAmid (with_entry steps E.No) known axioms a rows' types
       amid_no steps same so = record {
-        typing = typing_with steps E.No same so refl rows' candidates_with;
+        typing = typing_with steps E.No same so refl rows' candidates_with (shown_with steps);
         is_individual = amid.is_individual;
         noted =
             All-push (IsKnown rows' a types) before.log (entry steps E.No)
             (all_narrower before.log amid.typing.honest.tests amid.noted) (λ e. out_now, omega arith);
         types_known = amid.types_known;
+        types_shown = types_stay before.log (entry steps E.No) known a types amid.types_shown;
       }
 
       no_by_end : (steps : ℕ) (e : TestEnd) → EndsAs No e → after.log ≡ before.log ++ entry steps e ∷ []

@@ -23,6 +23,7 @@ use Rattle.realizer.specs.Instances.{IsInstance, instance_query}
 use Rattle.realizer.specs.RealizationLogs.{IsInstancesLog, IsRealizationLog}
 use Rattle.realizer.specs.TypeRows.{typed_by}
 use Rattle.realizer.specs.Candidates.{AreCandidates, AreCandidateRows}
+use Rattle.realizer.specs.ShownLogs.{ShowsMembers, ShowsRows, ShowsKnownTypes}
 
 -- only the log differs
 pub record AreAlike (before after : OracleLists) : Type 0 where
@@ -42,13 +43,14 @@ IsTestBefore i (Test s q steps e) = IsOnBefore i q.on
 IsTestBefore i (Node s) = ⊥
 
 -- the log is honest, something of the budget may be left, and the first i individuals alone were asked about, of which
--- it is known whether they are instances
+-- it is known whether they are instances, as the log shows
 pub record IsAsking (l : OracleLists) (c : Concept) (i : ℕ) (members : Limited) : Type 0 where
   pub in_limit : (a : ℕ) → a < length l.ontology.individuals → IsInLimit l.ontology (instance_query c a)
   pub honest : IsInstancesLog l.ontology c l.budget l.log
   pub goes_on : list_any is_spent l.log ≡ false
   pub before : All (IsTestBefore i) l.log
   pub candidates : AreCandidates l.ontology c i members
+  pub shown : ShowsMembers l.ontology c l.log i members
 
 -- the log is honest, where it stopped so
 pub record HasHalted (l : OracleLists) (c : Concept) (halt : Stop) : Type 0 where
@@ -86,7 +88,7 @@ IsEarlier a (Test s q steps e) = IsOnEarlier a q.on
 IsEarlier a (Node s) = ⊥
 
 -- what holds between any two questions: the log is honest, something of the budget may be left, the relation of the
--- classes is known, and of the first a individuals the classes
+-- classes is known, and of the first a individuals the classes, as the log shows
 pub record IsTyping (l : OracleLists) (known : Rows) (axioms : Limited) (a : ℕ) (rows : List Limited) : Type 0 where
   pub in_limit : IsOntologyInLimit l.ontology
   pub honest : IsRealizationLog l.ontology l.budget l.log
@@ -96,6 +98,7 @@ pub record IsTyping (l : OracleLists) (known : Rows) (axioms : Limited) (a : ℕ
   pub order : IsOrder (length l.ontology.classes + 2) (holds known)
   pub is_so : IsSubsumption l.ontology (holds known)
   pub candidates : AreCandidateRows l.ontology a rows
+  pub shown : ShowsRows l.ontology known l.log a rows
 
 -- no question on the individual a or a later one was asked
 pub record IsBefore (l : OracleLists) (known : Rows) (axioms : Limited) (a : ℕ) (rows : List Limited) : Type 0 where
@@ -111,13 +114,14 @@ pub record AreKnownTypes (o : Listed) (known : Rows) (a : ℕ) (types : Limited)
   pub has_top : has_class types known.count ≡ true
   pub sure : (x : ℕ) → x < known.count → has_class types x ≡ true → IsInstance o (name x) a
 
--- the individual a is asked about: what was found of it is known
+-- the individual a is asked about: what was found of it is known, and shown by the log
 pub record IsAmid (l : OracleLists) (known : Rows) (axioms : Limited) (a : ℕ) (rows : List Limited) (types : Limited) :
     Type 0 where
   pub typing : IsTyping l known axioms a rows
   pub is_individual : a < length l.ontology.individuals
   pub noted : All (IsKnown rows a types) l.log
   pub types_known : AreKnownTypes l.ontology known a types
+  pub types_shown : ShowsKnownTypes known l.log a types
 
 -- the class is possible for the individual, and it is not known to be one of its types
 abbrev pub is_open : List Limited → ℕ → Limited → ℕ → Bool

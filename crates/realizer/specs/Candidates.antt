@@ -32,6 +32,10 @@ pub record AreCandidateRows (o : Listed) (i : ℕ) (rows : List Limited) : Type 
   pub sure : (a x : ℕ) → a < i → a < length o.individuals → x < length o.classes → typed_by rows a x ≡ true
       → IsInstance o (name x) a
 
+-- each listed class is in the row of each listed individual
+abbrev pub AreFullRows : Listed → List Limited → Type 0
+AreFullRows o rows = (a x : ℕ) → a < length o.individuals → x < length o.classes → typed_by rows a x ≡ true
+
 -- of the individuals from one of them on, each row has what it had that is so in an interpretation
 pub record ArePruned (i : Interpretation) (classes from : ℕ) (old new : List Limited) : Type 0 where
   pub are_rows : AreTypeRows classes (length old) new

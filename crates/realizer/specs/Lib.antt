@@ -9,6 +9,7 @@ pub mod LogExamples
 pub mod TypeRows
 pub mod Candidates
 pub mod Asked
+pub mod ShownLogs
 pub mod RealizationLaws
 pub use Rattle.subsumption.specs.Stops
 pub use Rattle.subsumption.specs.ClassNames

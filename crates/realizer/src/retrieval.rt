@@ -12,6 +12,7 @@ ghost use Rattle.realizer.specs.Instances.{instance_query, IsMembership, AreInst
 ghost use Rattle.realizer.specs.RealizationLogs.{IsInstancesLog};
 ghost use Rattle.realizer.specs.Candidates.{has_individual, AreCandidates};
 ghost use Rattle.realizer.specs.Asked.{AreAlike, IsAsking, HasHalted};
+ghost use Rattle.realizer.specs.ShownLogs.{ShowsInstances};
 
 use crate::Halt;
 use crate::asking::keep_members;
@@ -22,7 +23,7 @@ use subsumption::{Answer, Oracle};
 
 /// The listed individuals of the ontology that are in the class expression by all of its axioms (OWL 2 Direct
 /// Semantics, section 2.5), in list order, where the oracle is one for this ontology that was asked nothing yet. Each
-/// individual is asked about at most once.
+/// individual is asked about at most once, and the log shows of each whether it is in the class expression.
 ///
 /// # Errors
 /// The budget of the oracle was spent in the middle of a test, which is the last of the log; or memory was refused, and
@@ -39,6 +40,7 @@ pub fn instances(
         → IsInLimit ontology.now (instance_query class.now a) }
 
     ensures found { IfOk result (AreInstances ontology.now class.now) }
+    ensures shown { OnOk result (ShowsInstances ontology.now class.now oracle.new.log) }
     ensures unspent { OnOk result (list_any is_spent oracle.new.log ≡ false) }
     ensures halted { IfErr result (IsStop oracle.old.budget oracle.new.log) }
     ensures honest { IsInstancesLog ontology.now class.now oracle.old.budget oracle.new.log }
@@ -78,6 +80,7 @@ fn members(
     requires in_limit { (a : ℕ) → a < length ontology.now.individuals
         → IsInLimit ontology.now (instance_query query.old.sup a) }
     ensures members { IfOk result (AreCandidates ontology.now query.old.sup (length ontology.now.individuals)) }
+    ensures shown { OnOk result (ShowsInstances ontology.now query.old.sup oracle.new.log) }
     ensures goes_on { OnOk result (list_any is_spent oracle.new.log ≡ false) }
     ensures halted { IfErr result (IsStop oracle.old.budget oracle.new.log) }
     ensures honest { IsInstancesLog ontology.now query.old.sup oracle.old.budget oracle.new.log }

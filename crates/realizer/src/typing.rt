@@ -5,7 +5,7 @@ ghost use Rattle.subsumption.specs.Limits.{IsOntologyInLimit};
 ghost use Rattle.subsumption.specs.HonestLog.{IsWhole};
 ghost use Rattle.subsumption.specs.ClassSets.{HoldsClasses};
 ghost use Rattle.realizer.specs.TypeRows.{AreTypeRows, typed_by};
-ghost use Rattle.realizer.specs.Candidates.{AreCandidateRows, ArePruned};
+ghost use Rattle.realizer.specs.Candidates.{AreCandidateRows, AreFullRows, ArePruned};
 ghost use Rattle.realizer.specs.Asked.{AreAlike, IsBefore, IsAmid, IsOpenClass, is_open, IsCloser, HasStopped};
 
 use crate::Halt;
@@ -33,6 +33,7 @@ impl Typing {
     pub(crate) fn new(alloc: Global, ontology: &Ontology) -> Result<Typing, NoMemory>
         ensures axioms { IfOk result (λ t. IsWhole ontology.now t.axioms) }
         ensures rows { IfOk result (λ t. AreCandidateRows ontology.now 0 t.rows.items) }
+        ensures full { IfOk result (λ t. AreFullRows ontology.now t.rows.items) }
     {
         let axioms = AxiomSet::full(alloc, ontology.axiom_count())?;
         let rows = full_rows(alloc, ontology.individual_count(), ontology.class_count())?;

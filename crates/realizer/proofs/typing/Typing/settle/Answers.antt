@@ -3,7 +3,7 @@ use Rattle.axiom_sets.specs.Sets.{Limited}
 use Rattle.subsumption.specs.Rows.{holds}
 use Rattle.subsumption.specs.ClassSets.{has_class}
 use Rattle.realizer.specs.Asked.{IsOpenClass}
-use Rattle.realizer.proofs.Begun.{begins}
+use Rattle.realizer.proofs.Begun.{begins, ends_at}
 use Rattle.realizer.proofs.Counting.{fewer_open}
 use Rattle.realizer.proofs.typing.Typing.settle.Goals as goal
 
@@ -30,3 +30,9 @@ loop-types-smaller c =
     subst (IsOpenClass count rows a types) c.in-Some.is c.in_ok-class.ensures in
     fewer_open count a c.in-Some.class rows c.ask.new.self.rows.items types c.ask.new.types found.0 found.1
     c.in_ok-ask.ensures.closer
+
+pub returns-clause-ok : goal.returns-clause-ok
+returns-clause-ok c =
+    ends_at c.loop-types.oracle c.args.relation.now c.loop-types.self.axioms c.args.individual
+    c.loop-types.self.rows.items c.loop-types.types c.loop-types.invariant.amid c.in_ok-class.field-0
+    c.in_ok-class.ensures c.in_default.not-Some
