@@ -47,6 +47,7 @@ module _ (o : Listed) (q : Asked) (budget : ℕ) (log : List Entry) (s : Searche
     finished = s.found.finished;
     written = w;
     honest = is.honest;
+    shown = is.shown;
     spent = is.spent;
     cut_short = is.cut_short;
   }

@@ -9,7 +9,7 @@ mod Putting
 mod Sound
 mod Witnessed
 mod Answered
-mod Accepted
+pub mod Accepted
 mod BlankLines
 mod Printed
 pub use Rattle.decision_jobs.proofs.FirstMalformed

@@ -1,6 +1,6 @@
 -- From what an object answered that keeps evidence to what a search found.
 use Rattle.std.proofs.Common.{◌≡◌, ℕ, ◌+◌, ◌*◌, ◌^◌, ◌<◌, ◌≤◌, true, false, List, [], ◌++◌, length, Result, Ok, Err, ap}
-use Rattle.std.proofs.Common.{sym}
+use Rattle.std.proofs.Common.{refl, sym}
 use Rattle.std.proofs.Common.{◌∙◌, subst, arith, inr}
 use Rattle.std.specs.Prelude.{IfOk, OnErr}
 use Rattle.std.specs.Result.{result_map_both}
@@ -11,7 +11,11 @@ use Rattle.lane_sieve.specs.Sets.{NumberSet, IsPart}
 use Rattle.axiom_sets.specs.Sets.{Limited}
 use Rattle.axiom_sets.proofs.Same.{same_limited}
 use Rattle.pinpointing_specs.specs.Smallest.{numbers_to}
-use Rattle.pinpointing_specs.proofs.Choices.{in_difference}
+use Rattle.pinpointing_specs.specs.LocalModule.{FollowsFrom, of_axioms, IsJustification, IsRepair}
+use Rattle.pinpointing_specs.proofs.Choices.{in_difference, to_rest}
+use Rattle.pinpointing_specs.proofs.Explored.{removal_is_leaf}
+use Rattle.pinpointing_specs.proofs.Grown.{grows}
+use Rattle.set_questions.proofs.Rest.{numbers_within}
 use Rattle.pinpointing_jobs.specs.TreeFound.{Found}
 use Rattle.pinpointing_jobs.specs.Found.{IsFound, ListsAllShown, HasTree}
 use Rattle.pinpointing_jobs.specs.Open.{AsksFew}
@@ -24,6 +28,7 @@ use Rattle.decision_jobs.specs.TestEnd.TheVariants as E
 use Rattle.decision_jobs.specs.Entries.{spent_of, nodes_of}
 use Rattle.decision_jobs.specs.HonestLog.{IsHonestEntry, IsJustificationSet, AreTreeNodes}
 use Rattle.pinpointing_jobs.specs.OracleLists.{OracleLists}
+use Rattle.run_log.specs.Shown.{IsShownYes, IsShownNo}
 use Rattle.pinpointing_jobs.specs.AskerLists.{AskerLists, origin_of}
 use Rattle.pinpointing_jobs.specs.Told.{KeepsAnswers, asker_meaning, IsAskerLog}
 use Rattle.pinpointing_jobs.proofs.Local.{all_keep}
@@ -33,6 +38,7 @@ use Rattle.audit_jobs.specs.declared.evidence.Evidence.{Evidence}
 use Rattle.audit_jobs.specs.declared.searching.Searched.{Searched}
 use Rattle.audit_jobs.specs.Kept.{HasRefutation, IsEvidence}
 use Rattle.audit_jobs.specs.Witnessed.{IsEvidenceLog, HasAsked, HasModelOutside, IsOfAll, IsCutShort, IsSearched}
+use Rattle.audit_jobs.specs.Witnessed.{ShowsEvidence}
 
 -- ---- the evidence of what was shown
 
@@ -108,6 +114,43 @@ module _ (a : AskerLists) (s : Searched) (is_log : IsAskerLog a) (found : IsFoun
     };
   }
 
+  -- ---- a finished search
+
+  leaf_of : s.found.finished ≡ true → (r : NumberSet) → IsRepair a.ontology.axioms a.query r
+      → Contains s.found.leaves.items (of_axioms a.ontology.axioms r)
+  leaf_of finished r x =
+      removal_is_leaf (FollowsFrom a.ontology.axioms a.query) (length a.ontology.axioms) s.found.justifications.items
+      s.found.leaves.items (grows a.ontology.axioms a.query) (found.explored finished) (of_axioms a.ontology.axioms r)
+      refl x
+
+  yes_shown : s.found.finished ≡ true → (j : NumberSet) → IsJustification a.ontology.axioms a.query j
+      → IsShownYes a.gained a.query j
+  yes_shown finished j x =
+      let j' = of_axioms a.ontology.axioms j in found.shown_yes j' (found.all finished j' refl x)
+
+  no_shown : s.found.finished ≡ true → (r : NumberSet) → IsRepair a.ontology.axioms a.query r
+      → IsShownNo a.gained a.query (numbers_to (length a.ontology.axioms)) r
+  no_shown finished r x =
+      let r' = of_axioms a.ontology.axioms r in
+      let shown = found.shown_no r' (leaf_of finished r x) in
+      record {
+        tested = shown.tested;
+        steps = shown.steps;
+        is_no = shown.is_no;
+        has_rest =
+            λ k in_all out.
+            let inside = numbers_within (length a.ontology.axioms) k in_all in
+            shown.has_part k (to_rest r' k inside.0 inside.1 out)
+            (ap (λ (t : NumberSet). set.contains t k) whole ∙ in_all);
+      }
+
+  shows : s.found.finished ≡ true → ShowsEvidence a.ontology a.query a.gained
+  shows finished = record {
+    justifications = yes_shown finished;
+    repairs = no_shown finished;
+    taken = λ r x. found.leaf_taken (of_axioms a.ontology.axioms r) (leaf_of finished r x);
+  }
+
   searched : IsSearched a.ontology a.query (left_at_first a) a.gained s
   searched = record {
     honest =
@@ -122,6 +165,7 @@ module _ (a : AskerLists) (s : Searched) (is_log : IsAskerLog a) (found : IsFoun
       modelled = modelled a s.found s.evidence is_log found evidence whole;
       explored = found.explored;
     };
+    shown = shows;
     spent = λ unfinished. omega (arith, found.spent unfinished, is_log.within, spent_both a is_log);
     cut_short = cut;
   }

@@ -17,7 +17,7 @@ use Rattle.job_inputs.specs.Questions.{follows, IsQuestion}
 use Rattle.job_inputs.specs.Refusals.{IsRefused, HasBegun}
 use Rattle.pinpointing_jobs.specs.Memory.{UnlessNoMemory}
 use Rattle.pinpointing_jobs.specs.Listings.{end_status}
-use Rattle.audit_jobs.specs.Witnessed.{IsEvidenceLog, IsCutShort}
+use Rattle.audit_jobs.specs.Witnessed.{IsEvidenceLog, ShowsEvidence, IsCutShort}
 
 -- ---- what is printed
 
@@ -43,13 +43,14 @@ pub record IsWritten (o : Listed) (q : Asked) (finished : Bool) (s : Status) (ou
 
 -- ---- what is true of it
 
--- A query was searched. Where the budget did not suffice, all of it is spent, and as far as the log shows some
--- justifications are lacking: what was found whole is told.
+-- A query was searched. Where the budget sufficed, the log shows all that is printed; where it did not, all of it is
+-- spent, and as far as the log shows some justifications are lacking: what was found whole is told.
 pub record IsEvidenceAnswer (o : Listed) (q : Asked) (budget : ℕ) (log : List Entry) (s : Status) (out : List ℕ) :
     Type 0 where
   pub finished : Bool
   pub written : IsWritten o q finished s out
   pub honest : IsEvidenceLog o q budget log
+  pub shown : finished ≡ true → ShowsEvidence o q log
   pub spent : finished ≡ false → spent_of log ≡ budget
   pub cut_short : finished ≡ false → IsCutShort o q log
 

@@ -2,7 +2,7 @@
 use Rattle.std.specs.Prelude.{◌≡◌, ◌⊎◌, ℕ, ◌++◌, [], true, false, List, length, Contains}
 use Rattle.lane_sieve.specs.Sets.{NumberSet, IsPart}
 use Rattle.axiom_sets.specs.Sets.{Limited}
-use Rattle.pinpointing_specs.specs.LocalModule.{FollowsFrom}
+use Rattle.pinpointing_specs.specs.LocalModule.{FollowsFrom, of_axioms, IsJustification, IsRepair}
 use Rattle.pinpointing_specs.specs.Order.{IsAscending}
 use Rattle.pinpointing_specs.specs.Smallest.{numbers_to, rest, IsExplored}
 use Rattle.set_questions.specs.InOrder.{HaveOneLimit}
@@ -12,9 +12,10 @@ use Rattle.shq_terms.specs.Listed.{Listed}
 use Rattle.shq_terms.specs.declared.axioms.Query.{Query as Asked}
 use Rattle.refutation_tree.specs.RefutationLists.{RefutationLists}
 use Rattle.decision_jobs.specs.Entry.{Entry}
-use Rattle.decision_jobs.specs.Entries.{spent_of}
+use Rattle.decision_jobs.specs.Entries.{spent_of, nodes_of}
 use Rattle.decision_jobs.specs.HonestLog.{IsJustificationSet, IsHonestWithin, AreTestsOf, AsksNoAnswer, AreTreeNodes}
 use Rattle.decision_jobs.specs.HonestLog.{AsksFewPerNode}
+use Rattle.run_log.specs.Shown.{IsShownYes, IsShownNo}
 use Rattle.audit_jobs.specs.declared.evidence.CounterModel.{CounterModel}
 use Rattle.audit_jobs.specs.declared.searching.Searched.{Searched}
 use Rattle.audit_jobs.specs.Kept.{AreShown, HasRefutation}
@@ -57,6 +58,13 @@ pub record IsWitnessed (o : Listed) (q : Asked) (f : Found) (rs : List Refutatio
 abbrev pub IsOfAll : Listed → NumberSet → Type 0
 IsOfAll o m = m ≡ numbers_to (length o.axioms)
 
+-- The log shows each justification and each repair: a test found that the query follows from just the axioms of the one,
+-- and one that it does not follow from a set that has each axiom but those of the other, which is one of the nodes.
+pub record ShowsEvidence (o : Listed) (q : Asked) (log : List Entry) : Type 0 where
+  pub justifications : (j : NumberSet) → IsJustification o.axioms q j → IsShownYes log q j
+  pub repairs : (r : NumberSet) → IsRepair o.axioms q r → IsShownNo log q (numbers_to (length o.axioms)) r
+  pub taken : (r : NumberSet) → IsRepair o.axioms q r → Contains (nodes_of log) (of_axioms o.axioms r)
+
 -- justifications were found, and as far as the log shows, which asks among all axioms, some are lacking
 pub record IsCutShort (o : Listed) (q : Asked) (log : List Entry) : Type 0 where
   pub found : List Limited
@@ -67,5 +75,6 @@ pub record IsCutShort (o : Listed) (q : Asked) (log : List Entry) : Type 0 where
 pub record IsSearched (o : Listed) (q : Asked) (budget : ℕ) (log : List Entry) (s : Searched) : Type 0 where
   pub honest : IsEvidenceLog o q budget log
   pub witnessed : IsWitnessed o q s.found s.evidence.refutations.items s.evidence.models.items
+  pub shown : s.found.finished ≡ true → ShowsEvidence o q log
   pub spent : s.found.finished ≡ false → spent_of log ≡ budget
   pub cut_short : s.found.finished ≡ false → IsCutShort o q log
