@@ -1,0 +1,115 @@
+-- Verdicts and certificates in every world.
+use Rattle.std.proofs.Common.{◌≡◌, ℕ, List, ◌++◌, get_or, inl, inr, refl, ap, sym, ◌∙◌, arith}
+use Rattle.pinpointing_specs.specs.Truth.{Entails}
+use Rattle.all_worlds.specs.Worlds.{World}
+use Rattle.answers_everywhere.proofs.Everywhere.{questions}
+use Rattle.decision_jobs.specs.Laws.{HaveAsked}
+use Rattle.decision_jobs.proofs.Exclusive.{yes_follows, no_does_not_follow}
+use Rattle.audit_jobs.specs.Answer.{Answer as Decision}
+use Rattle.audit_jobs.specs.Answer.TheVariants as Answered
+use Rattle.audit_jobs.specs.Decisions.{entailed_line, not_entailed_line, decision_text, decision_status}
+use Rattle.audit_jobs.specs.Decisions.{IsDecisionTold}
+use Rattle.classification_jobs.specs.Answer.{line}
+use Rattle.classification_jobs.specs.Questions.{Text, has_element, follows}
+use Rattle.classification_jobs.specs.Status.TheVariants.{Done, Undecided}
+use Rattle.ontology_jobs.specs.Answers.{AnswersJob}
+use Rattle.ontology_jobs.specs.Entry.{Entry}
+use Rattle.ontology_jobs.specs.Words.{decide}
+use Rattle.ontology_jobs.proofs.Accepted.{follows as accepted_follows, does_not_follow as accepted_does_not}
+use Rattle.runs_everywhere.specs.Laws.{BeginsWithLine, YesFollowsIn, NoFailsInAFiniteWorld}
+use Rattle.runs_everywhere.specs.Laws.{AcceptedQueriesFollowIn, AcceptedQueriesFailInAFiniteWorld}
+use Rattle.runs_everywhere.proofs.Refused.{never_refused, never_long}
+use Rattle.runs_everywhere.proofs.Worlds.{fails, of_question}
+
+-- ---- what is decided
+
+-- the first lines of the two verdicts differ
+apart : (question : Text) (x y : List ℕ) → line (not_entailed_line question) ++ x ≡ line (entailed_line question) ++ y
+    → ⊥
+apart (has_element class) x y same =
+    let clash : ◌≡◌ {A = ℕ} 115 117 = ap (λ (t : List ℕ). get_or t 0 0) same in omega (arith, clash)
+apart (follows statement) x y same =
+    let clash : ◌≡◌ {A = ℕ} 110 101 = ap (λ (t : List ℕ). get_or t 0 0) same in omega (arith, clash)
+
+module _ (question : Text) (budget : ℕ) (bytes out : List ℕ) (log : List Entry) where
+  told : AnswersJob (decide question budget) bytes out Done log → IsDecisionTold question budget bytes out Done log
+  told (inl long) = absurd (never_long bytes out log Done refl long)
+  told (inr (short, inl refused)) =
+      absurd (never_refused question bytes out Done refl refused.reply refused.refused refused.answer)
+  told (inr (short, inr decided)) = decided
+
+  yes_by : (t : IsDecisionTold question budget bytes out Done log) → BeginsWithLine (entailed_line question) out
+      → (x : Decision) → t.decision ≡ x → HaveAsked Entails question bytes
+  yes_by t begins (Answered.Entailed r) is =
+      yes_follows question budget bytes out log (record { decided = t; refutation = r; is_refuted = is })
+  yes_by t begins (Answered.NotEntailed m) is =
+      absurd (apart question _ _ (sym (t.text ∙ ap (decision_text t.ontology question) is) ∙ begins.text))
+  yes_by t begins Answered.Undecided is =
+      let clash : Done ≡ Undecided = t.status ∙ ap decision_status is in absurd (cc clash)
+
+  no_by : (t : IsDecisionTold question budget bytes out Done log) → BeginsWithLine (not_entailed_line question) out
+      → (x : Decision) → t.decision ≡ x → HaveAsked (λ axioms q. Entails axioms q → ⊥) question bytes
+  no_by t begins (Answered.NotEntailed m) is =
+      no_does_not_follow question budget bytes out log (record { decided = t; model = m; is_model = is })
+  no_by t begins (Answered.Entailed r) is =
+      absurd (apart question _ _ (sym begins.text ∙ t.text ∙ ap (decision_text t.ontology question) is))
+  no_by t begins Answered.Undecided is =
+      let clash : Done ≡ Undecided = t.status ∙ ap decision_status is in absurd (cc clash)
+
+-- ---- in every world
+
+module _ {d : Type 0} (w : World d) where
+  pub yes_holds : YesFollowsIn w
+  yes_holds question budget bytes out log answer begins =
+      let t = told question budget bytes out log answer in
+      let asked = yes_by question budget bytes out log t begins t.decision refl in
+      record {
+        ontology = asked.ontology;
+        query = asked.query;
+        is_question = asked.is_question;
+        what_holds =
+            (of_question w question bytes asked.ontology asked.query asked.is_question).all.0 asked.what_holds;
+      }
+
+  pub accepted_holds : AcceptedQueriesFollowIn w
+  accepted_holds query bytes log answer =
+      let found = accepted_follows query bytes log answer in
+      record {
+        document = found.document;
+        kept = found.kept;
+        end = found.end;
+        counts = found.counts;
+        asked = found.asked;
+        is_document = found.is_document;
+        is_query = found.is_query;
+        what_holds =
+            (questions w bytes found.document found.kept found.end found.is_document (follows query) found.counts
+            found.asked found.is_query).all.0 found.what_holds;
+      }
+
+-- ---- in a finite world
+
+pub no_fails : NoFailsInAFiniteWorld
+no_fails question budget bytes out log answer begins =
+    let t = told question budget bytes out log answer in
+    let asked = no_by question budget bytes out log t begins t.decision refl in
+    record {
+      ontology = asked.ontology;
+      query = asked.query;
+      is_question = asked.is_question;
+      what_holds = fails _ asked.query asked.what_holds;
+    }
+
+pub accepted_fails : AcceptedQueriesFailInAFiniteWorld
+accepted_fails query bytes log answer =
+    let found = accepted_does_not query bytes log answer in
+    record {
+      document = found.document;
+      kept = found.kept;
+      end = found.end;
+      counts = found.counts;
+      asked = found.asked;
+      is_document = found.is_document;
+      is_query = found.is_query;
+      what_holds = fails _ found.asked found.what_holds;
+    }
