@@ -21,9 +21,9 @@ MUTUAL = re.compile(r"(?:abbrev |unfoldable )?mutual\b")
 IMPORT = re.compile(r"\buse Rattle\.(\w+)\.specs\.((?:\w+\.)*)\{([^}]*)\}")
 HEAD = """# Index of definitions
 
-Each definition of a specification that a contract, or another crate, names: the crates from the lowest up, and of each
-its files. `tools/list-definitions` makes this page from the comments that stand above the definitions, and a test says
-where it is not current. What the definitions mean together is told in `DEFINITIONS.md`."""
+This page lists each definition of a specification that a contract or another crate names: crate by crate, from the
+lowest up, and file by file. `tools/list-definitions` makes it from the comments above the definitions, and a test fails
+if it is not current. `DEFINITIONS.md` says what the definitions mean together."""
 
 
 @dataclass(frozen=True)
