@@ -377,6 +377,76 @@ class Rows(RowsTest):
         self.assert_rows(axioms, [["Transitive: r"], ["A SubClassOf r some B"]], Loss.COUNTED)
 
 
+    def test_what_says_nothing_is_left_out(self):
+        axioms = [
+            "EquivalentClasses(ObjectUnionOf(:A))",
+            "EquivalentClasses(:A ObjectUnionOf(:A))",
+            "SubClassOf(ObjectUnionOf(:A) :A)",
+            "DisjointClasses(ObjectUnionOf(:A) owl:Nothing)",
+            "DisjointObjectProperties(:r owl:bottomObjectProperty)",
+        ]
+        self.assert_rows(axioms, [[]] * 5)
+
+    def test_equal_classes_of_which_two_can_be_had(self):
+        """What is between the others is said of the first one alone."""
+        axioms = ["TransitiveObjectProperty(:r)", "EquivalentClasses(:A ObjectMinCardinality(2 :r :B) :C)"]
+        rows = ["A SubClassOf r some B", "A SubClassOf C", "C SubClassOf A"]
+        self.assert_rows(axioms, [["Transitive: r"], rows], Loss.COUNTED)
+
+    def test_loops_of_a_symmetric_role(self):
+        """It says nothing of them that they do not say themselves."""
+        axioms = ["SymmetricObjectProperty(:r)", "SubClassOf(:A ObjectHasSelf(:r))"]
+        loops = [f"(r Self) SubClassOf {it} some (r Self)" for it in ("r", "inverse (r)")]
+        rows = [["r EquivalentTo inverse (r)"], ["A SubClassOf (r Self)", *loops]]
+        self.assert_rows(axioms, rows, Loss.INVERSE, Loss.SELF)
+
+
+class LossesTest(unittest.TestCase):
+    """What is said to be lost, axiom by axiom."""
+
+    # axioms, with what the light form loses, and what the full one does
+    LOSSES = [
+        *((f"{it}ObjectProperty(owl:topObjectProperty)", (), ()) for it in ("Transitive", "Symmetric", "Reflexive")),
+        *((f"{it}ObjectProperty(owl:bottomObjectProperty)", (), ())
+          for it in ("Transitive", "Symmetric", "Irreflexive", "Asymmetric", "Functional", "InverseFunctional")),
+        *((f"ObjectProperty{it}(owl:bottomObjectProperty :A)", (), ()) for it in ("Domain", "Range")),
+        ("ObjectPropertyAssertion(owl:topObjectProperty :a :b)", (), ()),
+        ("NegativeObjectPropertyAssertion(owl:bottomObjectProperty :a :b)", (), ()),
+        ("SubObjectPropertyOf(:r owl:topObjectProperty)", (), ()),
+        ("SubObjectPropertyOf(owl:topObjectProperty :r)", [Loss.TOP_ROLE], [Loss.TOP_ROLE]),
+        ("FunctionalObjectProperty(owl:topObjectProperty)", [Loss.TOP_ROLE], [Loss.TOP_ROLE]),
+        ("TransitiveObjectProperty(:r) FunctionalObjectProperty(:r)", [Loss.COUNTED], [Loss.COUNTED]),
+        ("TransitiveObjectProperty(:r) SubClassOf(:A ObjectMaxCardinality(1 :r))", [Loss.COUNTED], [Loss.COUNTED]),
+        ("SubClassOf(:A ObjectMaxCardinality(101 :r))", [Loss.BEYOND_LIMITS], [Loss.BEYOND_LIMITS]),
+        ("SubClassOf(:A ObjectOneOf(:a))", [Loss.NOMINAL], [Loss.NOMINAL]),
+        ("SubClassOf(:A ObjectHasSelf(:r))", [Loss.SELF], [Loss.SELF]),
+        ("IrreflexiveObjectProperty(:r)", [Loss.DISJOINT_ROLES], [Loss.DISJOINT_ROLES]),
+        ("AsymmetricObjectProperty(:r)", [Loss.DISJOINT_ROLES], [Loss.DISJOINT_ROLES]),
+        ("DisjointObjectProperties(:r :s)", [Loss.DISJOINT_ROLES], [Loss.DISJOINT_ROLES]),
+        ("InverseFunctionalObjectProperty(:r)", [Loss.INVERSE_FUNCTIONAL], [Loss.INVERSE_FUNCTIONAL]),
+        ("InverseObjectProperties(:r :s)", [Loss.INVERSE], ()),
+        ("SymmetricObjectProperty(:r)", [Loss.INVERSE], [Loss.INVERSE_IN_FULL]),
+        ("SubClassOf(:A ObjectSomeValuesFrom(ObjectInverseOf(:r) :B))", [Loss.INVERSE], ()),
+        ("SubClassOf(:A ObjectMaxCardinality(1 ObjectInverseOf(:r)))", [Loss.INVERSE], [Loss.INVERSE_IN_FULL]),
+        ("SubObjectPropertyOf(ObjectPropertyChain(:r :s) :t)", [Loss.CHAIN], ()),
+        ("SubObjectPropertyOf(ObjectPropertyChain(:s :r :s) :r)", [Loss.CHAIN], [Loss.CHAIN_IN_FULL]),
+        ("SubObjectPropertyOf(ObjectPropertyChain(:r :r) :r)", (), ()),
+        ('SubClassOf(:A DataHasValue(:p "x"))', [Loss.DATA], [Loss.DATA]),
+        ("FunctionalDataProperty(owl:topDataProperty)", [Loss.DATA], [Loss.DATA]),
+        ("DatatypeDefinition(:D xsd:string)", [Loss.DATATYPE], [Loss.DATATYPE]),
+        ("ClassAssertion(:A _:x)", [Loss.ANONYMOUS], [Loss.ANONYMOUS]),
+        ("HasKey(:A () (:p))", [Loss.KEY], [Loss.KEY]),
+    ]
+
+    def test_losses(self):
+        for axioms, light, full in self.LOSSES:
+            for strength, losses in ((Strength.LIGHT, light), (Strength.FULL, full)):
+                with self.subTest(axioms=axioms, strength=strength):
+                    found = approximation(ontology([axioms]).encode("utf-8"), strength)
+                    self.assertEqual(set(found.losses.lines), set(losses))
+                    self.assertEqual(found.losses.is_exact, not losses or losses == [Loss.ANONYMOUS])
+
+
 class FullRowsTest(RowsTest):
     """Rows of the full form."""
 

@@ -77,6 +77,19 @@ INDIVIDUALS = [
     ),
     Case("nominals.of_different", "DifferentIndividuals(:a :b :a)", follows=CONTRADICTION),
     Case(
+        "nominals.of_different",
+        """
+        SubClassOf(:A ObjectOneOf(:a))
+        DifferentIndividuals(:a :b)
+        SameIndividual(:a :c)
+        ClassAssertion(:B :c)
+        """,
+        # there are no classes {b} and {c}
+        follows="ClassAssertion(:B :a)",
+        lost="SubClassOf(:A :B)",
+        open="SubClassOf(:A owl:Nothing)",
+    ),
+    Case(
         "nominals.of_same",
         """
         SubClassOf(:A ObjectOneOf(:a))
@@ -112,12 +125,15 @@ INDIVIDUALS = [
         SubClassOf(:B ObjectOneOf(:b))
         ObjectPropertyAssertion(:r :b :a)
         InverseObjectProperties(:r :s)
+        SubClassOf(:C ObjectHasValue(:s :b))
+        SubClassOf(ObjectOneOf(:a) :A)
         """,
         follows="""
         SubClassOf(:B ObjectSomeValuesFrom(:r owl:Thing))
         SubClassOf(:A ObjectSomeValuesFrom(:s owl:Thing))
         """,
         open="""
+        SubClassOf(:C :A)
         SubClassOf(:A ObjectSomeValuesFrom(:r owl:Thing))
         SubClassOf(:A owl:Nothing)
         """,
@@ -134,7 +150,7 @@ INDIVIDUALS = [
     Case(
         "nominals.of_no_pair",
         """
-        SubClassOf(:A ObjectOneOf(:a))
+        EquivalentClasses(:A ObjectOneOf(:a))
         EquivalentClasses(:B ObjectOneOf(:b))
         NegativeObjectPropertyAssertion(:r :a :b)
         """,
@@ -144,6 +160,7 @@ INDIVIDUALS = [
         """,
         open="""
         ClassAssertion(ObjectAllValuesFrom(:r owl:Nothing) :a)
+        SubClassOf(ObjectAllValuesFrom(:r owl:Nothing) :A)
         ClassAssertion(ObjectAllValuesFrom(:r ObjectComplementOf(:A)) :b)
         """,
     ),
@@ -375,6 +392,45 @@ DISJOINT_ROLES = [
         """,
         open=CONTRADICTION,
     ),
+]
+
+DISJOINT_ROLES += [
+    Case(
+        "disjoint_roles.of_disjoint",
+        f"""
+        DisjointObjectProperties(:r :t)
+        ObjectPropertyAssertion(:t :a :b)
+        {assertion}
+        {axiom}
+        """,
+        follows=CONTRADICTION,
+    )
+    for axiom, assertion in (
+        ("SymmetricObjectProperty(:r)", "ObjectPropertyAssertion(:r :b :a)"),
+        ("InverseObjectProperties(:r :s)", "ObjectPropertyAssertion(:s :b :a)"),
+        ("InverseObjectProperties(:s :r)", "ObjectPropertyAssertion(:s :b :a)"),
+        ("EquivalentObjectProperties(:s :u :r)", "ObjectPropertyAssertion(:s :a :b)"),
+        ("EquivalentObjectProperties(:r :s :u)", "ObjectPropertyAssertion(:s :a :b)"),
+        ("SubObjectPropertyOf(ObjectPropertyChain(:s) :r)", "ObjectPropertyAssertion(:s :a :b)"),
+        ("SubObjectPropertyOf(:s ObjectInverseOf(:r))", "ObjectPropertyAssertion(:s :b :a)"),
+    )
+]
+DISJOINT_ROLES += [
+    Case(
+        "disjoint_roles.of_disjoint",
+        f"""
+        DisjointObjectProperties(:r :t)
+        ObjectPropertyAssertion(:t :a :b)
+        {assertion}
+        {axiom}
+        """,
+        open=CONTRADICTION,
+    )
+    for axiom, assertion in (
+        ("TransitiveObjectProperty(:r)", "ObjectPropertyAssertion(:r :b :a)"),
+        ("InverseObjectProperties(:r :s)", "ObjectPropertyAssertion(:s :a :b)"),
+        ("SubObjectPropertyOf(:r :s)", "ObjectPropertyAssertion(:s :a :b)"),
+    )
 ]
 
 ROLES = [
@@ -635,6 +691,12 @@ CLASSES = [
         open="SubClassOf(ObjectSomeValuesFrom(:r :B) owl:Nothing)",
     ),
     Case(
+        "class_axioms.of_disjointness",
+        "DisjointClasses(owl:Thing ObjectUnionOf(:A))",
+        follows="SubClassOf(:A owl:Nothing)",
+        open=CONTRADICTION,
+    ),
+    Case(
         "class_axioms.of_disjoint_union",
         """
         DisjointUnion(:A ObjectOneOf(:a) :B)
@@ -664,7 +726,10 @@ CLASSES = [
         SubClassOf(:A ObjectUnionOf(:B ObjectSomeValuesFrom(:r :C)))
         """,
         lost="SubClassOf(:D :A)",
-        open="SubClassOf(ObjectSomeValuesFrom(:r :C) :A)",
+        open="""
+        SubClassOf(ObjectSomeValuesFrom(:r :C) :A)
+        SubClassOf(:A :B)
+        """,
     ),
     Case(
         "class_axioms.of_domain",
@@ -712,7 +777,10 @@ CLASSES = [
         SubClassOf(owl:Thing ObjectAllValuesFrom(:s ObjectSomeValuesFrom(:r :A)))
         SubClassOf(ObjectSomeValuesFrom(:s owl:Thing) ObjectSomeValuesFrom(:r :B))
         """,
-        open="SubClassOf(owl:Thing ObjectSomeValuesFrom(:r :A))",
+        open="""
+        SubClassOf(owl:Thing ObjectSomeValuesFrom(:r :A))
+        SubClassOf(owl:Thing ObjectAllValuesFrom(:s owl:Nothing))
+        """,
     ),
     Case(
         "class_axioms.of_type",

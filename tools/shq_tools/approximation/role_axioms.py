@@ -23,11 +23,7 @@ def inclusions(axiom):
 
 def spoken_of(axiom):
     """The named roles of whose inverse an axiom speaks."""
-    keyword = axiom.keyword
-    if keyword in OF_INVERSES:
-        return set(map(base, axiom.items))
-    # an assertion on an inverse is one on the role
-    return set() if "Assertion" in keyword and keyword != "ClassAssertion" else inverses_within(axiom.items)
+    return set(map(base, axiom.items)) if axiom.keyword in OF_INVERSES else inverses_within(axiom.items)
 
 
 def inverses_within(of):

@@ -20,10 +20,12 @@ TRUE_OF_BOTTOM = {
 
 
 def roles_of(axiom):
-    """The roles that stand in an axiom of roles, or in an assertion, outside of its class expressions."""
+    """The named roles that stand in an axiom of roles, or in an assertion, outside of its class expressions. A role
+    that is its own inverse is never read as an inverse.
+    """
     found = []
     for item in axiom.items[:1] if "Assertion" in axiom.keyword else axiom.items:
-        if isinstance(item, str) or item[0] == "inverse":
+        if isinstance(item, str):
             found.append(item)
         elif item[0] == "chain":
             found += item[1]
