@@ -8,3 +8,5 @@ pub mod BadWords
 pub mod Complete
 pub mod Alike
 pub mod Counted
+pub mod Done
+mod Shown

@@ -2,5 +2,6 @@ pub mod Words
 pub mod Answers
 pub mod Laws
 pub mod Complete
+pub mod Shown
 pub use Rattle.classification_jobs.specs.Status
 pub use Rattle.edit_session.specs.Entry

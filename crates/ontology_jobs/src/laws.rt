@@ -3,6 +3,7 @@ ghost use Rattle.ontology_jobs.specs.Laws.{AnswersAreUnique, BadWordsAskForNothi
 ghost use Rattle.ontology_jobs.specs.Laws.{UndecidedSpendsAll, AcceptedQueriesDoNotFollow, AcceptedQueriesFollow};
 ghost use Rattle.ontology_jobs.specs.Laws.{AcceptedAuditsListAll};
 ghost use Rattle.ontology_jobs.specs.Complete.{JobsAreDone, WorkloadsAreDone};
+ghost use Rattle.ontology_jobs.specs.Shown.{DoneAnswersAreShown};
 
 /// Words that ask for no search have one answer to an input, unless something fails or memory is refused.
 pub fn answers_are_unique()
@@ -31,6 +32,12 @@ pub fn runs_are_complete()
 /// whose document and question are read, is done, but for faults and out of memory.
 pub fn undecided_spends_all()
     ensures { UndecidedSpendsAll }
+{}
+
+/// An answer that is done is shown by the log: the tests in it tell of each class, individual, set of axioms and line
+/// that the answer speaks of what the answer says. A verification tests nothing.
+pub fn done_answers_are_shown()
+    ensures { DoneAnswersAreShown }
 {}
 
 /// What is answered by `accepted not entailed` is a query on a document that does not follow from its axioms in all

@@ -1,5 +1,5 @@
 -- Verdicts and certificates in every world.
-use Rattle.std.proofs.Common.{◌≡◌, ℕ, List, ◌++◌, get_or, inl, inr, refl, ap, sym, ◌∙◌, arith}
+use Rattle.std.proofs.Common.{◌≡◌, ℕ, List, ◌++◌, get_or, refl, ap, sym, ◌∙◌, arith}
 use Rattle.pinpointing_specs.specs.Truth.{Entails}
 use Rattle.all_worlds.specs.Worlds.{World}
 use Rattle.answers_everywhere.proofs.Everywhere.{questions}
@@ -12,13 +12,11 @@ use Rattle.audit_jobs.specs.Decisions.{IsDecisionTold}
 use Rattle.classification_jobs.specs.Answer.{line}
 use Rattle.classification_jobs.specs.Questions.{Text, has_element, follows}
 use Rattle.classification_jobs.specs.Status.TheVariants.{Done, Undecided}
-use Rattle.ontology_jobs.specs.Answers.{AnswersJob}
 use Rattle.ontology_jobs.specs.Entry.{Entry}
-use Rattle.ontology_jobs.specs.Words.{decide}
+use Rattle.ontology_jobs.proofs.Done.{decided}
 use Rattle.ontology_jobs.proofs.Accepted.{follows as accepted_follows, does_not_follow as accepted_does_not}
 use Rattle.runs_everywhere.specs.Laws.{BeginsWithLine, YesFollowsIn, NoFailsInAFiniteWorld}
 use Rattle.runs_everywhere.specs.Laws.{AcceptedQueriesFollowIn, AcceptedQueriesFailInAFiniteWorld}
-use Rattle.runs_everywhere.proofs.Refused.{never_refused, never_long}
 use Rattle.runs_everywhere.proofs.Worlds.{fails, of_question}
 
 -- ---- what is decided
@@ -32,12 +30,6 @@ apart (follows statement) x y same =
     let clash : ◌≡◌ {A = ℕ} 110 101 = ap (λ (t : List ℕ). get_or t 0 0) same in omega (arith, clash)
 
 module _ (question : Text) (budget : ℕ) (bytes out : List ℕ) (log : List Entry) where
-  told : AnswersJob (decide question budget) bytes out Done log → IsDecisionTold question budget bytes out Done log
-  told (inl long) = absurd (never_long bytes out log Done refl long)
-  told (inr (short, inl refused)) =
-      absurd (never_refused question bytes out Done refl refused.reply refused.refused refused.answer)
-  told (inr (short, inr decided)) = decided
-
   yes_by : (t : IsDecisionTold question budget bytes out Done log) → BeginsWithLine (entailed_line question) out
       → (x : Decision) → t.decision ≡ x → HaveAsked Entails question bytes
   yes_by t begins (Answered.Entailed r) is =
@@ -61,7 +53,7 @@ module _ (question : Text) (budget : ℕ) (bytes out : List ℕ) (log : List Ent
 module _ {d : Type 0} (w : World d) where
   pub yes_holds : YesFollowsIn w
   yes_holds question budget bytes out log answer begins =
-      let t = told question budget bytes out log answer in
+      let t = decided question budget bytes out log answer in
       let asked = yes_by question budget bytes out log t begins t.decision refl in
       record {
         ontology = asked.ontology;
@@ -91,7 +83,7 @@ module _ {d : Type 0} (w : World d) where
 
 pub no_fails : NoFailsInAFiniteWorld
 no_fails question budget bytes out log answer begins =
-    let t = told question budget bytes out log answer in
+    let t = decided question budget bytes out log answer in
     let asked = no_by question budget bytes out log t begins t.decision refl in
     record {
       ontology = asked.ontology;

@@ -4,7 +4,7 @@ use Rattle.all_worlds.specs.Worlds.{World}
 use Rattle.classification_jobs.specs.Status.TheVariants.{Done}
 use Rattle.runs_everywhere.specs.Laws.{TaxonomiesHoldIn, TypesHoldIn, InstancesHoldIn, ReasonsHoldIn}
 use Rattle.runs_everywhere.proofs.Classes.{subsumption, types, instances, reasons}
-use Rattle.runs_everywhere.proofs.Refused.{never_long}
+use Rattle.ontology_jobs.proofs.Done.{never_long}
 
 module _ {d : Type 0} (w : World d) where
   pub taxonomies_hold : TaxonomiesHoldIn w

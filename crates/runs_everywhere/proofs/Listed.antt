@@ -6,37 +6,25 @@ use Rattle.answers_everywhere.specs.Laws.{IsOfWorld}
 use Rattle.answers_everywhere.proofs.Everywhere.{questions}
 use Rattle.audit_jobs.specs.Listings.{listing_text, end_status, IsListing}
 use Rattle.audit_jobs.specs.PinpointingAnswers.{IsPinpointed}
-use Rattle.audit_jobs.specs.Answers.{IsEvidenced}
 use Rattle.audit_jobs.specs.Wanted.{Wanted}
 use Rattle.audit_jobs.proofs.Accepted.{evidence_accepted}
 use Rattle.classification_jobs.specs.Questions.{follows}
-use Rattle.classification_jobs.specs.Status.TheVariants.{Done, Undecided}
+use Rattle.classification_jobs.specs.Status.TheVariants.{Undecided}
 use Rattle.ontology_jobs.specs.Answers.{AnswersJob}
 use Rattle.ontology_jobs.specs.Entry.{Entry}
-use Rattle.ontology_jobs.specs.Words.{pinpoint, evidence}
+use Rattle.ontology_jobs.specs.Words.{pinpoint}
+use Rattle.ontology_jobs.proofs.Done.{never_refused, never_long, listed, evidenced, done_is_finished}
 use Rattle.ontology_jobs.proofs.Accepted.{lists_all as accepted_lists_all}
 use Rattle.runs_everywhere.specs.Laws.{ListsAreWholeIn, PartialListsHoldIn, AcceptedAuditsListAllIn}
 use Rattle.runs_everywhere.specs.Laws.{EvidenceListsAllIn}
 use Rattle.runs_everywhere.proofs.Worlds.{of_question}
 use Rattle.runs_everywhere.proofs.Sets.{has_all, has_some, lists_all}
-use Rattle.runs_everywhere.proofs.Refused.{never_refused, never_long}
-
-done_is_finished : (b : Bool) → Done ≡ end_status b → b ≡ true
-done_is_finished true is = refl
-done_is_finished false is = absurd (cc is)
 
 undecided_is_unfinished : (b : Bool) → Undecided ≡ end_status b → b ≡ false
 undecided_is_unfinished true is = absurd (cc is)
 undecided_is_unfinished false is = refl
 
 module _ (wanted : Wanted) (statement : List ℕ) (budget : ℕ) (bytes out : List ℕ) (log : List Entry) where
-  done : AnswersJob (pinpoint wanted statement budget) bytes out Done log
-      → IsPinpointed wanted statement budget bytes out Done log
-  done (inl long) = absurd (never_long bytes out log Done refl long)
-  done (inr (short, inl refused)) =
-      absurd (never_refused (follows statement) bytes out Done refl refused.reply refused.refused refused.answer)
-  done (inr (short, inr listed)) = listed
-
   undecided : AnswersJob (pinpoint wanted statement budget) bytes out Undecided log
       → IsPinpointed wanted statement budget bytes out Undecided log
   undecided (inl long) = absurd (never_long bytes out log Undecided refl long)
@@ -44,17 +32,10 @@ module _ (wanted : Wanted) (statement : List ℕ) (budget : ℕ) (bytes out : Li
       absurd (never_refused (follows statement) bytes out Undecided refl refused.reply refused.refused refused.answer)
   undecided (inr (short, inr listed)) = listed
 
-evidenced : (statement : List ℕ) (budget : ℕ) (bytes out : List ℕ) (log : List Entry)
-    → AnswersJob (evidence statement budget) bytes out Done log → IsEvidenced statement budget bytes out Done log
-evidenced statement budget bytes out log (inl long) = absurd (never_long bytes out log Done refl long)
-evidenced statement budget bytes out log (inr (short, inl refused)) =
-    absurd (never_refused (follows statement) bytes out Done refl refused.reply refused.refused refused.answer)
-evidenced statement budget bytes out log (inr (short, inr is)) = is
-
 module _ {d : Type 0} (w : World d) where
   pub whole_lists : ListsAreWholeIn w
   whole_lists wanted statement budget bytes out log answer =
-      let p = done wanted statement budget bytes out log answer in
+      let p = listed wanted statement budget bytes out log answer in
       let l = p.listed in
       let finished : l.finished ≡ true = done_is_finished l.finished l.status in
       let listing = subst (IsListing wanted p.ontology p.query budget log l.sets) finished l.listing in
