@@ -762,6 +762,15 @@ class Texts(unittest.TestCase):
         found = approximation(text.encode("utf-8")).data.decode("utf-8")
         self.assertIn("SubClassOf(<http://e.org/B> <urn:owl2-as-shq-2:ObjectOneOf(%3Chttp://e.org/a%3E)>)", found)
 
+    def test_new_names_have_inverses_as_owl_writes_them(self):
+        axioms = ["SubObjectPropertyOf(ObjectPropertyChain(ObjectInverseOf(:r) :s) ObjectInverseOf(:r))",
+                  "SubClassOf(:A ObjectAllValuesFrom(ObjectInverseOf(:r) :B))"]
+        found = approximation(ontology(axioms).encode("utf-8"), Strength.FULL).data.decode("utf-8")
+        all_of = "ObjectAllValuesFrom(ObjectInverseOf(%3Chttp://e.org/r%3E)%20%3Chttp://e.org/B%3E)"
+        self.assertIn(f"<urn:owl2-as-shq:{all_of}>", found)
+        # what the inverse leads back from is what the role itself leads to
+        self.assertIn(f"<urn:owl2-as-shq:ObjectSomeValuesFrom(%3Chttp://e.org/r%3E%20{all_of})>", found)
+
     def test_what_is_inside_stays_byte_for_byte(self):
         text = ontology(['SubClassOf(Annotation(:n "é") :A  ObjectUnionOf(:B :C)) # x', "ClassAssertion(:A :a)"])
         self.assertEqual(approximation(text.encode("utf-8")).data, text.encode("utf-8"))

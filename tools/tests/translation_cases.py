@@ -454,6 +454,29 @@ ROLES = [
     ),
     Case(
         "role_axioms.of_inclusion",
+        """
+        SubObjectPropertyOf(:r :s)
+        SubObjectPropertyOf(:s :t)
+        SubObjectPropertyOf(:t :u)
+        SubClassOf(:A ObjectSomeValuesFrom(ObjectInverseOf(:r) :B))
+        SubClassOf(ObjectSomeValuesFrom(ObjectInverseOf(:u) :B) :C)
+        """,
+        follows="SubClassOf(:A :C)",
+        open="SubClassOf(:C :A)",
+    ),
+    Case(
+        "role_axioms.of_inclusion",
+        """
+        SubObjectPropertyOf(ObjectInverseOf(:r) :s)
+        SubObjectPropertyOf(:s :t)
+        SubClassOf(ObjectSomeValuesFrom(ObjectInverseOf(:t) :A) :B)
+        SubClassOf(:C ObjectSomeValuesFrom(:r :A))
+        """,
+        follows="SubClassOf(:C :B)",
+        open="SubClassOf(ObjectSomeValuesFrom(:t :A) :B)",
+    ),
+    Case(
+        "role_axioms.of_inclusion",
         "SubObjectPropertyOf(ObjectPropertyChain(:r) :s)",
         follows="SubClassOf(ObjectSomeValuesFrom(:r :A) ObjectSomeValuesFrom(:s :A))",
         open="SubClassOf(ObjectSomeValuesFrom(:s :A) ObjectSomeValuesFrom(:r :A))",
@@ -1623,6 +1646,16 @@ FULL = [
         {CHAIN}(:r :s) :t)
         InverseObjectProperties(:t :u)
         SubClassOf(:A ObjectAllValuesFrom(:u :B))
+        SubClassOf(:C ObjectSomeValuesFrom(:r ObjectSomeValuesFrom(:s :A)))
+        """,
+        full="SubClassOf(:C :B)",
+        open="SubClassOf(:B :C)",
+    ),
+    Case(
+        "full.Roles.add_chain",
+        f"""
+        {CHAIN}(:r :s) ObjectInverseOf(:t))
+        SubClassOf(:A ObjectAllValuesFrom(:t :B))
         SubClassOf(:C ObjectSomeValuesFrom(:r ObjectSomeValuesFrom(:s :A)))
         """,
         full="SubClassOf(:C :B)",
