@@ -51,11 +51,13 @@ class Lines:
         return found
 
     def entries(self, word, take):
-        """Takes a list of sets of axioms in their order, each with what shows it."""
-        found = []
-        for _ in range(*self.take(word, count=1)):
+        """Takes a list of sets of axioms in their order, each with what shows it, and no more than can follow."""
+        (announced,), count, found = self.take(word, count=1), len(self.reader.axioms), []
+        need(announced <= 2 ** min(count, 32))
+        for left in reversed(range(announced)):
             axioms = self.axioms("set")
-            need(not found or found[-1][0] < axioms)
+            later = sum(2 ** min(count - it, 32) - 1 for it in (*axioms, max(axioms, default=0)))
+            need((not found or found[-1][0] < axioms) and left <= later)
             found.append((axioms, take()))
         return found
 
@@ -71,9 +73,8 @@ class Lines:
         return found
 
     def model(self):
-        (size,) = self.take("model", count=1)
+        (size,), found = self.take("model", count=1), {"class": {}, "role": {}, "individual": {}}
         need(size)
-        found = {"class": {}, "role": {}, "individual": {}}
         for kind, *rest in iter(self.words, ["end"]):
             need(kind in found and len(rest) > 1 and (len(rest) == 2 or kind != "individual"))
             name, tuples = self.name(rest[0], kind), [[number(it) for it in one.split(",")] for one in rest[1:]]

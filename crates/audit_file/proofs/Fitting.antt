@@ -1,10 +1,11 @@
 -- What is known of an audit that was read.
 use Rattle.std.proofs.Common.{◌≡◌, ℕ, zero, suc, ◌+◌, ◌^◌, ◌<◌, ◌≤◌, List, [], ◌∷◌, length, Result, Ok, Err, Option}
-use Rattle.std.proofs.Common.{Some, None, refl, ap, sym, ◌∙◌, subst, arith}
-use Rattle.std.specs.Prelude.{codes, option_map}
+use Rattle.std.proofs.Common.{Some, None, true, refl, ap, sym, ◌∙◌, subst, arith}
+use Rattle.std.specs.Prelude.{codes, option_map, nat_le, ◌&&◌}
 use Rattle.std.specs.Result.{result_map_both}
 use Rattle.std.specs.List.{All}
 use Rattle.std.specs.Str.{bytes_eq}
+use Rattle.std.proofs.lemmas.Bool.{and_parts, leb-true}
 use Rattle.std.proofs.lemmas.List.{length-take, length-drop}
 use Rattle.std.proofs.lemmas.List.Elements.{All-push}
 use Rattle.axiom_sets.specs.Sets.{Limited}
@@ -25,6 +26,7 @@ use Rattle.audit_file.specs.AuditText.{line_of_block, block_read, times, fixed, 
 use Rattle.audit_file.specs.AuditText.{later_set, set_in, refutation_read, model_read, justification_read, repair_read}
 use Rattle.audit_file.specs.AuditText.{counted_read, justifications_read, repairs_read, end_read, closed, audit_read}
 use Rattle.audit_file.specs.AuditText.{audit_in}
+use Rattle.audit_file.specs.Following.{can_follow}
 use Rattle.audit_file.specs.Fitting.{IsFitting, IsOfAxioms, Fits}
 use Rattle.audit_file.specs.declared.entries.Justification.{Justification}
 use Rattle.audit_file.specs.declared.entries.Repair.{Repair}
@@ -85,14 +87,14 @@ block_of {K = K} stands_for malformed at k next h = by (stands_for (block at.lin
         (is ∙ ap (λ p. Some p.0) same, ap (λ p. p.1) (sym same))
 
 -- what each of them keeps, all keep
-pub times_keeps : {A : Type 0} (step : A → Ahead → Reads A) (P : A → Ahead → Type 0)
-    → ((a : A) (at : Ahead) (b : A) (next : Ahead) → step a at ≡ Ok (b, next) → P a at → P b next)
+pub times_keeps : {A : Type 0} (step : ℕ → A → Ahead → Reads A) (P : A → Ahead → Type 0)
+    → ((k : ℕ) (a : A) (at : Ahead) (b : A) (next : Ahead) → step k a at ≡ Ok (b, next) → P a at → P b next)
     → (n : ℕ) (a : A) (at : Ahead) (b : A) (next : Ahead) → times step n a at ≡ Ok (b, next) → P a at → P b next
 times_keeps {A = A} step P keeps zero a at b next h p =
     let same : ◌≡◌ {A = A × Ahead} (a, at) (b, next) = cc h in subst (λ x. P x.0 x.1) same p
 times_keeps {A = A} step P keeps (suc n) a at b next h p =
-    let first = on_ok (step a at) (times step n) (b, next) h in
-    times_keeps step P keeps n first.0.0 first.0.1 b next first.2 (keeps a at first.0.0 first.0.1 first.1 p)
+    let first = on_ok (step n a at) (times step n) (b, next) h in
+    times_keeps step P keeps n first.0.0 first.0.1 b next first.2 (keeps n a at first.0.0 first.0.1 first.1 p)
 
 mapped : (r : Result (Unit {0}) ℕ) (a b : AuditLists) → result_map_both (λ u. a) (λ n. n) r ≡ Ok b → a ≡ b
 mapped (Ok u) a b h = cc h
@@ -111,12 +113,28 @@ line_limit count (k ∷ ws) s h =
     numbers_limit count (elements_from 1 (count + 1) ws) s
     (when_some (bytes_eq k (codes "set")) (numbers_set count ws) s h).1
 
-pub set_limit : (count : ℕ) (before : Option Limited) (l : List ℕ) (s : Limited) → set_in count before l ≡ Some s
-    → s.limit ≡ count
-set_limit count before l s h =
-    let t = and_then_some (later_set before) (set_line count (words l)) s h in
-    let same : t.0 ≡ s = cc (when_some (follows before t.0) (Some t.0) s t.2).1 in
-    ap (λ (x : Limited). x.limit) (sym same) ∙ line_limit count (words l) t.0 t.1
+-- the set of a line, which comes after the one before it, and after which so many more can come
+pub record IsSetRead (count : ℕ) (before : Option Limited) (more : ℕ) (l : List ℕ) (s : Limited) : Type 0 where
+  pub says : set_line count (words l) ≡ Some s
+  pub limit : s.limit ≡ count
+  pub after : follows before s ≡ true
+  pub room : more ≤ can_follow count (Some s)
+
+pub set_read : (count : ℕ) (before : Option Limited) (more : ℕ) (l : List ℕ) (s : Limited)
+    → set_in count before more l ≡ Some s → IsSetRead count before more l s
+set_read count before more l s h =
+    let t = and_then_some (later_set count before more) (set_line count (words l)) s h in
+    let passes =
+    when_some (follows before t.0 && nat_le more (can_follow count (Some t.0))) (Some t.0) s t.2 in
+    let same : t.0 ≡ s = cc passes.1 in
+    let parts = and_parts (follows before t.0) (nat_le more (can_follow count (Some t.0))) passes.0 in
+    subst (IsSetRead count before more l) same
+    (record {
+      says = t.1;
+      limit = line_limit count (words l) t.0 t.1;
+      after = parts.0;
+      room = leb-true more (can_follow count (Some t.0)) parts.1;
+    })
 
 -- ---- refutations
 
@@ -152,13 +170,13 @@ module _ (o : Listed) (few : length o.axioms < 2 ^ 32) (most : ℕ) where
   behind : (at : Ahead) → length at.lines ≤ most → length (behind_block at).lines ≤ most
   behind at short = omega (arith, short, length-drop (block_len at.lines) at.lines)
 
-  one_justification : (a : AuditLists) (at : Ahead) (b : AuditLists) (next : Ahead)
-      → justification_read o a at ≡ Ok (b, next) → Going a at → Going b next
-  one_justification a at b next h going =
+  one_justification : (more : ℕ) (a : AuditLists) (at : Ahead) (b : AuditLists) (next : Ahead)
+      → justification_read o more a at ≡ Ok (b, next) → Going a at → Going b next
+  one_justification more a at b next h going =
       let set =
-      on_ok (line_read (set_in (length o.axioms) (last_justified a)) at)
+      on_ok (line_read (set_in (length o.axioms) (last_justified a) more) at)
       (λ s from. read_on (refutation_read o from) (λ r after. Ok (with_justification s r a, after))) (b, next) h in
-      let line = line_ok (set_in (length o.axioms) (last_justified a)) at set.0.0 set.0.1 set.1 in
+      let line = line_ok (set_in (length o.axioms) (last_justified a) more) at set.0.0 set.0.1 set.1 in
       let short = shorter at set.0.1 line.line line.front going.short in
       let read =
       on_ok (refutation_read o set.0.1) (λ r after. Ok (with_justification set.0.0 r a, after)) (b, next) set.2 in
@@ -176,7 +194,7 @@ module _ (o : Listed) (few : length o.axioms < 2 ^ 32) (most : ℕ) where
         fits = record {
           justified =
               All-push (λ (x : Justification). IsOfAxioms o x.set) a.justifications j going.fits.justified
-              (set_limit (length o.axioms) (last_justified a) line.line set.0.0 line.is);
+              (set_read (length o.axioms) (last_justified a) more line.line set.0.0 line.is).limit;
           refutations =
               All-push (λ (x : Justification). IsFitting o most x.refutation) a.justifications j going.fits.refutations
               fitting;
@@ -185,13 +203,13 @@ module _ (o : Listed) (few : length o.axioms < 2 ^ 32) (most : ℕ) where
         short = subst (λ (n : Ahead). length n.lines ≤ most) (sym of.1) (behind set.0.1 short);
       })
 
-  one_repair : (a : AuditLists) (at : Ahead) (b : AuditLists) (next : Ahead) → repair_read o a at ≡ Ok (b, next)
-      → Going a at → Going b next
-  one_repair a at b next h going =
+  one_repair : (more : ℕ) (a : AuditLists) (at : Ahead) (b : AuditLists) (next : Ahead)
+      → repair_read o more a at ≡ Ok (b, next) → Going a at → Going b next
+  one_repair more a at b next h going =
       let set =
-      on_ok (line_read (set_in (length o.axioms) (last_repaired a)) at)
+      on_ok (line_read (set_in (length o.axioms) (last_repaired a) more) at)
       (λ s from. read_on (model_read o from) (λ m after. Ok (with_repair s m a, after))) (b, next) h in
-      let line = line_ok (set_in (length o.axioms) (last_repaired a)) at set.0.0 set.0.1 set.1 in
+      let line = line_ok (set_in (length o.axioms) (last_repaired a) more) at set.0.0 set.0.1 set.1 in
       let short = shorter at set.0.1 line.line line.front going.short in
       let read = on_ok (model_read o set.0.1) (λ m after. Ok (with_repair set.0.0 m a, after)) (b, next) set.2 in
       let of = block_of (model_of o) (malformed_model_line o) set.0.1 read.0.0 read.0.1 read.1 in
@@ -204,19 +222,19 @@ module _ (o : Listed) (few : length o.axioms < 2 ^ 32) (most : ℕ) where
           refutations = going.fits.refutations;
           repaired =
               All-push (λ (x : Repair). IsOfAxioms o x.set) a.repairs r going.fits.repaired
-              (set_limit (length o.axioms) (last_repaired a) line.line set.0.0 line.is);
+              (set_read (length o.axioms) (last_repaired a) more line.line set.0.0 line.is).limit;
         };
         short = subst (λ (n : Ahead). length n.lines ≤ most) (sym of.1) (behind set.0.1 short);
       })
 
-  counted : (keyword : List ℕ) (step : AuditLists → Ahead → Reads AuditLists)
-      → ((a : AuditLists) (at : Ahead) (b : AuditLists) (next : Ahead) → step a at ≡ Ok (b, next) → Going a at
-      → Going b next)
-      → (a : AuditLists) (at : Ahead) (b : AuditLists) (next : Ahead) → counted_read keyword step a at ≡ Ok (b, next)
-      → Going a at → Going b next
-  counted keyword step keeps a at b next h going =
-      let count = on_ok (line_read (count_in keyword) at) (λ n from. times step n a from) (b, next) h in
-      let line = line_ok (count_in keyword) at count.0.0 count.0.1 count.1 in
+  counted : (keyword : List ℕ) (top : ℕ) (step : ℕ → AuditLists → Ahead → Reads AuditLists)
+      → ((k : ℕ) (a : AuditLists) (at : Ahead) (b : AuditLists) (next : Ahead) → step k a at ≡ Ok (b, next)
+      → Going a at → Going b next)
+      → (a : AuditLists) (at : Ahead) (b : AuditLists) (next : Ahead)
+      → counted_read keyword top step a at ≡ Ok (b, next) → Going a at → Going b next
+  counted keyword top step keeps a at b next h going =
+      let count = on_ok (line_read (count_in keyword top) at) (λ n from. times step n a from) (b, next) h in
+      let line = line_ok (count_in keyword top) at count.0.0 count.0.1 count.1 in
       times_keeps step Going keeps count.0.0 a count.0.1 b next count.2
       (record { fits = going.fits; short = shorter at count.0.1 line.line line.front going.short })
 
@@ -230,9 +248,12 @@ module _ (o : Listed) (few : length o.axioms < 2 ^ 32) (most : ℕ) where
       on_ok (justifications_read o a begins.0.1) (λ c second. read_on (repairs_read o c second) closed) b begins.2 in
       let rs = on_ok (repairs_read o js.0.0 js.0.1) closed b js.2 in
       let after =
-      counted (codes "justifications") (justification_read o) one_justification a begins.0.1 js.0.0 js.0.1 js.1
+      counted (codes "justifications") (can_follow (length o.axioms) (last_justified a)) (justification_read o)
+      one_justification a begins.0.1 js.0.0 js.0.1 js.1
       (record { fits = going.fits; short = shorter at begins.0.1 line.line line.front going.short }) in
-      let last = counted (codes "repairs") (repair_read o) one_repair js.0.0 js.0.1 rs.0.0 rs.0.1 rs.1 after in
+      let last =
+      counted (codes "repairs") (can_follow (length o.axioms) (last_repaired js.0.0)) (repair_read o) one_repair js.0.0
+      js.0.1 rs.0.0 rs.0.1 rs.1 after in
       subst (Fits o most) (mapped (end_read rs.0.1) rs.0.0 b rs.2) last.fits
 
 none : {A : Type 0} (P : A → Type 0) → All P []

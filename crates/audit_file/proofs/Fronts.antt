@@ -237,10 +237,10 @@ done_front {A = A} a = record {
       );
 }
 
-pub times_front : {A : Type 0} (step : A → Ahead → Reads A) → ((a : A) → IsFront (step a)) → (n : ℕ) (a : A)
-    → IsFront (times step n a)
+pub times_front : {A : Type 0} (step : ℕ → A → Ahead → Reads A) → ((k : ℕ) (a : A) → IsFront (step k a)) → (n : ℕ)
+    (a : A) → IsFront (times step n a)
 times_front step fronts zero a = done_front a
-times_front step fronts (suc n) a = both_front (step a) (times step n) (fronts a) (times_front step fronts n)
+times_front step fronts (suc n) a = both_front (step n a) (times step n) (fronts n a) (times_front step fronts n)
 
 -- ---- the last lines
 
@@ -306,7 +306,7 @@ pub record Unblank (n : ℕ) (ls : List (List ℕ)) (m : ℕ) : Type 0 where
   pub before : (j : ℕ) → j ≤ k → first_unblank n (take j ls) ≡ None
   pub stops : (more : List (List ℕ)) → first_unblank n (take (suc k) ls ++ more) ≡ Some (n + k)
 
-unblank : (ls : List (List ℕ)) (n m : ℕ) → first_unblank n ls ≡ Some m → Unblank n ls m
+pub unblank : (ls : List (List ℕ)) (n m : ℕ) → first_unblank n ls ≡ Some m → Unblank n ls m
 unblank [] n m h = let clash : ◌≡◌ {A = Option ℕ} None (Some m) = h in absurd (cc clash)
 unblank (l ∷ ls) n m h = by (is_blank l) refl (unblank ls (n + 1) m)
   where

@@ -4,9 +4,14 @@ pub mod Times
 pub mod Fitting
 pub mod Cut
 pub mod Joined
+pub mod Following
+pub mod Sums
+pub mod ListedSets
+pub mod Room
 pub mod TextBack
 pub mod Pushed
 pub mod Fronts
 pub mod BlockFront
+pub mod Completed
 pub mod AuditFirst
 pub mod Counted

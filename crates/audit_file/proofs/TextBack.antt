@@ -2,18 +2,17 @@
 use Rattle.std.proofs.Common.{◌≡◌, ℕ, suc, ◌+◌, ◌-◌, ◌^◌, ◌<◌, ◌≤◌, true, List, [], ◌∷◌, ◌++◌, length, map, drop}
 use Rattle.std.proofs.Common.{get_or, Result, Ok, Err, Option, Some, None, refl, ap, sym, ◌∙◌, subst, arith}
 use Rattle.std.proofs.Common.{append_assoc, inl, inr}
-use Rattle.std.specs.Prelude.{codes, decimal, slice_get, option_map, option_and_then, if◌then◌else◌}
+use Rattle.std.specs.Prelude.{codes, decimal, slice_get, option_map, option_and_then, if◌then◌else◌, nat_le}
 use Rattle.std.specs.List.{All, list_all, flat_map}
 use Rattle.std.specs.Str.{bytes_eq}
 use Rattle.std.specs.Ordering.{is_lt}
 use Rattle.std.specs.declared.cmp.Ordering.TheVariants.{Less}
-use Rattle.std.proofs.lemmas.Bool.{and_from, cases_eq}
+use Rattle.std.proofs.lemmas.Bool.{and_from, cases_eq, le-leb}
 use Rattle.std.proofs.lemmas.List.{append-nil, length-append, get_or-map, get_or_append_left, length-map}
 use Rattle.std.proofs.lemmas.List.{nil_from_length}
 use Rattle.std.proofs.lemmas.Option.{slice_get-get_or}
 use Rattle.std.proofs.Math.Seq.{get_or-append_seam}
 use Rattle.axiom_sets.specs.Sets.{Limited, IsWithin, member_list, list_cmp}
-use Rattle.axiom_sets.proofs.Listed.{member_list-at, member_list-ascends}
 use Rattle.pinpointing_specs.specs.Order.{IsAscending}
 use Rattle.certificate_lines.specs.Lines.{lines, number_in}
 use Rattle.certificate_lines.specs.Names.{is_word_byte, AreNames}
@@ -26,7 +25,7 @@ use Rattle.finite_model.specs.ModelText.{model_of}
 use Rattle.finite_model.specs.Malformed.{malformed_model_line}
 use Rattle.finite_model.specs.Written.{model_text}
 use Rattle.finite_model.specs.ReadBack.{IsKept}
-use Rattle.finite_model.proofs.Numerals.{Ascend, elements_read}
+use Rattle.finite_model.proofs.Numerals.{elements_read}
 use Rattle.finite_model.proofs.TextLines.{class_rows, role_rows, individual_rows, size_row, model_text_same}
 use Rattle.finite_model.proofs.TextBack.{model_read_back}
 use Rattle.refutation_tree.specs.RefutationLists.{RefutationLists}
@@ -40,7 +39,8 @@ use Rattle.refutation_tree.proofs.TextBack.{refutation_read_back}
 use Rattle.audit_file.specs.AuditLists.{AuditLists, justified_sets, repaired_sets, last_justified, last_repaired}
 use Rattle.audit_file.specs.AuditLists.{follows, with_justification, with_repair, empty_audit}
 use Rattle.audit_file.specs.AuditText.{Ahead, Reads, read_on, line_from, line_read, block_len, block_read, times, fixed}
-use Rattle.audit_file.specs.AuditText.{count_line, count_in, numbers_set, set_line, later_set, set_in, refutation_read}
+use Rattle.audit_file.specs.Following.{can_follow}
+use Rattle.audit_file.specs.AuditText.{up_to, count_line, count_in, numbers_set, set_line, later_set, set_in, refutation_read}
 use Rattle.audit_file.specs.AuditText.{model_read, justification_read, repair_read, justifications_read, repairs_read}
 use Rattle.audit_file.specs.AuditText.{closed, audit_in}
 use Rattle.audit_file.specs.Written.{set_text, count_text, justification_text, repair_text, justifications_text}
@@ -48,6 +48,8 @@ use Rattle.audit_file.specs.Written.{repairs_text, audit_text, IsSetOf, IsWritab
 use Rattle.audit_file.specs.declared.entries.Justification.{Justification}
 use Rattle.audit_file.specs.declared.entries.Repair.{Repair}
 use Rattle.audit_file.proofs.Times.{block_ok}
+use Rattle.audit_file.proofs.ListedSets.{list_ascends}
+use Rattle.audit_file.proofs.Room.{room_behind, room_of_all, rest_ascends}
 use Rattle.audit_file.proofs.Cut.{EndsThere, refutation_ends, model_ends, end_row, rows_long, rows_read, drop_rows}
 use Rattle.audit_file.proofs.Joined.{EndsWithEnd, ends_with_end, fed_first}
 
@@ -75,40 +77,28 @@ count_plain keyword n plain small =
     and_from (list_all is_word_byte keyword) (list_all (list_all is_word_byte) (decimal n ∷ [])) plain
     (and_from (list_all is_word_byte (decimal n)) true (plain_decimal n small) refl)
 
-count_front : (keyword : List ℕ) (n : ℕ) → list_all is_word_byte keyword ≡ true → bytes_eq keyword keyword ≡ true
-    → n < 2 ^ 32 → ReadsFront (line_read (count_in keyword)) (count_text keyword n) n
-count_front keyword n plain same small =
-    line_front (count_in keyword) (line_of keyword (decimal n ∷ [])) n
+pub count_back : (keyword : List ℕ) (most n : ℕ) → list_all is_word_byte keyword ≡ true
+    → bytes_eq keyword keyword ≡ true → n < 2 ^ 32 → n ≤ most
+    → count_in keyword most (line_of keyword (decimal n ∷ [])) ≡ Some n
+count_back keyword most n plain same small room =
+    ap (count_line keyword most) (plain_words keyword (decimal n ∷ []) (count_plain keyword n plain small))
+    ∙ ap (λ b. if b then option_and_then (up_to most) (number_in (decimal n)) else None) same
+    ∙ ap (option_and_then (up_to most)) (number_read n small)
+    ∙ ap (λ b. if b then Some n else None) (le-leb n most room)
+
+count_front : (keyword : List ℕ) (most n : ℕ) → list_all is_word_byte keyword ≡ true
+    → bytes_eq keyword keyword ≡ true → n < 2 ^ 32 → n ≤ most
+    → ReadsFront (line_read (count_in keyword most)) (count_text keyword n) n
+count_front keyword most n plain same small room =
+    line_front (count_in keyword most) (line_of keyword (decimal n ∷ [])) n
     (plain_line keyword (decimal n ∷ []) (count_plain keyword n plain small))
-    (ap (count_line keyword) (plain_words keyword (decimal n ∷ []) (count_plain keyword n plain small))
-    ∙ ap (λ b. if b then number_in (decimal n) else None) same ∙ number_read n small)
+    (count_back keyword most n plain same small room)
 
 -- ---- a set
-
-ascend_list : (low size : ℕ) (xs : List ℕ) → ((i : ℕ) → i < length xs → (low ≤ get_or xs i 0) × (get_or xs i 0 < size))
-    → ((i j : ℕ) → i < j → j < length xs → get_or xs i 0 < get_or xs j 0) → Ascend low size xs
-ascend_list low size [] bounds up = tt
-ascend_list low size (x ∷ xs) bounds up =
-    let first = bounds 0 (omega arith) in (
-      first.0,
-      first.1,
-      ascend_list (x + 1) size xs
-          (λ i lt. (
-            let less : x < get_or xs i 0 = up 0 (suc i) (omega arith) (omega (arith, lt)) in omega (arith, less),
-            (bounds (suc i) (omega (arith, lt))).1,
-          ))
-          (λ i j less lt. up (suc i) (suc j) (omega (arith, less)) (omega (arith, lt))),
-    )
 
 module _ (s : Limited) (within : IsWithin s.limit s.members) (few : s.limit + 1 < 2 ^ 32) where
   abbrev numbers : List ℕ
   numbers = member_list s
-
-  numbers_ascend : Ascend 1 (s.limit + 1) numbers
-  numbers_ascend =
-      ascend_list 1 (s.limit + 1) numbers
-      (λ i lt. let at = member_list-at s i lt in ((within (get_or numbers i 0) at.0).0, omega (arith, at.1)))
-      (member_list-ascends s)
 
   set_plain : list_all (list_all is_word_byte) (codes "set" ∷ map decimal numbers) ≡ true
   set_plain =
@@ -117,19 +107,28 @@ module _ (s : Limited) (within : IsWithin s.limit s.members) (few : s.limit + 1 
 
   numbers_back : numbers_set s.limit (map decimal numbers) ≡ Some s
   numbers_back =
-      ap (option_map (axiom_set s.limit)) (elements_read 1 (s.limit + 1) numbers few numbers_ascend)
+      ap (option_map (axiom_set s.limit)) (elements_read 1 (s.limit + 1) numbers few (list_ascends s within))
       ∙ ap Some (members_again s within)
 
-  pub set_front : (count : ℕ) (before : Option Limited) → s.limit ≡ count → follows before s ≡ true
-      → ReadsFront (line_read (set_in count before)) (set_text s) s
-  set_front count before limit after =
-      line_front (set_in count before) (line_of (codes "set") (map decimal numbers)) s
-      (plain_line (codes "set") (map decimal numbers) set_plain)
-      (ap (λ ws. option_and_then (later_set before) (set_line count ws))
+  abbrev pub set_row : List ℕ
+  set_row = line_of (codes "set") (map decimal numbers)
+
+  pub set_back : (count : ℕ) (before : Option Limited) (more : ℕ) → s.limit ≡ count → follows before s ≡ true
+      → more ≤ can_follow count (Some s) → set_in count before more set_row ≡ Some s
+  set_back count before more limit after room =
+      ap (λ ws. option_and_then (later_set count before more) (set_line count ws))
       (plain_words (codes "set") (map decimal numbers) set_plain)
-      ∙ ap (λ n. option_and_then (later_set before) (numbers_set n (map decimal numbers))) (sym limit)
-      ∙ ap (option_and_then (later_set before)) numbers_back
-      ∙ ap (λ b. if b then Some s else None) after)
+      ∙ ap (λ n. option_and_then (later_set count before more) (numbers_set n (map decimal numbers))) (sym limit)
+      ∙ ap (option_and_then (later_set count before more)) numbers_back
+      ∙ ap (λ b. if b then Some s else None)
+      (and_from (follows before s) (nat_le more (can_follow count (Some s))) after
+      (le-leb more (can_follow count (Some s)) room))
+
+  pub set_front : (count : ℕ) (before : Option Limited) (more : ℕ) → s.limit ≡ count → follows before s ≡ true
+      → more ≤ can_follow count (Some s) → ReadsFront (line_read (set_in count before more)) (set_text s) s
+  set_front count before more limit after room =
+      line_front (set_in count before more) set_row s
+      (plain_line (codes "set") (map decimal numbers) set_plain) (set_back count before more limit after room)
 
 -- ---- a block
 
@@ -237,14 +236,15 @@ module _ (o : Listed) (classes : AreNames o.classes) (roles : AreNames o.roles) 
   set_small : (s : Limited) → IsSetOf o s → s.limit + 1 < 2 ^ 32
   set_small s is = omega (arith, few, is.limit)
 
-  one_justification : (a : AuditLists) (j : Justification) → IsSetOf o j.set → IsWritable o j.refutation
-      → follows (last_justified a) j.set ≡ true
-      → ReadsFront (justification_read o a) (justification_text o j) (with_justification j.set j.refutation a)
-  one_justification a j of can after =
-      both (line_read (set_in (length o.axioms) (last_justified a)))
+  one_justification : (a : AuditLists) (j : Justification) (more : ℕ) → IsSetOf o j.set → IsWritable o j.refutation
+      → follows (last_justified a) j.set ≡ true → more ≤ can_follow (length o.axioms) (Some j.set)
+      → ReadsFront (justification_read o more a) (justification_text o j) (with_justification j.set j.refutation a)
+  one_justification a j more of can after room =
+      both (line_read (set_in (length o.axioms) (last_justified a) more))
       (λ s from. read_on (refutation_read o from) (λ r next. Ok (with_justification s r a, next))) (set_text j.set)
       (refutation_text o j.refutation) j.set (with_justification j.set j.refutation a)
-      (set_front j.set of.within (set_small j.set of) (length o.axioms) (last_justified a) of.limit after)
+      (set_front j.set of.within (set_small j.set of) (length o.axioms) (last_justified a) more of.limit after
+      room)
       (at_end (λ from. read_on (refutation_read o from) (λ r next. Ok (with_justification j.set r a, next)))
       (refutation_text o j.refutation) (with_justification j.set j.refutation a)
       (both (refutation_read o) (λ r next. Ok (with_justification j.set r a, next)) (refutation_text o j.refutation) []
@@ -252,14 +252,15 @@ module _ (o : Listed) (classes : AreNames o.classes) (roles : AreNames o.roles) 
       (refutation_front o classes roles individuals j.refutation can)
       (nothing_more (with_justification j.set j.refutation a) (with_justification j.set j.refutation a) refl)))
 
-  one_repair : (a : AuditLists) (r : Repair) → IsSetOf o r.set → IsKept o r.model
-      → follows (last_repaired a) r.set ≡ true
-      → ReadsFront (repair_read o a) (repair_text o r) (with_repair r.set r.model a)
-  one_repair a r of kept after =
-      both (line_read (set_in (length o.axioms) (last_repaired a)))
+  one_repair : (a : AuditLists) (r : Repair) (more : ℕ) → IsSetOf o r.set → IsKept o r.model
+      → follows (last_repaired a) r.set ≡ true → more ≤ can_follow (length o.axioms) (Some r.set)
+      → ReadsFront (repair_read o more a) (repair_text o r) (with_repair r.set r.model a)
+  one_repair a r more of kept after room =
+      both (line_read (set_in (length o.axioms) (last_repaired a) more))
       (λ s from. read_on (model_read o from) (λ m next. Ok (with_repair s m a, next))) (set_text r.set)
       (model_text o r.model) r.set (with_repair r.set r.model a)
-      (set_front r.set of.within (set_small r.set of) (length o.axioms) (last_repaired a) of.limit after)
+      (set_front r.set of.within (set_small r.set of) (length o.axioms) (last_repaired a) more of.limit after
+      room)
       (at_end (λ from. read_on (model_read o from) (λ m next. Ok (with_repair r.set m a, next))) (model_text o r.model)
       (with_repair r.set r.model a)
       (both (model_read o) (λ m next. Ok (with_repair r.set m a, next)) (model_text o r.model) [] r.model
@@ -270,46 +271,51 @@ module _ (o : Listed) (classes : AreNames o.classes) (roles : AreNames o.roles) 
   justified js rs = record { justifications = js; repairs = rs }
 
   justifications_front : (js front : List Justification) (rs : List Repair) → IsAscending (justified_sets (front ++ js))
-      → All (λ (j : Justification). IsSetOf o j.set) js → All (λ (j : Justification). IsWritable o j.refutation) js
+      → IsAscending (justified_sets js) → All (λ (j : Justification). IsSetOf o j.set) js
+      → All (λ (j : Justification). IsWritable o j.refutation) js
       → ReadsFront (times (justification_read o) (length js) (justified front rs)) (flat_map (justification_text o) js)
       (justified (front ++ js) rs)
-  justifications_front [] front rs up of can =
+  justifications_front [] front rs up own of can =
       nothing_more (justified front rs) (justified (front ++ []) rs)
       (ap (λ (x : List Justification). justified x rs) (sym (append-nil front)))
-  justifications_front (j ∷ js) front rs up of can =
+  justifications_front (j ∷ js) front rs up own of can =
       let shift : (front ++ j ∷ []) ++ js ≡ front ++ j ∷ js = append_assoc front (j ∷ []) js in
       let later =
       justifications_front js (front ++ j ∷ []) rs
       (subst (λ (x : List Justification). IsAscending (justified_sets x)) (sym shift) up)
+      (rest_ascends j.set (justified_sets js) own)
       (rest_all (λ (x : Justification). IsSetOf o x.set) j js of)
       (rest_all (λ (x : Justification). IsWritable o x.refutation) j js can) in
-      both (justification_read o (justified front rs)) (times (justification_read o) (length js))
+      both (justification_read o (length js) (justified front rs)) (times (justification_read o) (length js))
       (justification_text o j) (flat_map (justification_text o) js) (justified (front ++ j ∷ []) rs)
       (justified (front ++ j ∷ js) rs)
-      (one_justification (justified front rs) j (first_all (λ (x : Justification). IsSetOf o x.set) j js of)
+      (one_justification (justified front rs) j (length js) (first_all (λ (x : Justification). IsSetOf o x.set) j js of)
       (first_all (λ (x : Justification). IsWritable o x.refutation) j js can)
-      (last_before (λ (x : Justification). x.set) front j js up))
+      (last_before (λ (x : Justification). x.set) front j js up)
+      (room_behind (λ (x : Justification). x.set) o j js own of))
       (subst (λ (x : List Justification). ReadsFront
       (times (justification_read o) (length js) (justified (front ++ j ∷ []) rs)) (flat_map (justification_text o) js)
       (justified x rs))
       shift later)
 
   repairs_front : (rs front : List Repair) (js : List Justification) → IsAscending (repaired_sets (front ++ rs))
-      → All (λ (r : Repair). IsSetOf o r.set) rs → All (λ (r : Repair). IsKept o r.model) rs
+      → IsAscending (repaired_sets rs) → All (λ (r : Repair). IsSetOf o r.set) rs → All (λ (r : Repair). IsKept o r.model) rs
       → ReadsFront (times (repair_read o) (length rs) (justified js front)) (flat_map (repair_text o) rs)
       (justified js (front ++ rs))
-  repairs_front [] front js up of kept =
+  repairs_front [] front js up own of kept =
       nothing_more (justified js front) (justified js (front ++ []))
       (ap (λ (x : List Repair). justified js x) (sym (append-nil front)))
-  repairs_front (r ∷ rs) front js up of kept =
+  repairs_front (r ∷ rs) front js up own of kept =
       let shift : (front ++ r ∷ []) ++ rs ≡ front ++ r ∷ rs = append_assoc front (r ∷ []) rs in
       let later =
       repairs_front rs (front ++ r ∷ []) js (subst (λ (x : List Repair). IsAscending (repaired_sets x)) (sym shift) up)
+      (rest_ascends r.set (repaired_sets rs) own)
       (rest_all (λ (x : Repair). IsSetOf o x.set) r rs of) (rest_all (λ (x : Repair). IsKept o x.model) r rs kept) in
-      both (repair_read o (justified js front)) (times (repair_read o) (length rs)) (repair_text o r)
+      both (repair_read o (length rs) (justified js front)) (times (repair_read o) (length rs)) (repair_text o r)
       (flat_map (repair_text o) rs) (justified js (front ++ r ∷ [])) (justified js (front ++ r ∷ rs))
-      (one_repair (justified js front) r (first_all (λ (x : Repair). IsSetOf o x.set) r rs of)
-      (first_all (λ (x : Repair). IsKept o x.model) r rs kept) (last_before (λ (x : Repair). x.set) front r rs up))
+      (one_repair (justified js front) r (length rs) (first_all (λ (x : Repair). IsSetOf o x.set) r rs of)
+      (first_all (λ (x : Repair). IsKept o x.model) r rs kept) (last_before (λ (x : Repair). x.set) front r rs up)
+      (room_behind (λ (x : Repair). x.set) o r rs own of))
       (subst (λ (x : List Repair). ReadsFront (times (repair_read o) (length rs) (justified js (front ++ r ∷ [])))
       (flat_map (repair_text o) rs) (justified js x))
       shift later)
@@ -320,19 +326,24 @@ module _ (o : Listed) (classes : AreNames o.classes) (roles : AreNames o.roles) 
     justifications_back : ReadsFront (justifications_read o empty_audit) (justifications_text o a.justifications)
         (justified a.justifications [])
     justifications_back =
-        both (line_read (count_in (codes "justifications"))) (λ n from. times (justification_read o) n empty_audit from)
+        both (line_read (count_in (codes "justifications") (can_follow (length o.axioms) None)))
+        (λ n from. times (justification_read o) n empty_audit from)
         (count_text (codes "justifications") (length a.justifications))
         (flat_map (justification_text o) a.justifications) (length a.justifications) (justified a.justifications [])
-        (count_front (codes "justifications") (length a.justifications) refl refl can.few_justifications)
-        (justifications_front a.justifications [] [] can.ordered.justifications can.justified can.refutations)
+        (count_front (codes "justifications") (can_follow (length o.axioms) None) (length a.justifications) refl refl
+        can.few_justifications
+        (room_of_all (λ (x : Justification). x.set) o a.justifications can.ordered.justifications can.justified))
+        (justifications_front a.justifications [] [] can.ordered.justifications can.ordered.justifications can.justified
+        can.refutations)
 
     repairs_back : ReadsFront (repairs_read o (justified a.justifications [])) (repairs_text o a.repairs) a
     repairs_back =
-        both (line_read (count_in (codes "repairs")))
+        both (line_read (count_in (codes "repairs") (can_follow (length o.axioms) None)))
         (λ n from. times (repair_read o) n (justified a.justifications []) from)
         (count_text (codes "repairs") (length a.repairs)) (flat_map (repair_text o) a.repairs) (length a.repairs) a
-        (count_front (codes "repairs") (length a.repairs) refl refl can.few_repairs)
-        (repairs_front a.repairs [] a.justifications can.ordered.repairs can.repaired can.models)
+        (count_front (codes "repairs") (can_follow (length o.axioms) None) (length a.repairs) refl refl can.few_repairs
+        (room_of_all (λ (x : Repair). x.set) o a.repairs can.ordered.repairs can.repaired))
+        (repairs_front a.repairs [] a.justifications can.ordered.repairs can.ordered.repairs can.repaired can.models)
 
     abbrev last : List ℕ
     last = fed (codes "end audit")

@@ -10,7 +10,9 @@ use Rattle.certificate_lines.specs.declared.fault.LineFault.{LineFault}
 use Rattle.certificate_lines.specs.declared.fault.LineFault.TheVariants.{Malformed, NoMemory}
 use Rattle.audit_file.specs.AuditText.{Ahead, Reads, read_on, times, block, behind_block, line_of_block, block_read}
 use Rattle.audit_file.specs.AuditText.{line_read, count_in, counted_read, told, IsShifted, IsFaultBy}
+use Rattle.axiom_sets.specs.Sets.{Limited}
 use Rattle.audit_file.specs.AuditLists.{AuditLists}
+use Rattle.audit_file.specs.Following.{can_follow}
 
 -- a fault stays one when another reading would have followed
 pub fault_before : {A B : Type 0} (r : Reads A) (f : A → Ahead → Result B ℕ) (e : LineFault) → IsFaultBy r e
@@ -25,30 +27,38 @@ pub fault_after : {A B : Type 0} (r : Reads A) (f : A → Ahead → Result B ℕ
     → r ≡ Ok (a, at) → IsFaultBy (f a at) e → IsFaultBy (read_on r f) e
 fault_after r f a at e is h = subst (λ (x : Result _ ℕ). IsFaultBy x e) (sym (ap (λ (x : Reads _). read_on x f) is)) h
 
-pub times_step : {A : Type 0} (step : A → Ahead → Reads A) (m n : ℕ) (a : A) (at : Ahead) (b : A) (next : Ahead)
-    → m ≡ suc n → step a at ≡ Ok (b, next) → times step m a at ≡ times step n b next
+pub times_step : {A : Type 0} (step : ℕ → A → Ahead → Reads A) (m n : ℕ) (a : A) (at : Ahead) (b : A) (next : Ahead)
+    → m ≡ suc n → step n a at ≡ Ok (b, next) → times step m a at ≡ times step n b next
 times_step step m n a at b next e is = ap (λ k. times step k a at) e ∙ ap (λ (r : Reads _). read_on r (times step n)) is
 
-pub times_end : {A : Type 0} (step : A → Ahead → Reads A) (m : ℕ) (a : A) (at : Ahead) → m ≡ 0
+pub times_end : {A : Type 0} (step : ℕ → A → Ahead → Reads A) (m : ℕ) (a : A) (at : Ahead) → m ≡ 0
     → times step m a at ≡ Ok (a, at)
 times_end step m a at e = ap (λ k. times step k a at) e
 
-pub times_fault : {A : Type 0} (step : A → Ahead → Reads A) (m n : ℕ) (a : A) (at : Ahead) (e : LineFault) → m ≡ suc n
-    → IsFaultBy (step a at) e → IsFaultBy (times step m a at) e
+pub times_fault : {A : Type 0} (step : ℕ → A → Ahead → Reads A) (m n : ℕ) (a : A) (at : Ahead) (e : LineFault)
+    → m ≡ suc n → IsFaultBy (step n a at) e → IsFaultBy (times step m a at) e
 times_fault step m n a at e is h =
-    subst (λ k. IsFaultBy (times step k a at) e) (sym is) (fault_before (step a at) (times step n) e h)
+    subst (λ k. IsFaultBy (times step k a at) e) (sym is) (fault_before (step n a at) (times step n) e h)
+
+-- how many can follow is told of the count of axioms and the set before
+pub count_of : (keyword : List ℕ) (n m : ℕ) (b d : Option Limited) (at first : Ahead) (c : ℕ) → n ≡ m → b ≡ d
+    → line_read (count_in keyword (can_follow n b)) at ≡ Ok (c, first)
+    → line_read (count_in keyword (can_follow m d)) at ≡ Ok (c, first)
+count_of keyword n m b d at first c same before is =
+    subst (λ (e : Option Limited). line_read (count_in keyword (can_follow m e)) at ≡ Ok (c, first)) before
+    (subst (λ (k : ℕ). line_read (count_in keyword (can_follow k b)) at ≡ Ok (c, first)) same is)
 
 -- a fault of the one that comes next
-pub counted_fault : (keyword : List ℕ) (step : AuditLists → Ahead → Reads AuditLists) (a : AuditLists)
+pub counted_fault : (keyword : List ℕ) (most : ℕ) (step : ℕ → AuditLists → Ahead → Reads AuditLists) (a : AuditLists)
     (at first : Ahead) (n k : ℕ) (b : AuditLists) (next : Ahead) (e : LineFault)
-    → line_read (count_in keyword) at ≡ Ok (n, first)
-    → times step (n - k) b next ≡ times step n a first → k < n → IsFaultBy (step b next) e
-    → IsFaultBy (counted_read keyword step a at) e
-counted_fault keyword step a at first n k b next e counts same less h =
-    let more : n - k ≡ suc (n - k - 1) = omega (arith, less) in
+    → line_read (count_in keyword most) at ≡ Ok (n, first)
+    → times step (n - k) b next ≡ times step n a first → k < n → IsFaultBy (step (n - (k + 1)) b next) e
+    → IsFaultBy (counted_read keyword most step a at) e
+counted_fault keyword most step a at first n k b next e counts same less h =
+    let more : n - k ≡ suc (n - (k + 1)) = omega (arith, less) in
     let here : IsFaultBy (times step n a first) e =
-    subst (λ (r : Reads AuditLists). IsFaultBy r e) same (times_fault step (n - k) (n - k - 1) b next e more h) in
-    fault_after (line_read (count_in keyword) at) (λ m from. times step m a from) n first e counts here
+    subst (λ (r : Reads AuditLists). IsFaultBy r e) same (times_fault step (n - k) (n - (k + 1)) b next e more h) in
+    fault_after (line_read (count_in keyword most) at) (λ m from. times step m a from) n first e counts here
 
 -- ---- what becomes of a whole reading
 

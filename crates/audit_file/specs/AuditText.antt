@@ -1,6 +1,6 @@
 -- The text of an audit, line by line, and what it stands for. The first line has the number 1.
 use Rattle.std.specs.Prelude.{◌≡◌, ℕ, zero, suc, ◌+◌, ◌-◌, List, [], ◌∷◌, length, take, drop, codes, Option, Some, None}
-use Rattle.std.specs.Prelude.{option_map, option_and_then, Result, Ok, Err, if◌then◌else◌}
+use Rattle.std.specs.Prelude.{option_map, option_and_then, Result, Ok, Err, if◌then◌else◌, ◌&&◌, nat_le}
 use Rattle.std.specs.Result.{result_map_both}
 use Rattle.std.specs.Str.{bytes_eq}
 use Rattle.axiom_sets.specs.Sets.{Limited}
@@ -18,6 +18,7 @@ use Rattle.refutation_tree.specs.RefutationText.{axiom_set, refutation_of}
 use Rattle.refutation_tree.specs.Malformed.{malformed_refutation_line}
 use Rattle.audit_file.specs.AuditLists.{AuditLists, last_justified, last_repaired, follows, with_justification}
 use Rattle.audit_file.specs.AuditLists.{with_repair, empty_audit}
+use Rattle.audit_file.specs.Following.{can_follow}
 
 -- ---- reading on
 
@@ -73,10 +74,10 @@ block_read stands_for malformed at = elim (stands_for (block at.lines)) [
   | Some k ↦ Ok (k, behind_block at)
 ]
 
--- one after another, as many as a number says
-abbrev pub times : {A : Type 0} → (A → Ahead → Reads A) → ℕ → A → Ahead → Reads A
+-- one after another, as many as a number says; each is told how many come after it
+abbrev pub times : {A : Type 0} → (ℕ → A → Ahead → Reads A) → ℕ → A → Ahead → Reads A
 times step zero a at = Ok (a, at)
-times step (suc k) a at = read_on (step a at) (times step k)
+times step (suc k) a at = read_on (step k a at) (times step k)
 
 -- ---- the lines of an audit
 
@@ -84,14 +85,18 @@ times step (suc k) a at = read_on (step a at) (times step k)
 abbrev pub fixed : List ℕ → List ℕ → Option (Unit {0})
 fixed text line = if bytes_eq line text then Some tt else None
 
--- `KEYWORD N`
-abbrev pub count_line : List ℕ → List (List ℕ) → Option ℕ
-count_line keyword (k ∷ n ∷ []) = if bytes_eq k keyword then number_in n else None
-count_line keyword _ = None
+-- a number up to the most
+abbrev pub up_to : ℕ → ℕ → Option ℕ
+up_to most n = if nat_le n most then Some n else None
 
--- the number behind the keyword of a line
-abbrev pub count_in : List ℕ → List ℕ → Option ℕ
-count_in keyword line = count_line keyword (words line)
+-- `KEYWORD N`, with a number up to the most
+abbrev pub count_line : List ℕ → ℕ → List (List ℕ) → Option ℕ
+count_line keyword most (k ∷ n ∷ []) = if bytes_eq k keyword then option_and_then (up_to most) (number_in n) else None
+count_line keyword most _ = None
+
+-- the number behind the keyword of a line, up to the most
+abbrev pub count_in : List ℕ → ℕ → List ℕ → Option ℕ
+count_in keyword most line = count_line keyword most (words line)
 
 -- the set of these words, which are numbers from 1 to the count of axioms and ascend
 abbrev pub numbers_set : ℕ → List (List ℕ) → Option Limited
@@ -102,17 +107,19 @@ abbrev pub set_line : ℕ → List (List ℕ) → Option Limited
 set_line count [] = None
 set_line count (k ∷ ws) = if bytes_eq k (codes "set") then numbers_set count ws else None
 
--- a set that comes after the one before it
-abbrev pub later_set : Option Limited → Limited → Option Limited
-later_set before s = if follows before s then Some s else None
+-- a set that comes after the one before it, and after which so many more can come
+abbrev pub later_set : ℕ → Option Limited → ℕ → Limited → Option Limited
+later_set count before more s =
+    if follows before s && nat_le more (can_follow count (Some s)) then Some s else None
 
--- the set that a line `set` names, where it stands behind the one before in the order of sets
-abbrev pub set_in : ℕ → Option Limited → List ℕ → Option Limited
-set_in count before line = option_and_then (later_set before) (set_line count (words line))
+-- the set that a line `set` names, where it stands behind the one before in the order of sets, and so many more can
+-- come after it
+abbrev pub set_in : ℕ → Option Limited → ℕ → List ℕ → Option Limited
+set_in count before more line = option_and_then (later_set count before more) (set_line count (words line))
 
 -- ---- what an audit lists
 
--- a set and a refutation, after what was read
+-- the refutation that the next lines are, or the first malformed line
 abbrev pub refutation_read : Listed → Ahead → Reads RefutationLists
 refutation_read o at = block_read (refutation_of o) (malformed_refutation_line o) at
 
@@ -120,29 +127,32 @@ refutation_read o at = block_read (refutation_of o) (malformed_refutation_line o
 abbrev pub model_read : Listed → Ahead → Reads ModelLists
 model_read o at = block_read (model_of o) (malformed_model_line o) at
 
--- the audit with the justification that the next lines are, or the first malformed line
-abbrev pub justification_read : Listed → AuditLists → Ahead → Reads AuditLists
-justification_read o a at =
-    read_on (line_read (set_in (length o.axioms) (last_justified a)) at)
+-- the audit with the justification that the next lines are, before so many more, or the first malformed line
+abbrev pub justification_read : Listed → ℕ → AuditLists → Ahead → Reads AuditLists
+justification_read o more a at =
+    read_on (line_read (set_in (length o.axioms) (last_justified a) more) at)
     (λ s from. read_on (refutation_read o from) (λ r next. Ok (with_justification s r a, next)))
 
--- a set and a model, after what was read
-abbrev pub repair_read : Listed → AuditLists → Ahead → Reads AuditLists
-repair_read o a at =
-    read_on (line_read (set_in (length o.axioms) (last_repaired a)) at)
+-- the audit with the repair that the next lines are, before so many more, or the first malformed line
+abbrev pub repair_read : Listed → ℕ → AuditLists → Ahead → Reads AuditLists
+repair_read o more a at =
+    read_on (line_read (set_in (length o.axioms) (last_repaired a) more) at)
     (λ s from. read_on (model_read o from) (λ m next. Ok (with_repair s m a, next)))
 
--- a line that says how many, and then so many
-abbrev pub counted_read : List ℕ → (AuditLists → Ahead → Reads AuditLists) → AuditLists → Ahead → Reads AuditLists
-counted_read keyword step a at = read_on (line_read (count_in keyword) at) (λ n from. times step n a from)
+-- a line that says how many, of which no more can be than the most, and then so many
+abbrev pub counted_read : List ℕ → ℕ → (ℕ → AuditLists → Ahead → Reads AuditLists) → AuditLists → Ahead
+    → Reads AuditLists
+counted_read keyword most step a at = read_on (line_read (count_in keyword most) at) (λ n from. times step n a from)
 
 -- the audit with the justifications that the next lines are, or the first malformed line
 abbrev pub justifications_read : Listed → AuditLists → Ahead → Reads AuditLists
-justifications_read o a at = counted_read (codes "justifications") (justification_read o) a at
+justifications_read o a at =
+    counted_read (codes "justifications") (can_follow (length o.axioms) (last_justified a)) (justification_read o) a at
 
 -- the audit with the repairs that the next lines are, or the first malformed line
 abbrev pub repairs_read : Listed → AuditLists → Ahead → Reads AuditLists
-repairs_read o a at = counted_read (codes "repairs") (repair_read o) a at
+repairs_read o a at =
+    counted_read (codes "repairs") (can_follow (length o.axioms) (last_repaired a)) (repair_read o) a at
 
 -- nothing but blank lines is left
 abbrev pub blank_read : Ahead → Result (Unit {0}) ℕ

@@ -1,4 +1,5 @@
 pub mod AuditLists
+pub mod Following
 pub mod AuditText
 pub mod Fitting
 pub mod Written

@@ -16,8 +16,8 @@ pub fn what_is_written_is_read()
     ensures { WhatIsWrittenIsRead }
 {}
 
-/// The malformed line that is told of lines that are no audit is the first: the lines before it are an audit or lack
-/// just the next line, wherever they are cut off, and with it there is none, whatever follows.
+/// The malformed line that is told of lines that are no audit is the first: some audit begins with the lines before it,
+/// and none with these and it. For that the sets are counted that can still follow in the order of sets.
 pub fn malformed_line_is_the_first()
     ensures { AuditsTellMalformed }
 {}

@@ -1,10 +1,13 @@
 // Lines that are read one after another.
 ghost use Rattle.std.specs.Prelude.{◌≡◌, ◌≤◌, ◌<◌, ◌+◌, ◌^◌, [], true, length, Ok, IfOk, IfErr, OnOk, IfSome, IfNone};
-ghost use Rattle.std.specs.Prelude.{option_map, option_and_then};
+ghost use Rattle.std.specs.Prelude.{option_map, option_and_then, nat_le, min, ◌-◌};
+ghost use Rattle.axiom_sets.specs.Sets.{member_list};
 ghost use Rattle.certificate_lines.specs.Lines.{bytes_of};
 ghost use Rattle.certificate_lines.specs.Malformed.{clamped_line};
 ghost use Rattle.audit_file.specs.AuditText.{IsNextLine, line_read, block_len, block, behind_block, fixed, count_line};
-ghost use Rattle.audit_file.specs.AuditText.{count_in, numbers_set, set_line, later_set, set_in, blank_read, IsShifted};
+ghost use Rattle.audit_file.specs.AuditText.{count_in, up_to, numbers_set, set_line, later_set, set_in, blank_read};
+ghost use Rattle.audit_file.specs.AuditText.{IsShifted};
+ghost use Rattle.audit_file.specs.Following.{sets_above, lists_after, can_follow};
 ghost use Rattle.audit_file.specs.AuditText.{IsFaultBy};
 ghost use Rattle.audit_file.specs.AuditLists.{follows};
 ghost use Rattle.finite_model.specs.ModelText.{element_in};
@@ -93,42 +96,55 @@ impl<'a> Reader<'a> {
         }
     }
 
-    /// Reads a line of a keyword and a number.
-    pub(crate) fn count(&mut self, alloc: Global, keyword: &[u8]) -> Result<u32, AuditFault>
-        ensures count { IfOk result (λ n. line_read (count_in keyword.now) self.old ≡ Ok (n, self.new)) }
-        ensures fault { IfErr result (IsFaultBy (line_read (count_in keyword.now) self.old)) }
+    /// Reads a line of a keyword and of how many sets of numbers up to a count follow. No more can follow than come
+    /// after the one before, if there is one.
+    pub(crate) fn count(
+        &mut self,
+        alloc: Global,
+        keyword: &[u8],
+        count: u32,
+        before: Option<&AxiomSet>,
+    ) -> Result<u32, AuditFault>
+        ensures count { IfOk result
+            (λ n. line_read (count_in keyword.now (can_follow count (option_map (λ b. b.now) before.entry))) self.old
+            ≡ Ok (n, self.new)) }
+        ensures fault { IfErr result
+            (IsFaultBy
+            (line_read (count_in keyword.now (can_follow count (option_map (λ b. b.now) before.entry))) self.old)) }
     {
         let number = clamped_line(self.number());
         let Some(line) = self.next() else {
             return Err(AuditFault::Malformed(number));
         };
-        match count_in(alloc, keyword, line)? {
+        match count_in(alloc, keyword, count, before, line)? {
             Some(count) => Ok(count),
             None => Err(AuditFault::Malformed(number)),
         }
     }
 
-    /// Reads a line `set K ..` of numbers up to a count, whose set comes after the one before it.
+    /// Reads a line `set K ..` of numbers up to a count, whose set comes after the one before it, and after which so
+    /// many more can come.
     pub(crate) fn set(
         &mut self,
         alloc: Global,
         count: u32,
         before: Option<&AxiomSet>,
+        more: u32,
     ) -> Result<AxiomSet, AuditFault>
         requires { IfSome before (λ s. s.now.limit ≡ count) }
         ensures set { IfOk result
-            (λ s. line_read (set_in count (option_map (λ b. b.now) before.entry)) self.old ≡ Ok (s, self.new)) }
+            (λ s. line_read (set_in count (option_map (λ b. b.now) before.entry) more) self.old ≡ Ok (s, self.new)) }
         ensures limit { IfOk result (λ s. s.limit ≡ count) }
         ensures follows { IfOk result (λ s. follows (option_map (λ b. b.now) before.entry) s ≡ true) }
         ensures later { IfOk result (λ _. 2 ≤ self.new.number) }
         ensures fault { IfErr result
-            (IsFaultBy (line_read (set_in count (option_map (λ b. b.now) before.entry)) self.old)) }
+            (IsFaultBy (line_read (set_in count (option_map (λ b. b.now) before.entry) more) self.old)) }
     {
         let number = clamped_line(self.number());
         let Some(line) = self.next() else {
             return Err(AuditFault::Malformed(number));
         };
-        match set_in(alloc, count, before, line)? {
+        match set_in(alloc, count, before, more, line)? {
             Some(set) => Ok(set),
             None => Err(AuditFault::Malformed(number)),
         }
@@ -174,46 +190,71 @@ fn block_len(lines: &[&[u8]]) -> usize
     lines.len()
 }
 
-fn count_in(alloc: Global, keyword: &[u8], line: &[u8]) -> Result<Option<u32>, NoMemory>
-    ensures { IfOk result (λ c. c ≡ count_in keyword.now line.now) }
+fn count_in(
+    alloc: Global,
+    keyword: &[u8],
+    count: u32,
+    before: Option<&AxiomSet>,
+    line: &[u8],
+) -> Result<Option<u32>, NoMemory>
+    ensures { IfOk result
+        (λ c. c ≡ count_in keyword.now (can_follow count (option_map (λ b. b.now) before.entry)) line.now) }
 {
     let words = words(alloc, line)?;
-    Ok(count_line(keyword, &words))
+    Ok(count_line(keyword, count, before, &words))
 }
 
-fn count_line(keyword: &[u8], words: &[&[u8]]) -> Option<u32>
-    ensures { result ≡ count_line keyword.now (bytes_of words.now) }
+fn count_line(keyword: &[u8], count: u32, before: Option<&AxiomSet>, words: &[&[u8]]) -> Option<u32>
+    ensures { result
+        ≡ count_line keyword.now (can_follow count (option_map (λ b. b.now) before.entry)) (bytes_of words.now) }
 {
     match words {
-        [first, count] if *first == keyword => number(count),
+        [first, sets] if *first == keyword => possible_count(count, before, number(sets)?),
         _ => None,
     }
 }
 
-/// The set that a line says, where it comes after the one before it.
+/// The number of sets, where so many can follow.
+fn possible_count(count: u32, before: Option<&AxiomSet>, sets: u32) -> Option<u32>
+    ensures { result ≡ up_to (can_follow count (option_map (λ b. b.now) before.entry)) sets }
+{
+    if can_follow(count, before, sets) {
+        Some(sets)
+    } else {
+        None
+    }
+}
+
+/// The set that a line says, where it comes after the one before it, and so many more can come after it.
 fn set_in(
     alloc: Global,
     count: u32,
     before: Option<&AxiomSet>,
+    more: u32,
     line: &[u8],
 ) -> Result<Option<AxiomSet>, NoMemory>
     requires { IfSome before (λ s. s.now.limit ≡ count) }
-    ensures set { IfOk result (λ s. s ≡ set_in count (option_map (λ b. b.now) before.entry) line.now) }
+    ensures set { IfOk result (λ s. s ≡ set_in count (option_map (λ b. b.now) before.entry) more line.now) }
     ensures limit { IfOk result (λ s. IfSome s (λ t. t.limit ≡ count)) }
     ensures follows { IfOk result (λ s. IfSome s (λ t. follows (option_map (λ b. b.now) before.entry) t ≡ true)) }
 {
     let words = words(alloc, line)?;
     let set = set_line(alloc, count, &words)?;
-    Ok(later_set(before, set))
+    Ok(later_set(count, before, more, set))
 }
 
-fn later_set(before: Option<&AxiomSet>, set: Option<AxiomSet>) -> Option<AxiomSet>
+fn later_set(
+    count: u32,
+    before: Option<&AxiomSet>,
+    more: u32,
+    set: Option<AxiomSet>,
+) -> Option<AxiomSet>
     requires { IfSome before (λ s. IfSome set (λ t. s.now.limit ≡ t.limit)) }
-    ensures set { result ≡ option_and_then (later_set (option_map (λ b. b.now) before.entry)) set }
+    ensures set { result ≡ option_and_then (later_set count (option_map (λ b. b.now) before.entry) more) set }
     ensures follows { IfSome result (λ t. follows (option_map (λ b. b.now) before.entry) t ≡ true) }
 {
     let set = set?;
-    if follows(before, &set) {
+    if follows(before, &set) && can_follow(count, Some(&set), more) {
         return Some(set);
     }
     drop(set);
@@ -228,6 +269,53 @@ fn follows(before: Option<&AxiomSet>, set: &AxiomSet) -> bool
         Some(before) => before.cmp_list(set).is_lt(),
         None => true,
     }
+}
+
+/// Whether so many sets of numbers up to a count come after the one before, if there is one.
+#[tactic(auto, using(crate::proofs::Following::at_most))]
+fn can_follow(count: u32, before: Option<&AxiomSet>, sets: u32) -> bool
+    ensures { result ≡ nat_le sets (can_follow count (option_map (λ b. b.now) before.entry)) }
+{
+    u64::from(sets) <= following(count, before)
+}
+
+/// How many there are, up to the greatest number of 32 bits.
+fn following(count: u32, before: Option<&AxiomSet>) -> u64
+    ensures { result ≡ min (can_follow count (option_map (λ b. b.now) before.entry)) (2 ^ 32 - 1) }
+{
+    match before {
+        Some(set) => following_set(count, set),
+        None => 2u64.saturating_pow(count).min(u64::from(u32::MAX)),
+    }
+}
+
+#[tactic(auto, using(crate::proofs::Sums::counted_on, crate::proofs::Sums::counted_last))]
+fn following_set(count: u32, set: &AxiomSet) -> u64
+    ensures { result ≡ min (lists_after count 0 (member_list set.now)) (2 ^ 32 - 1) }
+{
+    let mut sets = 0;
+    let mut last = 0;
+    for number in set.numbers() {
+        sets = sum(sets, sets_above(count, number));
+        last = number;
+    }
+    sum(sets, sets_above(count, last))
+}
+
+/// How many sets of numbers above a number and up to a count there are, the empty one apart, up to the greatest number
+/// of 32 bits.
+fn sets_above(count: u32, number: u32) -> u64
+    ensures { result ≡ min (sets_above count number) (2 ^ 32 - 1) }
+{
+    let all = 2u64.saturating_pow(count.saturating_sub(number));
+    all.saturating_sub(1).min(u64::from(u32::MAX))
+}
+
+/// The sum, up to the greatest number of 32 bits.
+fn sum(one: u64, other: u64) -> u64
+    ensures { result ≡ min (one + other) (2 ^ 32 - 1) }
+{
+    one.saturating_add(other).min(u64::from(u32::MAX))
 }
 
 fn set_line(alloc: Global, count: u32, words: &[&[u8]]) -> Result<Option<AxiomSet>, NoMemory>

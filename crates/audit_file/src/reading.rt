@@ -6,6 +6,7 @@ ghost use Rattle.audit_file.specs.AuditText.{refutation_read, model_read, justif
 ghost use Rattle.audit_file.specs.AuditText.{justifications_read, repairs_read, end_read, audit_read, audit_in};
 ghost use Rattle.audit_file.specs.AuditText.{IsFaultBy};
 ghost use Rattle.audit_file.specs.Fitting.{AreOfAxioms, Fits};
+ghost use Rattle.audit_file.specs.Malformed.{IsFirstFault};
 
 use crate::reader::{Reader, fault_in_block};
 use crate::{Audit, AuditFault};
@@ -22,12 +23,15 @@ use std::alloc::Global;
 /// # Errors
 ///
 /// `Malformed` exactly where the lines are no such text, with the number of the first malformed line, where the first
-/// of all has the number 1, and `NoMemory`. Where a needed line is missing, that is the number of lines and one more.
-/// A number above 4,294,967,295 is told as 4,294,967,295.
+/// of all has the number 1, and `NoMemory`. With that line no such text begins, whatever follows it, but with those
+/// before it one does: so a line is malformed that announces more sets than can follow in the order of sets, and a
+/// `set` line after which too few can. Where a needed line is missing, the number is that of lines and one more. A
+/// number above 4,294,967,295 is told as 4,294,967,295.
 pub fn read_text(alloc: Global, lines: &[&[u8]], ontology: &Ontology) -> Result<Audit, AuditFault>
     ensures audit { IfOk result (λ a. audit_in ontology.now (bytes_of lines.now) ≡ Ok a) }
     ensures fits { IfOk result (Fits ontology.now (length lines.now)) }
     ensures fault { IfErr result (IsFaultBy (audit_in ontology.now (bytes_of lines.now))) }
+    ensures first { IfErr result (IsFirstFault ontology.now (bytes_of lines.now)) }
 {
     let _count = ontology.axiom_count();
     let mut audit = Audit::new(alloc);
@@ -87,9 +91,10 @@ fn read_justifications(
     ensures of_axioms { OnOk result (AreOfAxioms ontology.now audit.new) }
     ensures fault { IfErr result (IsFaultBy (justifications_read ontology.now audit.old reader.old)) }
 {
-    let count = reader.count(alloc, b"justifications")?;
-    for _ in 0..count {
-        read_justification(alloc, reader, ontology, audit)?;
+    let axioms = ontology.axiom_count();
+    let count = reader.count(alloc, b"justifications", axioms, audit.last_justified())?;
+    for place in 0..count {
+        read_justification(alloc, reader, ontology, audit, count - (place + 1))?;
     }
     Ok(())
 }
@@ -100,13 +105,14 @@ fn read_justification(
     reader: &mut Reader<'_>,
     ontology: &Ontology,
     audit: &mut Audit,
+    more: u32,
 ) -> Result<(), AuditFault>
     requires { AreOfAxioms ontology.now audit.old }
-    ensures read { OnOk result (justification_read ontology.now audit.old reader.old ≡ Ok (audit.new, reader.new)) }
+    ensures read { OnOk result (justification_read ontology.now more audit.old reader.old ≡ Ok (audit.new, reader.new)) }
     ensures of_axioms { OnOk result (AreOfAxioms ontology.now audit.new) }
-    ensures fault { IfErr result (IsFaultBy (justification_read ontology.now audit.old reader.old)) }
+    ensures fault { IfErr result (IsFaultBy (justification_read ontology.now more audit.old reader.old)) }
 {
-    let set = reader.set(alloc, ontology.axiom_count(), audit.last_justified())?;
+    let set = reader.set(alloc, ontology.axiom_count(), audit.last_justified(), more)?;
     let refutation = read_refutation(alloc, reader, ontology)?;
     audit.put_justification(set, refutation)?;
     Ok(())
@@ -141,9 +147,10 @@ fn read_repairs(
     ensures of_axioms { OnOk result (AreOfAxioms ontology.now audit.new) }
     ensures fault { IfErr result (IsFaultBy (repairs_read ontology.now audit.old reader.old)) }
 {
-    let count = reader.count(alloc, b"repairs")?;
-    for _ in 0..count {
-        read_repair(alloc, reader, ontology, audit)?;
+    let axioms = ontology.axiom_count();
+    let count = reader.count(alloc, b"repairs", axioms, audit.last_repaired())?;
+    for place in 0..count {
+        read_repair(alloc, reader, ontology, audit, count - (place + 1))?;
     }
     Ok(())
 }
@@ -154,13 +161,14 @@ fn read_repair(
     reader: &mut Reader<'_>,
     ontology: &Ontology,
     audit: &mut Audit,
+    more: u32,
 ) -> Result<(), AuditFault>
     requires { AreOfAxioms ontology.now audit.old }
-    ensures read { OnOk result (repair_read ontology.now audit.old reader.old ≡ Ok (audit.new, reader.new)) }
+    ensures read { OnOk result (repair_read ontology.now more audit.old reader.old ≡ Ok (audit.new, reader.new)) }
     ensures of_axioms { OnOk result (AreOfAxioms ontology.now audit.new) }
-    ensures fault { IfErr result (IsFaultBy (repair_read ontology.now audit.old reader.old)) }
+    ensures fault { IfErr result (IsFaultBy (repair_read ontology.now more audit.old reader.old)) }
 {
-    let set = reader.set(alloc, ontology.axiom_count(), audit.last_repaired())?;
+    let set = reader.set(alloc, ontology.axiom_count(), audit.last_repaired(), more)?;
     let model = read_model(alloc, reader, ontology)?;
     audit.put_repair(set, model)?;
     Ok(())

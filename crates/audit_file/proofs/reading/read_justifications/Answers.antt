@@ -1,7 +1,9 @@
-use Rattle.std.specs.Prelude.{codes}
+use Rattle.std.specs.Prelude.{codes, length, option_map}
 use Rattle.std.proofs.lemmas.Result.{err_from_is_err_and}
+use Rattle.audit_file.specs.AuditLists.{last_justified}
+use Rattle.audit_file.specs.Following.{can_follow}
 use Rattle.audit_file.specs.AuditText.{justification_read}
-use Rattle.audit_file.proofs.Times.{counted_fault}
+use Rattle.audit_file.proofs.Times.{count_of, counted_fault}
 use Rattle.audit_file.proofs.reading.read_justifications.Goals as goal
 
 pub returns-in_err-read_justification-clause-fault : goal.returns-in_err-read_justification-clause-fault
@@ -9,7 +11,15 @@ returns-in_err-read_justification-clause-fault c =
     let p =
     err_from_is_err_and c.from_residual-in_err-read_justification.result
     c.from_residual-in_err-read_justification.ensures.1 in
+    let o = c.args.ontology.now in
+    let audit = c.args.audit.now in
+    let before = option_map (λ b. b.now) c.last_justified.result in
+    let counts =
+    count_of (codes "justifications") c.axiom_count-axioms.result (length o.axioms) before (last_justified audit) c.args.reader.now
+    c.count.new.self c.in_ok-count.count c.axiom_count-axioms.ensures.count c.last_justified.ensures
+    c.in_ok-count.ensures.count in
     rw (p.1, p.2)
-    (counted_fault (codes "justifications") (justification_read c.args.ontology.now) c.args.audit.now c.args.reader.now
-    c.count.new.self c.in_ok-count.count c.loop.counter c.loop.audit c.loop.reader c.in_err-read_justification.field-0.0
-    c.in_ok-count.ensures.count c.loop.invariant.told c.loop-test.true c.in_err-read_justification.ensures.fault)
+    (counted_fault (codes "justifications") (can_follow (length o.axioms) (last_justified audit)) (justification_read o) audit
+    c.args.reader.now c.count.new.self c.in_ok-count.count c.loop-place.place c.loop-place.audit c.loop-place.reader
+    c.in_err-read_justification.field-0.0 counts c.loop-place.invariant.told c.loop-place-test.true
+    c.in_err-read_justification.ensures.fault)
