@@ -7,6 +7,7 @@ pub mod Verdicts
 pub mod Laws
 pub use Rattle.audit_file.specs.AuditText
 pub use Rattle.audit_file.specs.Fitting
+pub use Rattle.audit_file.specs.Malformed
 pub use Rattle.audit_file.specs.AuditLists
 pub use Rattle.audit_file.specs.Written
 pub use Rattle.audit_file.specs.declared.entries.Justification

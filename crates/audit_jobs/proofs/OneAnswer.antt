@@ -1,5 +1,7 @@
 -- An input is judged in one way.
 use Rattle.std.proofs.Common.{◌≡◌, ℕ, List, drop, Option, Some, None, Result, Ok, Err, ap, sym, ◌∙◌, subst}
+use Rattle.std.specs.Result.{result_ok}
+use Rattle.certificate_lines.specs.Malformed.{IsFirstMalformed}
 use Rattle.shq_terms.specs.Listed.{Listed}
 use Rattle.shq_terms.specs.declared.axioms.Query.{Query as Asked}
 use Rattle.ofn_expressions.specs.declared.refusal.Refusal.{Refusal}
@@ -14,7 +16,9 @@ use Rattle.job_inputs.specs.Asked.{IsAsked, IsNotAsked}
 use Rattle.job_inputs.specs.declared.unread.Unread.{Unread}
 use Rattle.job_inputs.specs.declared.unread.Unread.TheVariants.{Document, Query, Line, NoMemory}
 use Rattle.audit_check.specs.AuditLists.{AuditLists}
-use Rattle.audit_check.specs.AuditText.{told}
+use Rattle.audit_check.specs.Malformed.{audit_of}
+use Rattle.decision_jobs.specs.Certificates.{certificate_lines}
+use Rattle.decision_jobs.proofs.FirstMalformed.{first_is_one}
 use Rattle.audit_check.specs.Verdicts.{IsVerdict}
 use Rattle.audit_check.specs.declared.verdict.AuditVerdict.{AuditVerdict}
 use Rattle.audit_check.proofs.Accepted.{one_verdict}
@@ -32,14 +36,11 @@ IsKnown (Err NoMemory) = ⊥
 one_audit : (a d : AuditLists) → ◌≡◌ {A = Result AuditLists ℕ} (Ok a) (Ok d) → a ≡ d
 one_audit a d same = cc same
 
-one_line : (m n : ℕ) → ◌≡◌ {A = Option ℕ} (Some m) (Some n) → m ≡ n
-one_line m n same = cc same
-
 -- no text is an audit and has a malformed line
-no_line : (r : Result AuditLists ℕ) (a : AuditLists) (n : ℕ) → r ≡ Ok a → told r ≡ Some n → ⊥
-no_line r a n is line =
-    let clash : ◌≡◌ {A = Option ℕ} None (Some n) = sym (ap (λ (x : Result AuditLists ℕ). told x) is) ∙ line in
-    absurd (cc clash)
+no_line : (o : Listed) (rest : List ℕ) (a : AuditLists) (n : ℕ) → audit_after o rest ≡ Ok a
+    → IsFirstMalformed 1 (audit_of o) (certificate_lines rest) n → ⊥
+no_line o rest a n is line =
+    let clash : ◌≡◌ {A = Option AuditLists} None (Some a) = sym line.2.no_text ∙ ap result_ok is in absurd (cc clash)
 
 module _ (query bytes : List ℕ) where
   -- the document, and what follows of one that is another
@@ -99,13 +100,15 @@ module _ (query bytes : List ℕ) where
   judged_or_malformed : (v : AuditVerdict) (n : ℕ) → IsJudgedOn query bytes v → IsMalformedOn query bytes n → ⊥
   judged_or_malformed v n p q =
       let same = one_asked p.both q.both p.asked q.asked p.rest q.rest p.is_asked q.is_asked in
-      no_line (audit_after q.both q.rest) p.audit n (sym (λ i. audit_after (same.0 i) (same.2 i)) ∙ p.is_audit)
-      q.is_told
+      no_line q.both q.rest p.audit n (sym (λ i. audit_after (same.0 i) (same.2 i)) ∙ p.is_audit) q.is_first
 
   one_malformed : (m n : ℕ) → IsMalformedOn query bytes m → IsMalformedOn query bytes n → m ≡ n
   one_malformed m n p q =
       let same = one_asked p.both q.both p.asked q.asked p.rest q.rest p.is_asked q.is_asked in
-      one_line m n (sym p.is_told ∙ (λ i. told (audit_after (same.0 i) (same.2 i))) ∙ q.is_told)
+      let there =
+      subst (λ (r : List ℕ). IsFirstMalformed 1 (audit_of q.both) (certificate_lines r) m) same.2
+      (subst (λ (b : Listed). IsFirstMalformed 1 (audit_of b) (certificate_lines p.rest) m) same.0 p.is_first) in
+      first_is_one 1 (audit_of q.both) (certificate_lines q.rest) m n there q.is_first
 
   -- what a check ends with has one answer
   pub one_end : (a b : Result AuditVerdict Unread) → IsKnown a → IsKnown b → IsAuditEnd query bytes a

@@ -1,5 +1,11 @@
 -- What is read of an input, and what keeps it from being judged, from its parts to the whole.
-use Rattle.std.proofs.Common.{◌≡◌, ℕ, ◌≤◌, List, drop, Result, Ok, Err, sym, subst, arith}
+use Rattle.std.proofs.Common.{◌≡◌, ℕ, ◌≤◌, ◌-◌, ◌^◌, List, drop, length, Result, Ok, Err, sym, ◌∙◌, subst, arith}
+use denote.Ref.{Bor}
+use Rattle.std.specs.Prelude.{min}
+use Rattle.std.proofs.Math.Nat.{min-eq_left}
+use Rattle.std.proofs.lemmas.List.{length-map}
+use Rattle.certificate_lines.specs.Lines.{bytes_of}
+use Rattle.certificate_lines.specs.Malformed.{IsFirstMalformed}
 use Rattle.std.specs.Prelude.{IfOk}
 use Rattle.std.specs.Result.{result_map_both}
 use Rattle.certificate_lines.specs.declared.fault.LineFault.{LineFault}
@@ -15,10 +21,11 @@ use Rattle.job_inputs.specs.Unread.{line_unread}
 use Rattle.job_inputs.specs.declared.unread.Unread.{Unread}
 use Rattle.job_inputs.specs.declared.unread.Unread.TheVariants.{Document, Query, Line, NoMemory}
 use Rattle.audit_check.specs.AuditLists.{AuditLists}
-use Rattle.audit_check.specs.AuditText.{IsFaultBy}
+use Rattle.audit_check.specs.Malformed.{audit_of, IsFirstFault}
 use Rattle.audit_check.specs.Fitting.{Fits}
 use Rattle.audit_check.specs.declared.verdict.AuditVerdict.{AuditVerdict}
-use Rattle.audit_jobs.specs.Audited.{audit_after, IsJudged, IsAskedOn, IsJudgedOn, IsAuditEnd, IsUnreadBy, IsAuditClaim}
+use Rattle.decision_jobs.specs.Certificates.{certificate_lines}
+use Rattle.audit_jobs.specs.Audited.{IsJudged, IsAskedOn, IsJudgedOn, IsAuditEnd, IsUnreadBy, IsAuditClaim}
 use Rattle.audit_jobs.specs.Audited.{IsUnclaimed, input_with, IsAuditInput}
 use Rattle.audit_jobs.specs.declared.reading.AuditClaim.{AuditClaim}
 use Rattle.audit_jobs.specs.declared.reading.AuditInput.{AuditInput}
@@ -30,10 +37,17 @@ mapped_ok f P Q (Err e) out is so p = subst (λ o. IfOk o Q) (sym is) tt
 
 -- ---- the lines behind the document
 
-pub line_said : (r : Result AuditLists ℕ) (f : LineFault) (u : Unread) → u ≡ line_unread f → IsFaultBy r f
-    → IsUnreadBy r u
-line_said r (F.Malformed n) u is why = subst (IsUnreadBy r) (sym is) why
-line_said r F.NoMemory u is why = subst (IsUnreadBy r) (sym is) tt
+-- the number of the first malformed line of so few lines is told as it is
+pub line_said : (o : Listed) (lines : List (Bor (List ℕ))) (f : LineFault) (u : Unread) → u ≡ line_unread f
+    → length lines ≤ 4294967294 → IsFirstFault o (bytes_of lines) f → IsUnreadBy o (bytes_of lines) u
+line_said o lines (F.Malformed line) u is few why =
+    let first = why.1 in
+    let within = first.2.within in
+    let low : min why.0 (2 ^ 32 - 1) ≡ why.0 =
+    min-eq_left (omega (arith, first.1, within, few, length-map lines (λ l. l.now))) in
+    subst (IsUnreadBy o (bytes_of lines)) (sym is)
+    (subst (IsFirstMalformed 1 (audit_of o) (bytes_of lines)) (sym (why.2 ∙ low)) first)
+line_said o lines F.NoMemory u is few why = subst (IsUnreadBy o (bytes_of lines)) (sym is) tt
 
 pub fits_more : (o : Listed) (n : ℕ) (a : AuditLists) → n ≤ 4294967294 → Fits o n a → Fits o 4294967294 a
 fits_more o n a le fits = record {
@@ -60,12 +74,13 @@ unasked o kept query rest NoMemory why = tt
 
 pub unaudited : (o : Listed) (kept : DocumentContext) (query rest : List ℕ) (counts : Counts) (q : Asked)
     (both : Listed)
-    → IsAsked o kept query counts q → both ≡ with_names o counts → (u : Unread) → IsUnreadBy (audit_after both rest) u
+    → IsAsked o kept query counts q → both ≡ with_names o counts → (u : Unread)
+    → IsUnreadBy both (certificate_lines rest) u
     → IsUnclaimed o kept query rest u
 unaudited o kept query rest counts q both is_query names (Document e) why = absurd why
 unaudited o kept query rest counts q both is_query names (Query e) why = absurd why
 unaudited o kept query rest counts q both is_query names (Line n) why =
-    record { counts = counts; asked = q; both = both; is_query = is_query; both_are = names; is_told = why }
+    record { counts = counts; asked = q; both = both; is_query = is_query; both_are = names; is_first = why }
 unaudited o kept query rest counts q both is_query names NoMemory why = tt
 
 module _ (query bytes : List ℕ) (o : Listed) (kept : DocumentContext) (end : ℕ)
@@ -91,7 +106,7 @@ module _ (query bytes : List ℕ) (o : Listed) (kept : DocumentContext) (end : �
     asked = why.asked;
     rest = drop end bytes;
     is_asked = asked_on why.counts why.asked why.both why.is_query why.both_are;
-    is_told = why.is_told;
+    is_first = why.is_first;
   }
   unclaimed NoMemory why = tt
 

@@ -1,5 +1,6 @@
 -- What is answered to an audit that follows a document.
-use Rattle.std.specs.Prelude.{◌≡◌, ℕ, ◌++◌, List, codes, decimal, drop, Some, Result, Ok, Err}
+use Rattle.std.specs.Prelude.{◌≡◌, ℕ, ◌++◌, List, codes, decimal, drop, Result, Ok, Err}
+use Rattle.certificate_lines.specs.Malformed.{IsFirstMalformed}
 use Rattle.shq_terms.specs.Listed.{Listed}
 use Rattle.shq_terms.specs.declared.axioms.Query.{Query as Asked}
 use Rattle.audit_check.specs.Limits.{IsInLimit}
@@ -17,7 +18,8 @@ use Rattle.job_inputs.specs.declared.unread.Unread.{Unread}
 use Rattle.job_inputs.specs.declared.unread.Unread.TheVariants as U
 use Rattle.decision_jobs.specs.Certificates.{certificate_lines}
 use Rattle.audit_check.specs.AuditLists.{AuditLists, IsOrdered}
-use Rattle.audit_check.specs.AuditText.{audit_in, told}
+use Rattle.audit_check.specs.AuditText.{audit_in}
+use Rattle.audit_check.specs.Malformed.{audit_of}
 use Rattle.audit_check.specs.Fitting.{Fits}
 use Rattle.audit_check.specs.Sound.{ListsAll}
 use Rattle.audit_check.specs.Verdicts.{IsVerdict}
@@ -63,13 +65,14 @@ pub record IsJudgedOn (query bytes : List ℕ) (v : AuditVerdict) : Type 0 where
   pub is_audit : audit_after both rest ≡ Ok audit
   pub judged : IsJudged both asked audit v
 
--- a document and a query are read, and the text behind the document is no audit; this is its first malformed line
+-- a document and a query are read, and the text behind the document is no audit; this is its first malformed line, with
+-- which no audit begins, or behind whose lines one is missing
 pub record IsMalformedOn (query bytes : List ℕ) (n : ℕ) : Type 0 where
   pub both : Listed
   pub asked : Asked
   pub rest : List ℕ
   pub is_asked : IsAskedOn query bytes both asked rest
-  pub is_told : told (audit_after both rest) ≡ Some n
+  pub is_first : IsFirstMalformed 1 (audit_of both) (certificate_lines rest) n
 
 -- a document is read, and the query is none on it
 pub record IsNoQueryOn (query bytes : List ℕ) (e : Refusal) : Type 0 where
@@ -108,12 +111,12 @@ Audited query bytes out s = (end : Result AuditVerdict Unread) × IsAuditEnd que
 
 -- ---- while it is read
 
--- what keeps a text from being an audit, unless memory was refused
-abbrev pub IsUnreadBy : Result AuditLists ℕ → Unread → Type 0
-IsUnreadBy r (U.Line n) = told r ≡ Some n
-IsUnreadBy r (U.Document e) = ⊥
-IsUnreadBy r (U.Query e) = ⊥
-IsUnreadBy r U.NoMemory = Unit {0}
+-- what keeps lines from being an audit, unless memory was refused
+abbrev pub IsUnreadBy : Listed → List (List ℕ) → Unread → Type 0
+IsUnreadBy o ls (U.Line n) = IsFirstMalformed 1 (audit_of o) ls n
+IsUnreadBy o ls (U.Document e) = ⊥
+IsUnreadBy o ls (U.Query e) = ⊥
+IsUnreadBy o ls U.NoMemory = Unit {0}
 
 -- the query on a document, and the audit that follows the document, over the names of both
 pub record IsAuditClaim (o : Listed) (kept : DocumentContext) (query rest : List ℕ) (both : Listed) (claim : AuditClaim)
@@ -130,7 +133,7 @@ pub record IsMalformedClaim (o : Listed) (kept : DocumentContext) (query rest : 
   pub both : Listed
   pub is_query : IsAsked o kept query counts asked
   pub both_are : both ≡ with_names o counts
-  pub is_told : told (audit_after both rest) ≡ Some n
+  pub is_first : IsFirstMalformed 1 (audit_of both) (certificate_lines rest) n
 
 -- why there is no claim on a document, unless memory was refused
 abbrev pub IsUnclaimed : Listed → DocumentContext → List ℕ → List ℕ → Unread → Type 0

@@ -3,6 +3,7 @@ ghost use Rattle.std.specs.Prelude.{◌≡◌, ◌≤◌, IfOk, IfErr, Ok, Err, 
 ghost use Rattle.std.specs.List.{prefix_len};
 ghost use Rattle.std.specs.Result.{result_map_both};
 ghost use Rattle.certificate_lines.specs.Lines.{is_blank, bytes_of};
+ghost use Rattle.decision_jobs.specs.Certificates.{certificate_lines};
 ghost use Rattle.audit_check.specs.AuditText.{audit_in};
 ghost use Rattle.audit_check.specs.Fitting.{Fits};
 ghost use Rattle.audit_jobs.specs.Audited.{audit_after, IsUnreadBy, IsAuditClaim, IsUnclaimed, IsAuditInput};
@@ -94,7 +95,7 @@ fn read_audit(alloc: Global, text: &[u8], ontology: &Ontology) -> Result<Audit, 
     requires { length text.now ≤ 4294967293 }
     ensures found { IfOk result (λ a. audit_after ontology.now text.now ≡ Ok a) }
     ensures fits { IfOk result (Fits ontology.now 4294967294) }
-    ensures unread { IfErr result (IsUnreadBy (audit_after ontology.now text.now)) }
+    ensures unread { IfErr result (IsUnreadBy ontology.now (certificate_lines text.now)) }
 {
     let lines = lines(alloc, text)?;
     read_lines(alloc, lines.split_at(blank_count(&lines)).1, ontology)
@@ -112,7 +113,7 @@ fn read_lines(alloc: Global, lines: &[&[u8]], ontology: &Ontology) -> Result<Aud
     requires { length lines.now ≤ 4294967294 }
     ensures found { IfOk result (λ a. audit_in ontology.now (bytes_of lines.now) ≡ Ok a) }
     ensures fits { IfOk result (Fits ontology.now 4294967294) }
-    ensures unread { IfErr result (IsUnreadBy (audit_in ontology.now (bytes_of lines.now))) }
+    ensures unread { IfErr result (IsUnreadBy ontology.now (bytes_of lines.now)) }
 {
     match read_text(alloc, lines, ontology) {
         Ok(audit) => Ok(audit),
