@@ -14,7 +14,7 @@ use Rattle.search_trace.specs.ReadBack.{IsWritable}
 use Rattle.closed_search.specs.Named.{NamesNoOther}
 use Rattle.closed_search.specs.Finished.{IsNumbered}
 
--- the lines that stay, in their order; one of which nothing is said is left out
+-- the lines that stay, in their order, by a list that says of each whether it does; those behind its end are left out
 abbrev pub staying : List Bool → List Line → List Line
 staying [] lines = []
 staying (stays ∷ others) [] = []

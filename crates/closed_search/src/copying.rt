@@ -19,8 +19,7 @@ pub(crate) fn copies(alloc: Global, lines: &[Line]) -> Result<Vec<Line>, NoMemor
     Ok(copies)
 }
 
-/// Copies of the lines at the places that are to be kept, in their order. Of a line at which nothing is said there is
-/// none.
+/// Copies of the lines that are to be kept, in their order. A line behind the end of `keep` is left out.
 pub(crate) fn kept_lines(
     alloc: Global,
     lines: &[Line],
