@@ -9,8 +9,8 @@ OF_A_PART = frozenset({"not entailed", "satisfiable", "consistent", "instances",
 class Caveat:
     """A note on the ontology that was read, for whoever reads an answer to it.
 
-    Hand one to `Reading(.., caveat=..)`, or to `Report(.., caveat=..)`: texts and pages show its `lines` at the top, and
-    where a verdict is one of `qualifies` they put `says` directly behind it. Verdicts are `entailed`, `not entailed`,
+    Hand one to `Reading(.., caveat=..)`, or to `Report(.., caveat=..)`: texts and pages show its `lines` at the top. If
+    a verdict is one of `qualifies`, they put `says` directly behind it. Verdicts are `entailed`, `not entailed`,
     `satisfiable`, `unsatisfiable`, `consistent`, `inconsistent`, `contradictory classes`, `no contradictory class`,
     `justifications`, `repairs` and `instances`.
     """

@@ -28,7 +28,7 @@ if it is not current. `DEFINITIONS.md` says what the definitions mean together."
 
 @dataclass(frozen=True)
 class Definition:
-    """A definition: its crate and file, its name, its line, what is said of it, and whether another definition tells."""
+    """A definition: its crate and file, its name, its line, what is said of it, and whether another one tells that."""
 
     crate: str
     file: str
@@ -66,7 +66,8 @@ def definitions_in(crate, file, text):
         comment = comment_above(lines, at)
         if inner and is_first:
             comment, is_first = comment or block_comment, False
-        yield Definition(crate, file, match[match.lastindex], at + 1, comment, inner is not None and bool(block_comment))
+        is_told = inner is not None and bool(block_comment)
+        yield Definition(crate, file, match[match.lastindex], at + 1, comment, is_told)
 
 
 def imported_names(text):

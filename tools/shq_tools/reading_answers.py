@@ -29,11 +29,13 @@ MISFIT = "the answer is to another statement than that of --query"
 NO_LINES = "The script has no lines."
 NOT_WHOLE = "The answer is not whole."
 NOTHING_TO_READ = (
-    "there is nothing to read. Where a job stands before read in a pipe, it says itself why it printed nothing. Only the "
-    "answer of why to a class without individuals has no line, and is read with --query CLASS; and that of session to a "
-    "script without lines"
+    "there is nothing to read. Where a job stands before read in a pipe, it says itself why it printed nothing. Only "
+    "the answer of why to a class without individuals has no line, and is read with --query CLASS; and that of session "
+    "to a script without lines"
 )
-READ_AS_WHY = "nothing was read, which is the answer of why where no individual is in the class. Of another job it is none"
+READ_AS_WHY = (
+    "nothing was read, which is the answer of why where no individual is in the class. Of another job it is none"
+)
 NOT_COMPARED = "whether the answer is to the statement of --query cannot be told"
 
 

@@ -84,7 +84,8 @@ class ReportPage:
         shown = replace(found, sets=found.sets[:MOST_SETS])
         parts = list_parts(self.reading(shown, query), level)
         left = len(found.sets) - len(shown.sets)
-        parts += [element("p", f"{left:,} more are not shown: {command_for(job, self.report, iri)}", "quiet")] * (left > 0)
+        if left:
+            parts.append(element("p", f"{left:,} more are not shown: {command_for(job, self.report, iri)}", "quiet"))
         return parts + [element("p", "There may be more, but the time was over.", "quiet")] * found.is_partial
 
     def explanation(self, one, level):
@@ -155,7 +156,7 @@ class ReportPage:
         return [details(counted(len(rows), "individual"), shown, len(rows) <= OPEN_ROWS)]
 
     def added(self):
-        """What the full form of a translation adds, each statement with its reason, to be opened, where there is one."""
+        """What the full form of a translation adds: statements, each to be opened for its reason where there is one."""
         added = self.report.added
         rows = []
         for statement in added.statements:

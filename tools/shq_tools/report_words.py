@@ -8,9 +8,9 @@ from shq_tools.wording import counted, verdict
 MOST_SETS = 25
 # Classes whose contradiction comes from others are told apart by this rule.
 RULE = (
-    "First come the classes whose contradiction comes from no other one. A class comes from another contradictory class "
-    "where an axiom makes each of its members a member of that class, or leads from it to one, and that axiom stands in "
-    "one of its reasons."
+    "First come the classes whose contradiction comes from no other one. A class comes from another contradictory "
+    "class where an axiom makes each of its members a member of that class, or leads from it to one, and that axiom "
+    "stands in one of its reasons."
 )
 NO_CLASS = "No class is contradictory: each can have a member."
 NO_CLASS_IN_LIGHT = "By the light form of the translation no class is contradictory."

@@ -54,7 +54,9 @@ def single(token):
 
 
 def opened(items, before, bracket):
-    """The group that a bracket opens, still without items. Its name is the last item, where that is the token before."""
+    """The group that a bracket opens, still without items. If the token before is a name, it is that of the group, and
+    no item beside it.
+    """
     if items and items[-1] is before and before.kind == "name":
         items.pop()
         return Item("group", before.text, before.line, before.start, bracket.end, [])

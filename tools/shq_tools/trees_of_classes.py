@@ -80,7 +80,7 @@ def shown_alone(taxonomy, shown):
 
 
 def shown_parents(own, parents, hidden):
-    """The parents of a group, and in place of a hidden one those above it, but for what is above another one of them."""
+    """The parents of a group. A hidden one is replaced by those above it; what is above another parent is left out."""
     if hidden.isdisjoint(own):
         return own
     found, met, left = {}, set(own), list(reversed(own))

@@ -43,8 +43,8 @@ def hierarchy_for(question, source):
 
 
 def old_types(question, source, text):
-    """The answer of `realize` with classes of the file alone. Where the most specific class of an individual is one that
-    a translation made, it is in all classes of the file above that one, so the hierarchy is asked for too.
+    """The answer of `realize` with classes of the file alone. In place of a class that a translation made stand the
+    nearest classes of the file above it. They are found in the hierarchy, which is asked for too.
     """
     found = read_as(Realization, text)
     if found is None or all(classes == not_new(classes) for _, classes in found.types):

@@ -51,6 +51,11 @@ class Rows(RowsTest):
     def test_one_item(self):
         self.assert_rows(["SubClassOf(ObjectIntersectionOf(:A) ObjectUnionOf(:B))"], [["A SubClassOf B"]])
 
+    def test_an_exact_number(self):
+        """It stays one, where nothing is lost."""
+        axioms = ["SubClassOf(:A ObjectExactCardinality(2 :r ObjectUnionOf(:B)))"]
+        self.assert_rows(axioms, [["A SubClassOf r exactly 2 B"]])
+
     def test_has_value(self):
         rows = [["A SubClassOf r some {a}", "a Type {a}"]]
         self.assert_rows(["SubClassOf(:A ObjectHasValue(:r :a))"], rows, Loss.NOMINAL)
@@ -415,6 +420,9 @@ class LossesTest(unittest.TestCase):
         ("SubObjectPropertyOf(:r owl:topObjectProperty)", (), ()),
         ("SubObjectPropertyOf(owl:topObjectProperty :r)", [Loss.TOP_ROLE], [Loss.TOP_ROLE]),
         ("FunctionalObjectProperty(owl:topObjectProperty)", [Loss.TOP_ROLE], [Loss.TOP_ROLE]),
+        ("SubClassOf(:A ObjectAllValuesFrom(owl:topObjectProperty :B))", [Loss.TOP_ROLE], [Loss.TOP_ROLE]),
+        ("SubClassOf(ObjectSomeValuesFrom(owl:topObjectProperty owl:Thing) :A)", (), ()),
+        ("SubClassOf(:A ObjectMaxCardinality(1 owl:bottomObjectProperty))", (), ()),
         ("TransitiveObjectProperty(:r) FunctionalObjectProperty(:r)", [Loss.COUNTED], [Loss.COUNTED]),
         ("TransitiveObjectProperty(:r) SubClassOf(:A ObjectMaxCardinality(1 :r))", [Loss.COUNTED], [Loss.COUNTED]),
         ("SubClassOf(:A ObjectMaxCardinality(101 :r))", [Loss.BEYOND_LIMITS], [Loss.BEYOND_LIMITS]),

@@ -15,7 +15,7 @@ LINES = [
     'AnnotationAssertion(rdfs:label :Concept_{a} "the concept of the number {a}, and what an editor says of it"@en)',
     "SubClassOf(:Concept_{a} ObjectHasValue(:relation_{c} :thing_{d}))",
     "SubClassOf(:Concept_{b} ObjectIntersectionOf(:Concept_{a} ObjectSomeValuesFrom(:relation_{c} :Concept_{d})))",
-    'AnnotationAssertion(rdfs:comment :Concept_{b} "a longer text, with (brackets) and a \\"quotation\\" of {b} words")',
+    'AnnotationAssertion(rdfs:comment :Concept_{b} "a longer text, with (brackets) and a \\"quotation\\" of {b}")',
     "EquivalentClasses(:Concept_{a} ObjectSomeValuesFrom(ObjectInverseOf(:relation_{c}) :Concept_{b}))",
     "SubClassOf(:Concept_{d} ObjectAllValuesFrom(:relation_{c} ObjectUnionOf(:Concept_{a} :Concept_{b})))",
     "ObjectPropertyAssertion(:relation_{c} :thing_{a} :thing_{d})",

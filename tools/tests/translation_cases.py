@@ -413,6 +413,7 @@ DISJOINT_ROLES += [
         ("EquivalentObjectProperties(:r :s :u)", "ObjectPropertyAssertion(:s :a :b)"),
         ("SubObjectPropertyOf(ObjectPropertyChain(:s) :r)", "ObjectPropertyAssertion(:s :a :b)"),
         ("SubObjectPropertyOf(:s ObjectInverseOf(:r))", "ObjectPropertyAssertion(:s :b :a)"),
+        ("SubObjectPropertyOf(:s :r) EquivalentObjectProperties(:s :u)", "ObjectPropertyAssertion(:u :a :b)"),
     )
 ]
 DISJOINT_ROLES += [

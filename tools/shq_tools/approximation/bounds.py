@@ -8,8 +8,6 @@ from shq_tools.approximation.owl import BOTTOM_ROLE, TOP_ROLE
 from shq_tools.terms import BOTTOM, TOP
 from shq_tools.walk import MOST_NUMBER
 
-OPPOSITE = {"least": "most", "most": "least"}
-
 
 class Bounds:
     """Bounds of class expressions, with the names of a translation."""
@@ -109,15 +107,13 @@ class Bounds:
         if of[-2] == BOTTOM_ROLE:
             is_all = kind in ("all", "most") or number == 0
             return TOP if is_all else BOTTOM
-        if kind == "least" and number == 0:
+        if (kind == "least" and number == 0) or (kind == "some" and of[-1] == TOP):
             return TOP
         self.context.lose(Loss.TOP_ROLE)
         if kind in ("some", "least") and number == 1 and not grows:
             return self.bound(of[-1], grows)
         if kind == "all" and grows:
             return self.bound(of[-1], grows)
-        if kind == "some" and of[-1] == TOP:
-            return TOP
         return TOP if grows else BOTTOM
 
 
