@@ -13,4 +13,5 @@ pub mod Accepted
 mod BlankLines
 mod Printed
 pub use Rattle.decision_jobs.proofs.FirstMalformed
+pub use Rattle.decision_jobs.proofs.Logged
 pub use Rattle.decision_jobs.proofs.Truth

@@ -97,7 +97,7 @@ fn audit(
     outcome
 }
 
-// The text of what was found, and how the run ends.
+// The text of what was found, and how the run ends. That the budget was spent is told without memory.
 fn answer_of(
     alloc: Global,
     ontology: &Ontology,
@@ -106,7 +106,9 @@ fn answer_of(
 ) -> Result<(Status, Text), NoMemory>
     requires { IsWitnessed ontology.now query.now searched.old.found searched.old.evidence.refutations.items
         searched.old.evidence.models.items }
-    ensures { IfOk result (λ a. IsWritten ontology.now query.now searched.old.found.finished a.0 (text_bytes a.1)) }
+    ensures written { IfOk result
+        (λ a. IsWritten ontology.now query.now searched.old.found.finished a.0 (text_bytes a.1)) }
+    ensures refused { OnErr result (searched.old.found.finished ≡ true) }
 {
     if !searched.found.finished {
         return Ok((Status::Undecided, Text::Fixed("undecided\n")));

@@ -1,7 +1,9 @@
 -- What is answered to the job of classification.
-use Rattle.std.specs.Prelude.{◌≡◌, ◌⊎◌, ℕ, [], List, codes}
+use Rattle.std.specs.Prelude.{◌≡◌, ◌⊎◌, ℕ, false, [], List, codes}
+use Rattle.std.specs.List.{list_any}
 use Rattle.shq_terms.specs.Listed.{Listed}
 use Rattle.classifier.specs.Entry.{Entry}
+use Rattle.classifier.specs.Entries.{is_spent}
 use Rattle.classifier.specs.HonestLog.{IsClassificationLog}
 use Rattle.classifier.specs.Shown.{ShowsClasses}
 use Rattle.classifier.specs.Subsumption.{IsSubsumption}
@@ -35,10 +37,12 @@ pub record IsUnfinished (budget : ℕ) (out : List ℕ) (log : List Entry) (o : 
   pub excluded : AsksNoExcluded log
   pub ends : EndsSpent budget log
 
--- where memory was refused: the log so far is honest and asks nothing that was ruled out
+-- where memory was refused: the log so far is honest, asks nothing that was ruled out, and has no test that spent the
+-- budget
 pub record IsClassifying (budget : ℕ) (log : List Entry) (o : Listed) : Type 0 where
   pub honest : IsClassificationLog o budget log
   pub excluded : AsksNoExcluded log
+  pub unspent : list_any is_spent log ≡ false
 
 -- ---- the answer on a document
 

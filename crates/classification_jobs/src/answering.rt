@@ -1,5 +1,5 @@
 // From the bytes of a document to the answer.
-ghost use Rattle.std.specs.Prelude.{◌≡◌, ◌≤◌, false, [], IfOk, IfErr, length};
+ghost use Rattle.std.specs.Prelude.{◌≡◌, ◌≤◌, false, [], IfOk, IfErr, OnErr, length};
 ghost use Rattle.job_inputs.specs.Limits.{IsOntologyInLimit};
 ghost use Rattle.job_inputs.specs.Answer.{text_bytes, is_fault};
 ghost use Rattle.classification_jobs.specs.Classifications.{IsClassifying, AnswersClassification};
@@ -55,7 +55,7 @@ fn classified_on(
     requires in_limit { IsOntologyInLimit ontology.now }
     requires unlogged { log.old ≡ [] }
     ensures answer { IfOk result (λ a. IsAnsweredOn budget ontology.now log.new a.0 (text_bytes a.1)) }
-    ensures begun { IsClassifying budget log.new ontology.now }
+    ensures begun { OnErr result (IsClassifying budget log.new ontology.now) }
 {
     match relation_of(alloc, budget, ontology, log) {
         Ok(relation) => Ok((Status::Done, text_of(alloc, relation, ontology)?)),

@@ -1,6 +1,8 @@
 // The relation of the classes, and the text of their taxonomy.
-ghost use Rattle.std.specs.Prelude.{◌≡◌, [], IfOk, IfErr, length};
+ghost use Rattle.std.specs.Prelude.{◌≡◌, false, [], IfOk, IfErr, OnOk, length};
+ghost use Rattle.std.specs.List.{list_any};
 ghost use Rattle.job_inputs.specs.Limits.{IsOntologyInLimit};
+ghost use Rattle.classifier.specs.Entries.{is_spent};
 ghost use Rattle.classifier.specs.HonestLog.{IsClassificationLog};
 ghost use Rattle.classifier.specs.Rows.{holds};
 ghost use Rattle.classifier.specs.ClassificationClassified.{IsClassified};
@@ -31,6 +33,7 @@ pub(crate) fn relation_of(
     requires in_limit { IsOntologyInLimit ontology.now }
     requires unlogged { log.old ≡ [] }
     ensures classified { IfOk result (IsClassified ontology.now log.new) }
+    ensures unspent { OnOk result (list_any is_spent log.new ≡ false) }
     ensures stopped { IfErr result (IsStop budget log.new) }
     ensures honest { IsClassificationLog ontology.now budget log.new }
     ensures fresh { AsksNoExcluded log.new }

@@ -1,6 +1,7 @@
 pub mod ClassificationClassified
 pub mod ClassificationLaws
 pub use Rattle.subsumption.specs.HonestLog
+pub use Rattle.subsumption.specs.Entries
 pub use Rattle.subsumption.specs.Entry
 pub use Rattle.subsumption.specs.Shown
 pub use Rattle.subsumption.specs.Excluded

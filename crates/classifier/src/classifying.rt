@@ -1,6 +1,8 @@
 // The classification of an ontology.
-ghost use Rattle.std.specs.Prelude.{◌≡◌, [], IfOk, IfErr};
+ghost use Rattle.std.specs.Prelude.{◌≡◌, false, [], IfOk, IfErr, OnOk};
+ghost use Rattle.std.specs.List.{list_any};
 ghost use Rattle.subsumption.specs.Limits.{IsOntologyInLimit};
+ghost use Rattle.subsumption.specs.Entries.{is_spent};
 ghost use Rattle.subsumption.specs.HonestLog.{IsClassificationLog};
 ghost use Rattle.subsumption.specs.LogEnds.{all_in_none, BeginsWith};
 ghost use Rattle.subsumption.specs.Excluded.{AsksNoExcluded};
@@ -29,6 +31,7 @@ pub fn classify(
     requires in_limit { IsOntologyInLimit ontology.now }
 
     ensures classified { IfOk result (IsClassified ontology.now oracle.new.log) }
+    ensures unspent { OnOk result (list_any is_spent oracle.new.log ≡ false) }
     ensures stopped { IfErr result (IsStop oracle.old.budget oracle.new.log) }
     ensures honest { IsClassificationLog ontology.now oracle.old.budget oracle.new.log }
     ensures fresh { AsksNoExcluded oracle.new.log }

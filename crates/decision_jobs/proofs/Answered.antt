@@ -5,7 +5,6 @@ use Rattle.shq_terms.specs.Listed.{Listed}
 use Rattle.shq_terms.specs.declared.axioms.Query.{Query as Asked}
 use Rattle.ofn_reader.specs.DocumentContext.{DocumentContext}
 use Rattle.shq_oracle.specs.Entry.{Entry}
-use Rattle.shq_oracle.specs.HonestLog.{IsDecisionLog}
 use Rattle.job_inputs.specs.Asked.{refused_document, refused_query}
 use Rattle.job_inputs.specs.Replies.{unread_answer}
 use Rattle.job_inputs.specs.declared.unread.Unread.{Unread}
@@ -20,7 +19,8 @@ use Rattle.job_inputs.specs.Questions.{IsUnreadDocument, IsUnreadQuestion}
 use Rattle.shq_oracle.specs.declared.answer.Answer.{Answer as Decision}
 use Rattle.shq_oracle.specs.declared.answer.Answer.TheVariants as Answered
 use Rattle.job_inputs.specs.Refusals.{IsRefused, nothing, asked}
-use Rattle.decision_jobs.specs.Decisions.{decision_status, BeginsQuestion, AnswersQuestion, IsDecisionTold}
+use Rattle.decision_jobs.specs.Decisions.{decision_status, IsDecidedLog, BeginsQuestion, AnswersQuestion}
+use Rattle.decision_jobs.specs.Decisions.{IsDecisionTold}
 use Rattle.job_inputs.specs.Refusals.{IsUnanswered}
 use Rattle.job_inputs.proofs.ReadInLimit.{question_writable}
 use Rattle.decision_jobs.specs.Answering.{IsDecidedBy, IsAnswered, IsBegun, IsBegunOn, IsUnansweredOn}
@@ -60,7 +60,7 @@ decided_answers bytes o kept question budget both q log s out d x found = record
 -- ---- refusals
 
 pub undocumented : (question : Text) (budget : ℕ) (bytes : List ℕ) (log : List Entry) (u : Unread) → log ≡ []
-    → IsUnreadDocument bytes u → IsUnanswered question bytes log (λ o q. IsDecisionLog o q budget log) u
+    → IsUnreadDocument bytes u → IsUnanswered question bytes log (λ o q. IsDecidedLog o q budget log) u
 undocumented question budget bytes log (U.Document e) none why = (document e why, none)
 undocumented question budget bytes log (U.Query e) none why = absurd why
 undocumented question budget bytes log (U.Line n) none why = absurd why
@@ -89,7 +89,7 @@ begun_of question budget bytes o kept log d (inr (both, q, x, honest)) =
 pub unanswered : (question : Text) (budget : ℕ) (bytes : List ℕ) (o : Listed) (kept : DocumentContext)
     (log : List Entry) (u : Unread)
     → IsDocumentAlone bytes o kept → IsUnansweredOn o kept question budget log u
-    → IsUnanswered question bytes log (λ o q. IsDecisionLog o q budget log) u
+    → IsUnanswered question bytes log (λ o q. IsDecidedLog o q budget log) u
 unanswered question budget bytes o kept log (U.Query e) d why = (query o kept e d why.0, why.1)
 unanswered question budget bytes o kept log (U.Document e) d why = absurd why
 unanswered question budget bytes o kept log (U.Line n) d why = absurd why
@@ -157,7 +157,7 @@ memory_status question budget bytes out s log gives begun = by s gives
 
 -- the reply to a question that is not answered
 pub unread_answers : (question : Text) (budget : ℕ) (bytes out : List ℕ) (s : Status) (log : List Entry) (u : Unread)
-    → IsUnanswered question bytes log (λ o q. IsDecisionLog o q budget log) u → Gives (unread_answer u) out s
+    → IsUnanswered question bytes log (λ o q. IsDecidedLog o q budget log) u → Gives (unread_answer u) out s
     → AnswersQuestion question budget bytes out s log
 unread_answers question budget bytes out s log (U.Document e) why gives =
     refused_status question budget bytes out s log (unread_answer (U.Document e)) gives (nothing why.1)
@@ -187,7 +187,7 @@ all_answer bytes o kept question budget both q log (Err e) text d x found = tt
 pub all_unanswered : {T : Type 0} (question : Text) (budget : ℕ) (bytes : List ℕ) (o : Listed) (kept : DocumentContext)
     (log : List Entry) (r : Result T Unread)
     → IsDocumentAlone bytes o kept → IfErr r (IsUnansweredOn o kept question budget log)
-    → IfErr r (IsUnanswered question bytes log (λ o q. IsDecisionLog o q budget log))
+    → IfErr r (IsUnanswered question bytes log (λ o q. IsDecidedLog o q budget log))
 all_unanswered question budget bytes o kept log (Ok a) d why = tt
 all_unanswered question budget bytes o kept log (Err e) d why = unanswered question budget bytes o kept log e d why
 

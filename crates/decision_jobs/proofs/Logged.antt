@@ -1,6 +1,6 @@
 -- The log of one question is honest.
 use Rattle.std.proofs.Common.{◌≡◌, ℕ, zero, suc, ◌+◌, ◌≤◌, true, false, List, [], ◌∷◌, ◌++◌, length, Some, refl, ap}
-use Rattle.std.proofs.Common.{sym, ◌∙◌, subst, arith}
+use Rattle.std.proofs.Common.{sym, ◌∙◌, subst, arith, inr}
 use Rattle.std.specs.Prelude.{slice_get}
 use Rattle.std.specs.List.{list_any}
 use Rattle.std.proofs.lemmas.List.Elements.{All-cons}
@@ -20,8 +20,9 @@ use Rattle.shq_oracle.specs.declared.answer.Answer.{Answer as Decision}
 use Rattle.shq_oracle.specs.declared.answer.Answer.TheVariants as Answered
 use Rattle.shq_oracle.specs.OracleLists.{OracleLists}
 use Rattle.shq_oracle.specs.Decided.{Matches, IsAnswer, AppendsTest, LeavesNothing}
-use Rattle.decision_jobs.specs.Deciding.{IsDecision}
+use Rattle.decision_jobs.specs.Deciding.{IsDecision, HasVerdict}
 use Rattle.decision_jobs.specs.Decisions.{IsLogged}
+use Rattle.decision_jobs.specs.Answering.{IsBegun}
 
 -- where the test spent the budget, nothing is left
 nothing_left : (l : OracleLists) (d : Decision) (e : TestEnd) → Matches d e → LeavesNothing l d → ended_spent e ≡ true
@@ -35,6 +36,24 @@ nothing_left l (Answered.Entailed r) E.No m left is = absurd m
 nothing_left l (Answered.NotEntailed k) E.No m left is = absurd (cc is)
 nothing_left l (Answered.NotEntailed k) (E.Spent t) m left is = absurd m
 nothing_left l (Answered.NotEntailed k) (E.Yes u) m left is = absurd m
+
+-- a test that decided the query did not spend the budget
+decides : (d : Decision) (e : TestEnd) → HasVerdict d → Matches d e → ended_spent e ≡ false
+decides (Answered.Entailed r) (E.Yes u) verdict m = refl
+decides (Answered.Entailed r) (E.Spent t) verdict m = absurd m
+decides (Answered.Entailed r) E.No verdict m = absurd m
+decides (Answered.NotEntailed k) E.No verdict m = refl
+decides (Answered.NotEntailed k) (E.Spent t) verdict m = absurd m
+decides (Answered.NotEntailed k) (E.Yes u) verdict m = absurd m
+decides Answered.Undecided e verdict m = absurd verdict
+
+pub still_begun : (o : Listed) (q : Asked) (budget : ℕ) (d : Decision) (log : List Entry) → IsLogged o q budget d log
+    → HasVerdict d → IsBegun o q budget log
+still_begun o q budget d log logged verdict =
+    inr (record {
+      honest = logged.honest;
+      unspent = ap (list_any is_spent) logged.is_log ∙ rw (decides d logged.ended verdict logged.matches);
+    })
 
 only_last : (x e : Entry) (place : ℕ) → slice_get (x ∷ []) place ≡ Some e → place + 1 ≡ 1
 only_last x e zero found = refl

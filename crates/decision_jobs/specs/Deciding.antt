@@ -23,6 +23,12 @@ CanBeWritten o (Answered.Entailed r) = IsTrue (names_are_listed o r)
 CanBeWritten o (Answered.NotEntailed m) = IsTrue (uses_listed_names o m)
 CanBeWritten o Answered.Undecided = Unit {0}
 
+-- it is a yes or a no
+abbrev pub HasVerdict : Decision → Type 0
+HasVerdict (Answered.Entailed r) = Unit {0}
+HasVerdict (Answered.NotEntailed m) = Unit {0}
+HasVerdict Answered.Undecided = ⊥
+
 -- a model is one that its text is read back to
 abbrev pub IsKeptModel : Listed → Decision → Type 0
 IsKeptModel o (Answered.Entailed r) = Unit {0}

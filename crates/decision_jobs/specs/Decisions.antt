@@ -1,5 +1,6 @@
 -- What is answered to a question on an ontology.
-use Rattle.std.specs.Prelude.{◌≡◌, ◌⊎◌, ℕ, [], ◌∷◌, ◌++◌, List, codes, Ok}
+use Rattle.std.specs.Prelude.{◌≡◌, ◌⊎◌, ℕ, false, [], ◌∷◌, ◌++◌, List, codes, Ok}
+use Rattle.std.specs.List.{list_any}
 use Rattle.axiom_sets.specs.Sets.{Limited}
 use Rattle.shq_terms.specs.Listed.{Listed}
 use Rattle.shq_terms.specs.declared.axioms.Query.{Query as Asked}
@@ -8,6 +9,7 @@ use Rattle.refutation_tree.specs.Written.{refutation_text}
 use Rattle.shq_oracle.specs.Entry.{Entry}
 use Rattle.shq_oracle.specs.Entry.TheVariants.{Test}
 use Rattle.shq_oracle.specs.TestEnd.{TestEnd}
+use Rattle.shq_oracle.specs.Entries.{is_spent}
 use Rattle.shq_oracle.specs.HonestLog.{IsDecisionLog}
 use Rattle.shq_oracle.specs.declared.answer.Answer.{Answer as Decision}
 use Rattle.shq_oracle.specs.declared.answer.Answer.TheVariants as Answered
@@ -65,6 +67,11 @@ pub record IsLogged (o : Listed) (q : Asked) (budget : ℕ) (d : Decision) (log 
   pub is_log : log ≡ Test asked q steps ended ∷ []
   pub matches : Matches d ended
 
+-- where memory was refused for the text of a decision: the test decided the query, and did not spend the budget
+pub record IsDecidedLog (o : Listed) (q : Asked) (budget : ℕ) (log : List Entry) : Type 0 where
+  pub honest : IsDecisionLog o q budget log
+  pub unspent : list_any is_spent log ≡ false
+
 -- ---- the answer to a question
 
 -- the query was decided, or the budget spent
@@ -79,9 +86,9 @@ pub record IsDecisionTold (question : Text) (budget : ℕ) (bytes out : List ℕ
   pub accepted : IsAccepted ontology query out decision
   pub logged : IsLogged ontology query budget decision log
 
--- where memory was refused: nothing was asked, or one honest test of all axioms and the query
+-- where memory was refused: nothing was asked, or one honest test of all axioms and the query, which decided it
 abbrev pub BeginsQuestion : Text → ℕ → List ℕ → List Entry → Type 0
-BeginsQuestion question budget bytes log = HasBegun question bytes log (λ o q. IsDecisionLog o q budget log)
+BeginsQuestion question budget bytes log = HasBegun question bytes log (λ o q. IsDecidedLog o q budget log)
 
 -- the answer, unless memory was refused
 abbrev pub AnswersQuestion : Text → ℕ → List ℕ → List ℕ → Status → List Entry → Type 0

@@ -3,8 +3,7 @@ ghost use Rattle.std.specs.Prelude.{◌≡◌, ℕ, ◌≤◌, false, List, [], 
 ghost use Rattle.job_inputs.specs.Limits.{IsInLimit};
 ghost use Rattle.job_inputs.specs.Answer.{text_bytes, is_fault};
 ghost use Rattle.job_inputs.specs.Questions.{question_text, IsDocumentAlone};
-ghost use Rattle.shq_oracle.specs.HonestLog.{IsDecisionLog};
-ghost use Rattle.decision_jobs.specs.Decisions.{AnswersQuestion};
+ghost use Rattle.decision_jobs.specs.Decisions.{AnswersQuestion, IsDecidedLog};
 ghost use Rattle.job_inputs.specs.Refusals.{IsUnanswered};
 ghost use Rattle.decision_jobs.specs.Answering.{IsAnswered, IsDecidedBy, IsBegun, IsUnansweredOn};
 
@@ -52,7 +51,7 @@ fn answered(
     ensures answer { IfOk result
         (λ a. IsAnswered (question_text question.entry) budget bytes.now log.new a.0 (text_bytes a.1)) }
     ensures unread { IfErr result
-        (IsUnanswered (question_text question.entry) bytes.now log.new (λ o q. IsDecisionLog o q budget log.new)) }
+        (IsUnanswered (question_text question.entry) bytes.now log.new (λ o q. IsDecidedLog o q budget log.new)) }
 {
     let (mut ontology, context) = read_document(alloc, bytes)?;
     let outcome = answered_on(alloc, question, budget, bytes, &mut ontology, &context, log);
@@ -86,6 +85,7 @@ fn answered_on(
 }
 
 // The answer to a query.
+#[tactic(auto, using(crate::proofs::Logged::still_begun))]
 fn decided(
     alloc: Global,
     question: WrittenQuestion<'_>,

@@ -1,16 +1,19 @@
 // The decision on a query, and its text.
 ghost use Rattle.std.specs.Prelude.{◌≡◌, ◌≤◌, [], ◌++◌, IfOk, OnOk, OnErr, IsTrue};
 ghost use Rattle.job_inputs.specs.Limits.{IsInLimit};
+ghost use Rattle.shq_oracle.specs.ReadBack.{IsKept};
 ghost use Rattle.shq_oracle.specs.Written.{model_text, uses_listed_names};
 ghost use Rattle.refutation_tree.specs.Written.{refutation_text, names_are_listed};
 ghost use Rattle.job_inputs.specs.Answer.{line, text_bytes};
 ghost use Rattle.job_inputs.specs.Questions.{question_text};
 ghost use Rattle.decision_jobs.specs.Decisions.{entailed_line, not_entailed_line, decision_text, decision_status};
 ghost use Rattle.decision_jobs.specs.Decisions.{IsLogged};
-ghost use Rattle.decision_jobs.specs.Deciding.{IsDecision, CanBeWritten, IsKeptModel};
+ghost use Rattle.decision_jobs.specs.Deciding.{IsDecision, CanBeWritten, HasVerdict, IsKeptModel};
 
 use axiom_sets::AxiomSet;
+use finite_model::Interp;
 use job_inputs::{Status, Text, WrittenQuestion};
+use refutation_tree::Refutation;
 use shq_oracle::{Answer, Oracle, RunLog};
 use shq_terms::{NoMemory, Ontology, Query};
 use std::alloc::Global;
@@ -72,7 +75,7 @@ pub(crate) fn status_of(decision: &Answer) -> Status
 ///
 /// # Errors
 ///
-/// Out of memory.
+/// Out of memory. The query was decided then: that the budget was spent is told without memory.
 pub(crate) fn text_of(
     alloc: Global,
     question: WrittenQuestion<'_>,
@@ -83,38 +86,49 @@ pub(crate) fn text_of(
     ensures text { IfOk result
         (λ text. text_bytes text ≡ decision_text ontology.now (question_text question.entry) decision.now) }
     ensures kept { OnOk result (IsKeptModel ontology.now decision.now) }
-{
-    let mut out = Vec::new(alloc);
-    put_text(alloc, &mut out, question, ontology, decision)?;
-    Ok(Text::Bytes(out))
-}
-
-// Puts the text of a decision where no bytes are.
-fn put_text(
-    alloc: Global,
-    out: &mut Vec<u8>,
-    question: WrittenQuestion<'_>,
-    ontology: &Ontology,
-    decision: &Answer,
-) -> Result<(), NoMemory>
-    requires writable { CanBeWritten ontology.now decision.now }
-    requires empty { out.old.items ≡ [] }
-    ensures text { OnOk result
-        (out.new.items ≡ decision_text ontology.now (question_text question.entry) decision.now) }
-    ensures kept { OnOk result (IsKeptModel ontology.now decision.now) }
+    ensures refused { OnErr result (HasVerdict decision.now) }
 {
     match decision {
         Answer::Entailed(refutation) => {
-            push_line(out, entailed_line(question))?;
-            refutation.text(alloc, out, ontology)?;
+            yes_text(alloc, entailed_line(question), ontology, refutation)
         }
-        Answer::NotEntailed(model) => {
-            push_line(out, not_entailed_line(question))?;
-            model.text(alloc, out, ontology)?;
-        }
-        Answer::Undecided => push_line(out, "undecided")?,
+        Answer::NotEntailed(model) => no_text(alloc, not_entailed_line(question), ontology, model),
+        Answer::Undecided => Ok(Text::Fixed("undecided\n")),
     }
-    Ok(())
+}
+
+// A line, and the refutation.
+fn yes_text(
+    alloc: Global,
+    verdict: &str,
+    ontology: &Ontology,
+    refutation: &Refutation,
+) -> Result<Text, NoMemory>
+    requires { IsTrue (names_are_listed ontology.now refutation.now) }
+    ensures { IfOk result
+        (λ text. text_bytes text ≡ line verdict.now ++ refutation_text ontology.now refutation.now) }
+{
+    let mut out = Vec::new(alloc);
+    push_line(&mut out, verdict)?;
+    refutation.text(alloc, &mut out, ontology)?;
+    Ok(Text::Bytes(out))
+}
+
+// A line, and the model.
+fn no_text(
+    alloc: Global,
+    verdict: &str,
+    ontology: &Ontology,
+    model: &Interp,
+) -> Result<Text, NoMemory>
+    requires { IsTrue (uses_listed_names ontology.now model.now) }
+    ensures text { IfOk result (λ text. text_bytes text ≡ line verdict.now ++ model_text ontology.now model.now) }
+    ensures kept { OnOk result (IsKept ontology.now model.now) }
+{
+    let mut out = Vec::new(alloc);
+    push_line(&mut out, verdict)?;
+    model.text(alloc, &mut out, ontology)?;
+    Ok(Text::Bytes(out))
 }
 
 // Appends a line.

@@ -36,9 +36,14 @@ pub record IsUnrealized (budget : ℕ) (out : List ℕ) (log : List Entry) (o : 
   pub honest : IsRealizationLog o budget log
   pub ends : EndsSpent budget log
 
--- where memory was refused: nothing was asked, or the document is read, and the log so far is honest
+-- where memory was refused, the log so far is honest and has no test that spent the budget
+pub record IsRealizing (budget : ℕ) (log : List Entry) (o : Listed) : Type 0 where
+  pub honest : IsRealizationLog o budget log
+  pub unspent : list_any is_spent log ≡ false
+
+-- where memory was refused: nothing was asked, or the document is read, and the log so far is such a one
 abbrev pub BeginsRealization : ℕ → List ℕ → List Entry → Type 0
-BeginsRealization budget bytes log = (log ≡ []) ⊎ OnDocument (λ o. IsRealizationLog o budget log) bytes
+BeginsRealization budget bytes log = (log ≡ []) ⊎ OnDocument (IsRealizing budget log) bytes
 
 -- what is answered to `realize`, for each status
 abbrev pub AnswersRealization : ℕ → List ℕ → List ℕ → Status → List Entry → Type 0
@@ -71,8 +76,12 @@ pub record IsUnfound (budget : ℕ) (out : List ℕ) (log : List Entry) (o : Lis
   pub honest : IsInstancesLog o c budget log
   pub ends : EndsSpent budget log
 
--- where memory was refused, the log so far is honest
+-- where memory was refused, the log so far is honest and has no test that spent the budget
+pub record IsFinding (budget : ℕ) (log : List Entry) (o : Listed) (c : Concept) : Type 0 where
+  pub honest : IsInstancesLog o c budget log
+  pub unspent : list_any is_spent log ≡ false
+
+-- what is answered to `instances`, for each status
 abbrev pub AnswersInstances : List ℕ → ℕ → List ℕ → List ℕ → Status → List Entry → Type 0
 AnswersInstances class budget bytes out s log =
-    AnswersOnClass (IsFound budget out log) (IsUnfound budget out log) (λ o c. IsInstancesLog o c budget log)
-    class bytes out s log
+    AnswersOnClass (IsFound budget out log) (IsUnfound budget out log) (IsFinding budget log) class bytes out s log

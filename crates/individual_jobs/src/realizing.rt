@@ -1,5 +1,5 @@
 // From the bytes of a document to the types of its individuals.
-ghost use Rattle.std.specs.Prelude.{◌≡◌, ◌≤◌, false, [], IsTrue, IfOk, IfErr, OnOk, length};
+ghost use Rattle.std.specs.Prelude.{◌≡◌, ◌≤◌, false, [], IsTrue, IfOk, IfErr, OnOk, OnErr, length};
 ghost use Rattle.std.specs.List.{list_any};
 ghost use Rattle.job_inputs.specs.Limits.{IsOntologyInLimit};
 ghost use Rattle.realizer.specs.Entries.{is_spent};
@@ -10,7 +10,7 @@ ghost use Rattle.realizer.specs.RealizationLogs.{IsRealizationLog};
 ghost use Rattle.realizer.specs.ShownLogs.{ShowsTypes};
 ghost use Rattle.job_inputs.specs.Answer.{text_bytes, is_fault};
 ghost use Rattle.job_inputs.specs.Refusals.{OnDocument};
-ghost use Rattle.individual_jobs.specs.Realizations.{AnswersRealization};
+ghost use Rattle.individual_jobs.specs.Realizations.{IsRealizing, AnswersRealization};
 ghost use Rattle.individual_jobs.specs.Realizing.{IsRealizedOn, IsUnrealizedBy};
 
 use job_inputs::{Status, Text, Unread, read_document, unread_reply};
@@ -65,7 +65,7 @@ fn realized_on(
     requires in_limit { IsOntologyInLimit ontology.now }
     requires unlogged { log.old ≡ [] }
     ensures answer { IfOk result (λ a. IsRealizedOn budget ontology.now log.new a.0 (text_bytes a.1)) }
-    ensures begun { IsRealizationLog ontology.now budget log.new }
+    ensures begun { OnErr result (IsRealizing budget log.new ontology.now) }
 {
     match types_of(alloc, budget, ontology, log) {
         Ok(types) => Ok((Status::Done, text_of(alloc, types, ontology)?)),

@@ -1,5 +1,5 @@
 // From the text of a class expression and the bytes of a document to the individuals that are in it.
-ghost use Rattle.std.specs.Prelude.{◌≡◌, ◌≤◌, false, [], IsTrue, IfOk, IfErr, OnOk, length};
+ghost use Rattle.std.specs.Prelude.{◌≡◌, ◌≤◌, false, [], IsTrue, IfOk, IfErr, OnOk, OnErr, length};
 ghost use Rattle.std.specs.List.{list_any};
 ghost use Rattle.job_inputs.specs.Limits.{IsInLimit};
 ghost use Rattle.realizer.specs.Entries.{is_spent};
@@ -12,7 +12,7 @@ ghost use Rattle.job_inputs.specs.Answer.{text_bytes, is_fault};
 ghost use Rattle.job_inputs.specs.Questions.{has_element};
 ghost use Rattle.job_inputs.specs.Refusals.{IsUnanswered};
 ghost use Rattle.individual_jobs.specs.Answers.{OnClass};
-ghost use Rattle.individual_jobs.specs.Realizations.{AnswersInstances};
+ghost use Rattle.individual_jobs.specs.Realizations.{IsFinding, AnswersInstances};
 ghost use Rattle.individual_jobs.specs.Realizing.{IsFoundOn};
 ghost use Rattle.individual_jobs.specs.Searching.{AreInLimit};
 
@@ -59,7 +59,7 @@ fn found(
     ensures answer { IfOk result
         (λ a. OnClass class.now bytes.now (λ o c. IsFoundOn budget o c log.new a.0 (text_bytes a.1))) }
     ensures unread { IfErr result
-        (IsUnanswered (has_element class.now) bytes.now log.new (λ o q. IsInstancesLog o q.sub budget log.new)) }
+        (IsUnanswered (has_element class.now) bytes.now log.new (λ o q. IsFinding budget log.new o q.sub)) }
 {
     let input = read_question_input(alloc, WrittenQuestion::HasElement(class), bytes)?;
     let answer = found_in(alloc, budget, input, log)?;
@@ -76,7 +76,7 @@ fn found_in(
     requires in_limit { IsInLimit input.ontology input.query }
     requires unlogged { log.old ≡ [] }
     ensures answer { IfOk result (λ a. IsFoundOn budget input.ontology input.query.sub log.new a.0 (text_bytes a.1)) }
-    ensures begun { IsInstancesLog input.ontology input.query.sub budget log.new }
+    ensures begun { OnErr result (IsFinding budget log.new input.ontology input.query.sub) }
 {
     let outcome = found_on(alloc, budget, &input.ontology, &input.query.sub, log);
     drop(input);
@@ -94,7 +94,7 @@ fn found_on(
     requires in_limit { AreInLimit ontology.now class.now }
     requires unlogged { log.old ≡ [] }
     ensures answer { IfOk result (λ a. IsFoundOn budget ontology.now class.now log.new a.0 (text_bytes a.1)) }
-    ensures begun { IsInstancesLog ontology.now class.now budget log.new }
+    ensures begun { OnErr result (IsFinding budget log.new ontology.now class.now) }
 {
     match list_of(alloc, budget, ontology, class, log) {
         Ok(found) => Ok((Status::Done, text_of(alloc, found, ontology)?)),

@@ -3,6 +3,7 @@ pub mod Decided
 pub mod Accepted
 pub mod Said
 pub mod Spending
+pub mod Unspent
 pub mod Ended
 pub mod BadWords
 pub mod Complete

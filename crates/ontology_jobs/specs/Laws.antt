@@ -1,6 +1,7 @@
 -- The words and the input decide the answer, unless something fails, memory is refused or a search is asked for; and
 -- what is accepted is true.
-use Rattle.std.specs.Prelude.{◌≡◌, ℕ, [], List, map, codes, Option, Some, None, Ok}
+use Rattle.std.specs.Prelude.{◌≡◌, ℕ, false, [], List, map, codes, Option, Some, None, Ok}
+use Rattle.std.specs.List.{list_any}
 use Rattle.shq_terms.specs.declared.axioms.Axiom.{Axiom}
 use Rattle.shq_terms.specs.Listed.{Listed}
 use Rattle.shq_terms.specs.declared.axioms.Query.{Query as Asked}
@@ -9,7 +10,7 @@ use Rattle.ofn_expressions.specs.Counts.{Counts}
 use Rattle.ofn_reader.specs.DocumentContext.{DocumentContext}
 use Rattle.ofn_reader.specs.Documents.{IsDocument}
 use Rattle.edit_session.specs.Entry.{Entry}
-use Rattle.edit_session.specs.Entries.{spent_of}
+use Rattle.edit_session.specs.Entries.{spent_of, is_spent}
 use Rattle.ontology_jobs.specs.Words.{check, audit, decide, classify, realize, instances, reasons, session}
 use Rattle.ontology_jobs.specs.Words.{pinpoint, evidence, Request, on_input, generated, request_of}
 use Rattle.audit_jobs.specs.AuditLists.{AuditLists}
@@ -81,6 +82,33 @@ HasSpentAll (Some r) log = SpendsAll r log
 abbrev pub UndecidedSpendsAll : Type 0
 UndecidedSpendsAll = (r : Request) (bytes out : List ℕ) (log : List Entry) → AnswersRequest r bytes out Undecided log
     → SpendsAll r log
+
+-- ---- out of memory
+
+-- No test of what the words asked for ended with the budget spent. Nothing is said of a session, nor of the searches
+-- for justifications: once the budget is spent, these still take memory for the answers that they have found by then.
+abbrev pub SpendsNoTest : Request → List Entry → Type 0
+SpendsNoTest (on_input (check query)) log = list_any is_spent log ≡ false
+SpendsNoTest (on_input (audit query)) log = list_any is_spent log ≡ false
+SpendsNoTest (on_input (decide question budget)) log = list_any is_spent log ≡ false
+SpendsNoTest (on_input (classify budget)) log = list_any is_spent log ≡ false
+SpendsNoTest (on_input (realize budget)) log = list_any is_spent log ≡ false
+SpendsNoTest (on_input (instances class budget)) log = list_any is_spent log ≡ false
+SpendsNoTest (on_input (reasons class budget)) log = Unit {0}
+SpendsNoTest (on_input (session budget)) log = Unit {0}
+SpendsNoTest (on_input (pinpoint wanted statement budget)) log = Unit {0}
+SpendsNoTest (on_input (evidence statement budget)) log = Unit {0}
+SpendsNoTest (generated number budget) log = Unit {0}
+
+-- the same of what words ask for
+abbrev pub HasSpentNoTest : Option Request → List Entry → Type 0
+HasSpentNoTest None log = ⊥
+HasSpentNoTest (Some r) log = SpendsNoTest r log
+
+-- that the budget was spent is not told as out of memory
+abbrev pub NoMemorySpendsNoTest : Type 0
+NoMemorySpendsNoTest = (r : Request) (bytes out : List ℕ) (log : List Entry) → AnswersRequest r bytes out NoMemory log
+    → SpendsNoTest r log
 
 -- ---- words of no job
 

@@ -3,7 +3,7 @@ ghost use Rattle.std.specs.Prelude.{◌≡◌, ◌≢◌, ◌≤◌, false, [], 
 ghost use Rattle.shq_io.specs.Causes.{Rose};
 ghost use Rattle.ontology_jobs.specs.Words.{request_of, on_input, kept_job, command_request, texts_of};
 ghost use Rattle.classification_jobs.specs.Answer.{IsAnswer, is_fault, text_bytes};
-ghost use Rattle.ontology_jobs.specs.Laws.{HasSpentAll, AsksForNothing};
+ghost use Rattle.ontology_jobs.specs.Laws.{HasSpentAll, HasSpentNoTest, AsksForNothing};
 ghost use Rattle.ontology_jobs.specs.Complete.{IsComplete};
 ghost use Rattle.ontology_jobs.specs.Answers.{AnswersRead, AnswersJobOnAll, AnswersRequestOnAll, AnswersAll};
 ghost use Rattle.ontology_jobs.specs.Answers.{AnsweredAll, SaysBadWords, IsBadWords, end_answer, ReadsNothing};
@@ -41,6 +41,10 @@ pub fn run<S: Source, K: Sink>(
 
     // Where it is undecided, the whole budget was spent on what the log says.
     ensures undecided { result ≡ Status.Undecided → HasSpentAll (request_of (texts_of words.now)) log.new }
+
+    // Where it is out of memory, no test of a job that decides, classifies, realizes or lists instances ended with the
+    // budget spent: that is told as undecided.
+    ensures unspent { result ≡ Status.NoMemory → HasSpentNoTest (request_of (texts_of words.now)) log.new }
 
     // A run whose document and question are read, and which has something of its budget left, is done, but for faults
     // and out of memory.

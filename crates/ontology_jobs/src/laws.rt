@@ -1,7 +1,7 @@
 // The words and the input decide the answer, and what is accepted is true.
 ghost use Rattle.ontology_jobs.specs.Laws.{AnswersAreUnique, BadWordsAskForNothing, RefusalsAreAnsweredAlike};
-ghost use Rattle.ontology_jobs.specs.Laws.{UndecidedSpendsAll, AcceptedQueriesDoNotFollow, AcceptedQueriesFollow};
-ghost use Rattle.ontology_jobs.specs.Laws.{AcceptedAuditsListAll};
+ghost use Rattle.ontology_jobs.specs.Laws.{UndecidedSpendsAll, NoMemorySpendsNoTest, AcceptedQueriesDoNotFollow};
+ghost use Rattle.ontology_jobs.specs.Laws.{AcceptedQueriesFollow, AcceptedAuditsListAll};
 ghost use Rattle.ontology_jobs.specs.Complete.{JobsAreDone, WorkloadsAreDone};
 ghost use Rattle.ontology_jobs.specs.Shown.{DoneAnswersAreShown};
 
@@ -32,6 +32,12 @@ pub fn runs_are_complete()
 /// whose document and question are read, is done, but for faults and out of memory.
 pub fn undecided_spends_all()
     ensures { UndecidedSpendsAll }
+{}
+
+/// An answer is out of memory only where no test of the log ended with the budget spent, if the words ask to decide, to
+/// classify, to realize or for instances, or for a verification.
+pub fn no_memory_spends_no_test()
+    ensures { NoMemorySpendsNoTest }
 {}
 
 /// An answer that is done is shown by the log: the tests in it tell of each class, individual, set of axioms and line

@@ -21,7 +21,7 @@ pub use jobs::run;
 pub use laws::{
     accepted_audits_list_all, accepted_queries_do_not_follow, accepted_queries_follow,
     answers_are_unique, bad_words_ask_for_nothing, done_answers_are_shown,
-    refusals_are_answered_alike, runs_are_complete, undecided_spends_all,
+    no_memory_spends_no_test, refusals_are_answered_alike, runs_are_complete, undecided_spends_all,
 };
 pub use words::{Command, Job, read_words};
 pub use workload_number::WorkloadNumber;

@@ -1,5 +1,5 @@
 // The numbers of the sets.
-ghost use Rattle.std.specs.Prelude.{◌≡◌, IfOk};
+ghost use Rattle.std.specs.Prelude.{◌≡◌, true, IfOk, OnErr};
 ghost use Rattle.job_inputs.specs.Answer.{text_bytes};
 ghost use Rattle.pinpointing_jobs.specs.Counts.{counts_text};
 ghost use Rattle.pinpointing_jobs.specs.Written.{AreOfAxioms, IsWrittenCount, IsToldCount};
@@ -16,7 +16,7 @@ use std::alloc::Global;
 ///
 /// # Errors
 ///
-/// Out of memory.
+/// Out of memory. The search was finished then: that the budget was spent is told without memory.
 pub fn count_answer(
     alloc: Global,
     number: u32,
@@ -24,7 +24,8 @@ pub fn count_answer(
     found: &Found,
 ) -> Result<(Status, Text), NoMemory>
     requires { AreOfAxioms ontology.now found.now }
-    ensures { IfOk result (λ a. IsToldCount number ontology.now found.now a.0 (text_bytes a.1)) }
+    ensures told { IfOk result (λ a. IsToldCount number ontology.now found.now a.0 (text_bytes a.1)) }
+    ensures refused { OnErr result (found.now.finished ≡ true) }
 {
     if !found.finished {
         return Ok((Status::Undecided, Text::Fixed("undecided\n")));

@@ -6,7 +6,8 @@ use Rattle.audit_jobs.proofs.answering.audit.Goals as goal
 pub returns-clause-answer : goal.returns-clause-answer
 returns-clause-answer c =
     all_answered c.args.ontology.now c.args.query.now c.args.budget c.search.new.log c.in_ok-searched.searched
-    c.in_ok-searched.ensures.searched c.answer_of-outcome.result text_bytes c.answer_of-outcome.ensures
+    c.in_ok-searched.ensures.searched c.answer_of-outcome.result text_bytes
+    c.answer_of-outcome.ensures.written
 
 pub returns-clause-begun : goal.returns-clause-begun
 returns-clause-begun c =

@@ -11,7 +11,8 @@ count_answer-outcome-requires c =
 pub returns-clause-counted : goal.returns-clause-counted
 returns-clause-counted c =
     all_counted c.args.ontology.now c.args.query.now c.args.budget c.search.new.log c.in_ok-found.found
-    c.in_ok-found.ensures.found c.args.number c.count_answer-outcome.result text_bytes c.count_answer-outcome.ensures
+    c.in_ok-found.ensures.found c.args.number c.count_answer-outcome.result text_bytes
+    c.count_answer-outcome.ensures.told
 
 pub returns-clause-begun : goal.returns-clause-begun
 returns-clause-begun c =
