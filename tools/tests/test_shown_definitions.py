@@ -52,8 +52,8 @@ class ShownDefinitions(unittest.TestCase):
     def test_clauses_are_all_that_stand_between_the_head_and_the_body(self):
         shown = self.run_on(page_of("crates/ontology_jobs/src/jobs.rt: clauses of run", ""))[2]
         names = [line.split()[1] for line in shown.split("\n") if line.startswith("ensures ")]
-        self.assertEqual(names, ["answer", "leaves", "undecided", "complete", "read_fault", "write_fault", "no_others",
-                                 "bad_words", "unread"])
+        self.assertEqual(names, ["answer", "leaves", "undecided", "unspent", "complete", "read_fault", "write_fault",
+                                 "no_others", "bad_words", "unread"])
         self.assertNotIn("fn run", shown)
         self.assertNotIn("reply_to", shown)
 
