@@ -59,7 +59,7 @@ def profile_text(data):
     declared = sum(it.item.text == "Declaration" for it in looked)
     annotations = sum(it.item.text in ANNOTATIONS for it in looked)
     lines = [f"{counted(len(axioms), 'axiom')}, {inside:,} of them inside of the language"]
-    lines += [f"{counted(declared, 'declaration')} and {counted(annotations, 'annotation')}, which are read past"]
+    lines += [f"{counted(declared, 'declaration')} and {counted(annotations, 'annotation')}, which are skipped"]
     outside, faults = by_keyword(looked), faults_in(looked)
     lines += ["outside of the language:", *table(outside)] * bool(outside)
     lines += ["damaged, or beyond a limit:", *table(faults)] * bool(faults)
