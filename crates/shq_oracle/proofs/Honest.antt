@@ -1,6 +1,6 @@
 -- What a search that ends says is honest.
 use Rattle.std.proofs.Common.{◌≡◌, ℕ, zero, suc, ◌+◌, ◌≤◌, List, [], ◌∷◌, ◌++◌, length, take, Some, ap, sym, subst, ◌∙◌}
-use Rattle.std.proofs.Common.{arith, inl, inr}
+use Rattle.std.proofs.Common.{Bool, arith, inl, inr}
 use Rattle.std.specs.Prelude.{slice_get, Option, None, Result, Ok, Err, IfOk, IfSome}
 use Rattle.shq_terms.specs.declared.axioms.On.TheVariants.{Any}
 use Rattle.shq_terms.specs.Concept.{name}
@@ -16,7 +16,7 @@ use Rattle.run_log.specs.Theory.{theory_of, question_of}
 use Rattle.shq_terms.specs.Listed.{Listed}
 use Rattle.tableau.specs.RefutationLists.{RefutationLists}
 use Rattle.tableau.proofs.CounterModelLaws.{saturated_does_not_entail}
-use Rattle.tableau.specs.SearchState.{SearchState, context_of, trail_of, IsReachedBy}
+use Rattle.tableau.specs.SearchState.{SearchState, context_of, trail_of, IsReachedBy, HasBegun, IsSameSearch}
 use Rattle.tableau.specs.declared.search.End.{End}
 use Rattle.tableau.specs.declared.search.End.TheVariants.{Saturated, Closed, Spent as OutOfFuel}
 use Rattle.tableau.specs.Steps.{IsAtModel, IsAtRefutation, IsEnd, AreLeftOut, ShowsApart}
@@ -25,13 +25,14 @@ use Rattle.run_log.specs.HonestLog.{IsAxiomSet, FollowsIn, IsHonestYes, IsHonest
 use Rattle.run_log.proofs.Named.{more}
 use Rattle.run_log.specs.declared.entry.TestEnd.{TestEnd}
 use Rattle.run_log.specs.declared.entry.TestEnd.TheVariants as E
-use Rattle.tableau.specs.RuleLists.{RuleLists}
+use Rattle.tableau.specs.RuleLists.{RuleLists, AreNumbersOf}
 use Rattle.shq_oracle.specs.declared.answer.Outcome.{Outcome}
 use Rattle.shq_oracle.specs.declared.answer.Outcome.TheVariants.{Yes, No, Undecided}
 use Rattle.shq_oracle.specs.declared.found.Found.{Found}
 use Rattle.shq_oracle.specs.declared.tested.Tested.{Tested}
 use Rattle.shq_oracle.specs.ApartLists.{AreApart}
-use Rattle.shq_oracle.specs.Decided.{IsProof, IsFound, IsFoundBy, IsTested, IsTestedBy, EndsTest, MayGoOn, HasEnded}
+use Rattle.shq_oracle.specs.Decided.{IsProof, IsFound, IsFoundBy, IsTested, IsTestedBy, EndsTest, HasNumbers, MayGoOn}
+use Rattle.shq_oracle.specs.Decided.{HasEnded}
 
 -- one item more
 pub taken_one : {X : Type 0} (xs : List X) (n : ℕ) (x : X) → slice_get xs n ≡ Some x
@@ -169,14 +170,30 @@ moved s r q fuel er eq (Ok f) h =
     subst (λ (v : Query). IsFound r.ontology r.set v fuel f) eq m
 moved s r q fuel er eq (Err e) h = tt
 
-pub tested_moved : (s : SearchState) (r : RuleLists) (q : Query) (fuel : ℕ) → s.rules ≡ r → s.query ≡ q
-    → (tested : Result Tested NoMemory) → IfOk tested (IsTestedBy s fuel)
-    → IfOk tested (IsTested r.ontology r.set q fuel)
-tested_moved s r q fuel er eq (Ok t) h =
-    let m : IsTested r.ontology r.set s.query fuel t =
-    subst (λ (v : RuleLists). IsTested v.ontology v.set s.query fuel t) er h in
-    subst (λ (v : Query). IsTested r.ontology r.set v fuel t) eq m
-tested_moved s r q fuel er eq (Err e) h = tt
+pub tested_moved : (s : SearchState) (r : RuleLists) (q : Query) (fuel : ℕ) (wanted : Bool) → s.rules ≡ r
+    → s.query ≡ q → (tested : Result Tested NoMemory) → IfOk tested (IsTestedBy s fuel wanted)
+    → IfOk tested (IsTested r.ontology r.set q fuel wanted)
+tested_moved s r q fuel wanted er eq (Ok t) h =
+    let m : IsTested r.ontology r.set s.query fuel wanted t =
+    subst (λ (v : RuleLists). IsTested v.ontology v.set s.query fuel wanted t) er h in
+    subst (λ (v : Query). IsTested r.ontology r.set v fuel wanted t) eq m
+tested_moved s r q fuel wanted er eq (Err e) h = tt
+
+-- a search has the numbers with which it began
+pub has_numbers : (r : RuleLists) (q : Query) (sub not_sup : ℕ) (old new : SearchState) → HasBegun r q sub not_sup old
+    → IsSameSearch old new → AreNumbersOf r q sub not_sup → HasNumbers new
+has_numbers r q sub not_sup old new begun same numbers =
+    let rules : r ≡ new.rules = sym (same.rules ∙ begun.rules_are) in
+    let query : q ≡ new.query = sym (same.query ∙ begun.query_is) in
+    let first : sub ≡ new.sub = sym (same.sub ∙ begun.sub_is) in
+    let second : not_sup ≡ new.not_sup = sym (same.not_sup ∙ begun.not_sup_is) in
+    let by_rules : AreNumbersOf new.rules q sub not_sup =
+    subst (λ (v : RuleLists). AreNumbersOf v q sub not_sup) rules numbers in
+    let by_query : AreNumbersOf new.rules new.query sub not_sup =
+    subst (λ (v : Query). AreNumbersOf new.rules v sub not_sup) query by_rules in
+    let by_first : AreNumbersOf new.rules new.query new.sub not_sup =
+    subst (λ (n : ℕ). AreNumbersOf new.rules new.query n not_sup) first by_query in
+    subst (λ (n : ℕ). AreNumbersOf new.rules new.query new.sub n) second by_first
 
 -- how a search ended that began with no steps
 pub has_ended : (fuel : ℕ) (old new : SearchState) (e : End) → old.steps ≡ 0 → IsEnd fuel old new e

@@ -1,5 +1,5 @@
 -- What contracts see of what one search shows of further classes.
-use Rattle.std.specs.Prelude.{◌≡◌, ℕ, ◌+◌, ◌<◌, ◌≤◌, true, length}
+use Rattle.std.specs.Prelude.{◌≡◌, ℕ, ◌+◌, ◌<◌, ◌≤◌, true, length, Option, Some, None}
 use Rattle.std.specs.FinSet as set
 use Rattle.axiom_sets.specs.Sets.{Limited}
 use Rattle.shq_terms.specs.Concept.{Concept, name}
@@ -21,6 +21,11 @@ pub record ApartLists : Type 0 where
   pub sub : Concept
   pub steps : ℕ
   pub classes : Limited
+
+-- the classes, where there are any
+abbrev pub classes_of : Option ApartLists → Option Limited
+classes_of None = None
+classes_of (Some a) = Some a.classes
 
 -- of each class of a set it is so that a class expression is not part of it by the axioms, and that so many steps
 -- decide

@@ -1,5 +1,5 @@
 -- What the answer to a question is, and what the log says of it.
-use Rattle.std.specs.Prelude.{◌≡◌, ℕ, ◌≤◌, ◌<◌, Bool, true, false, IsTrue, List, [], ◌∷◌, ◌++◌, IfSome}
+use Rattle.std.specs.Prelude.{◌≡◌, ℕ, ◌≤◌, ◌<◌, Bool, true, false, IsTrue, List, [], ◌∷◌, ◌++◌, Option, None, IfSome}
 use Rattle.lane_sieve.specs.Sets.{IsPart}
 use Rattle.axiom_sets.specs.Sets.{Limited, member_list}
 use Rattle.shq_terms.specs.Listed.{Listed}
@@ -16,8 +16,9 @@ use Rattle.tableau_specs.specs.declared.Item.{Item}
 use Rattle.tableau_specs.specs.Steps.{IsLegal}
 use Rattle.tableau.specs.declared.search.End.{End}
 use Rattle.tableau.specs.declared.search.End.TheVariants.{Saturated, Closed, Spent as OutOfFuel}
-use Rattle.tableau.specs.SearchState.{SearchState, context_of, trail_of}
-use Rattle.tableau.specs.Steps.{IsAtModel, IsAtRefutation}
+use Rattle.tableau.specs.RuleLists.{AreNumbersOf}
+use Rattle.tableau.specs.SearchState.{SearchState, context_of, trail_of, IsReachedBy, HasRun}
+use Rattle.tableau.specs.Steps.{IsAtModel, IsAtRefutation, ShowsApart}
 use Rattle.run_log.specs.declared.entry.Entry.{Entry}
 use Rattle.run_log.specs.declared.entry.Entry.TheVariants.{Test, Node}
 use Rattle.run_log.specs.declared.entry.TestEnd.{TestEnd}
@@ -32,7 +33,7 @@ use Rattle.shq_oracle.specs.declared.answer.Shown.{Shown}
 use Rattle.shq_oracle.specs.declared.found.Found.{Found}
 use Rattle.shq_oracle.specs.declared.tested.Tested.{Tested}
 use Rattle.shq_oracle.specs.OracleLists.{OracleLists}
-use Rattle.shq_oracle.specs.ApartLists.{ApartLists, AreApart, IsAbout, entry_of}
+use Rattle.shq_oracle.specs.ApartLists.{ApartLists, AreApart, IsAbout, classes_of, entry_of}
 
 -- a refutation of the query over axioms of the set, which it names, and which can be written; of the set it names role
 -- axioms alone, and axioms that stand in its lines
@@ -88,11 +89,32 @@ pub record AddsTest (o : Listed) (s : Limited) (q : Query) (before after : List 
 abbrev pub AppendsTest : Listed → Limited → Query → List Entry → List Entry → Answer → Type 0
 AppendsTest o s q before after a = AddsTest o s q before after (outcome_of a)
 
--- the same, and what it shows of further classes took as many steps as the test
+-- a search for the query by the axioms of the set, which ended at a model after so many legal steps; its run has the
+-- trail after each of them
+pub record EndsAtModel (o : Listed) (s : Limited) (q : Query) (steps : ℕ) (search : SearchState) : Type 0 where
+  pub ontology_is : search.rules.ontology ≡ o
+  pub set_is : search.rules.set ≡ s
+  pub query_is : search.query ≡ q
+  pub steps_are : search.steps ≡ steps
+  pub numbers : AreNumbersOf search.rules search.query search.sub search.not_sup
+  pub reached : IsReachedBy search
+  pub has_run : HasRun search
+  pub at_model : IsAtModel search
+
+-- The further classes that a test with this outcome hands out. Where the query does not follow, they are just those
+-- that its search has left out; but none are handed out where the search asks for more than whether anything is in the
+-- subclass, nor with another outcome.
+abbrev pub AreFurther : Listed → Limited → Query → ℕ → Outcome → Option Limited → Type 0
+AreFurther o s q steps (Yes u) classes = classes ≡ None
+AreFurther o s q steps No classes = (search : SearchState) × EndsAtModel o s q steps search × ShowsApart search classes
+AreFurther o s q steps Undecided classes = classes ≡ None
+
+-- the same, and it hands out the further classes, each by as many steps as the test took
 pub record AddsShown (o : Listed) (s : Limited) (q : Query) (before after : List Entry) (v : Shown) : Type 0 where
   pub test : AddsTest o s q before after v.outcome
   pub about : IfSome v.apart (IsAbout o s q.sub)
   pub counted : IfSome v.apart (λ a. a.steps ≡ test.steps)
+  pub further : AreFurther o s q test.steps v.outcome (classes_of v.apart)
 
 -- the entry that the class expression is not part of the class was put last, and it is honest; or nothing has changed
 abbrev pub Notes : OracleLists → OracleLists → ApartLists → ℕ → Bool → Type 0
@@ -135,10 +157,11 @@ pub record IsFound (o : Listed) (s : Limited) (q : Query) (fuel : ℕ) (f : Foun
   pub answer : IsAnswer o s q f.answer
   pub test : EndsTest o s q fuel (outcome_of f.answer) f.steps f.ended
 
--- what the outcome of a search is, with so much fuel
-pub record IsTested (o : Listed) (s : Limited) (q : Query) (fuel : ℕ) (t : Tested) : Type 0 where
+-- what the outcome of a search is, with so much fuel, and where they are wanted its further classes
+pub record IsTested (o : Listed) (s : Limited) (q : Query) (fuel : ℕ) (wanted : Bool) (t : Tested) : Type 0 where
   pub outcome : IsOutcome o s q t.outcome
   pub apart : IfSome t.apart (AreApart o s q.sub t.steps)
+  pub further : wanted ≡ true → AreFurther o s q t.steps t.outcome t.apart
   pub test : EndsTest o s q fuel t.outcome t.steps t.ended
 
 -- the same of a search, with its rules and its query
@@ -146,8 +169,12 @@ abbrev pub IsFoundBy : SearchState → ℕ → Found → Type 0
 IsFoundBy s fuel f = IsFound s.rules.ontology s.rules.set s.query fuel f
 
 -- the test is that of the search's own set and query
-abbrev pub IsTestedBy : SearchState → ℕ → Tested → Type 0
-IsTestedBy s fuel t = IsTested s.rules.ontology s.rules.set s.query fuel t
+abbrev pub IsTestedBy : SearchState → ℕ → Bool → Tested → Type 0
+IsTestedBy s fuel wanted t = IsTested s.rules.ontology s.rules.set s.query fuel wanted t
+
+-- the numbers of a search stand for its query
+abbrev pub HasNumbers : SearchState → Type 0
+HasNumbers s = AreNumbersOf s.rules s.query s.sub s.not_sup
 
 -- one more step of the search is legal
 abbrev pub MayGoOn : SearchState → Type 0

@@ -1,6 +1,6 @@
 // Questions whether queries follow, answered within a budget.
 ghost use Rattle.std.specs.Prelude.{◌≡◌, ◌↔◌, ◌+◌, ◌<◌, ◌≤◌, [], ◌∷◌, ◌++◌, true, false, length, IfOk, IfSome, OnOk};
-ghost use Rattle.std.specs.Prelude.{OnErr};
+ghost use Rattle.std.specs.Prelude.{Some, OnErr};
 ghost use Rattle.run_log.specs.declared.entry.Entry.TheVariants.{Test};
 ghost use Rattle.std.specs.List.{list_any};
 ghost use Rattle.axiom_sets.specs.Sets.{IsWithin};
@@ -9,7 +9,7 @@ ghost use Rattle.run_log.specs.Entries.{spent_of, is_spent, IsAnswered};
 ghost use Rattle.run_log.specs.HonestLog.{IsAxiomSet, IsHonestEntry};
 ghost use Rattle.shq_oracle.specs.Decided.{IsAnswer, AppendsTest, LeavesNothing, IsFound};
 ghost use Rattle.shq_oracle.specs.Decided.{IsOutcome, AddsTest, AddsShown, Notes, SpendsAll, IsTested, TakesNode};
-ghost use Rattle.shq_oracle.specs.ApartLists.{query_of, entry_of, AreApart, IsAbout, MayNote};
+ghost use Rattle.shq_oracle.specs.ApartLists.{query_of, entry_of, classes_of, AreApart, IsAbout, MayNote};
 
 use crate::found::{Found, search};
 use crate::tested::{Tested, test};
@@ -148,8 +148,8 @@ impl<'a> Oracle<'a> {
     }
 
     /// The same as [`test`](Oracle::test), and hands out what the search shows of further classes where the query does
-    /// not follow. It shows some mostly where the query is whether anything is in a class expression, and none where it
-    /// is on an individual.
+    /// not follow: just those with which its run had nothing to do, where the query is whether anything is in a class
+    /// expression, and none where it asks for more, or is on an individual.
     ///
     /// # Errors
     /// Memory may be refused; the log is as before then.
@@ -239,7 +239,7 @@ impl<'a> Oracle<'a> {
     ) -> Result<Tested, NoMemory>
         requires limit { set.now.limit ≡ length self.old.ontology.axioms }
         requires in_limit { IsInLimit self.old.ontology query.now }
-        ensures tested { IfOk result (IsTested self.old.ontology set.now query.now fuel) }
+        ensures tested { IfOk result (IsTested self.old.ontology set.now query.now fuel wants_apart) }
         ensures set { IsAxiomSet self.old.ontology set.now }
         ensures same { self.new ≡ self.old }
     {
@@ -315,6 +315,7 @@ impl<'a> Oracle<'a> {
         ensures outcome { IfOk result (λ s. s.outcome ≡ tested.outcome) }
         ensures about { IfOk result (λ s. IfSome s.apart (IsAbout self.old.ontology set.now query.now.sub)) }
         ensures counted { IfOk result (λ s. IfSome s.apart (λ a. a.steps ≡ tested.steps)) }
+        ensures classes { IfOk result (λ s. classes_of s.apart ≡ tested.apart) }
         ensures entry { IfOk result
             (λ s. self.new.log ≡ self.old.log ++ Test set.now query.now tested.steps tested.ended ∷ []) }
         ensures same_ontology { self.new.ontology ≡ self.old.ontology }
@@ -344,6 +345,7 @@ impl<'a> Oracle<'a> {
         requires apart { IfSome classes (AreApart self.now.ontology set.now query.now.sub steps) }
         ensures about { IfOk result (λ found. IfSome found (IsAbout self.now.ontology set.now query.now.sub)) }
         ensures counted { IfOk result (λ found. IfSome found (λ a. a.steps ≡ steps)) }
+        ensures classes { IfOk result (λ found. classes_of found ≡ classes) }
     {
         match classes {
             Some(classes) => self.kept_apart(set, query, steps, classes),
@@ -362,6 +364,7 @@ impl<'a> Oracle<'a> {
         requires apart { AreApart self.now.ontology set.now query.now.sub steps classes }
         ensures about { IfOk result (λ found. IfSome found (IsAbout self.now.ontology set.now query.now.sub)) }
         ensures counted { IfOk result (λ found. IfSome found (λ a. a.steps ≡ steps)) }
+        ensures classes { IfOk result (λ found. classes_of found ≡ Some classes) }
     {
         let apart = Apart::new(self.alloc, self.ontology, set, &query.sub, steps, classes)?;
         Ok(Some(apart))
@@ -452,7 +455,7 @@ fn test_by<'a>(
     requires kept { IfSome kept.old (λ r. r.ontology ≡ ontology.now) }
     requires set { IsAxiomSet ontology.now set.now }
     requires in_limit { IsInLimit ontology.now query.now }
-    ensures tested { IfOk result (IsTested ontology.entry.now set.now query.now fuel) }
+    ensures tested { IfOk result (IsTested ontology.entry.now set.now query.now fuel wants_apart) }
     ensures kept { IfSome kept.new (λ r. r.ontology ≡ ontology.entry.now) }
 {
     let mut rules = rules_of(alloc, kept.take(), ontology, set)?;
@@ -524,7 +527,7 @@ fn ask_outcome(
 ) -> Result<Tested, NoMemory>
     requires set { IsAxiomSet rules.old.ontology rules.old.set }
     requires in_limit { IsInLimit rules.old.ontology query.now }
-    ensures tested { IfOk result (IsTested rules.old.ontology rules.old.set query.now fuel) }
+    ensures tested { IfOk result (IsTested rules.old.ontology rules.old.set query.now fuel wants_apart) }
     ensures same { rules.new.ontology ≡ rules.old.ontology }
 {
     let numbers = rules.numbers_of(alloc, query)?;

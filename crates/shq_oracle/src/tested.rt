@@ -1,10 +1,10 @@
 // What the outcome of one search is.
-ghost use Rattle.std.specs.Prelude.{◌≡◌, ◌≤◌, ℕ, false, IfOk, IfSome};
+ghost use Rattle.std.specs.Prelude.{◌≡◌, ◌≤◌, ℕ, Bool, true, false, IfOk, IfSome};
 ghost use Rattle.model_builder.specs.Limits.{IsInLimit};
 ghost use Rattle.tableau.specs.RuleLists.{AreNumbersOf};
-ghost use Rattle.tableau.specs.Steps.{IsAtModel, IsAtRefutation, AreLeftOut};
+ghost use Rattle.tableau.specs.Steps.{IsAtModel, IsAtRefutation, AreLeftOut, ShowsApart};
 ghost use Rattle.run_log.specs.HonestLog.{IsAxiomSet};
-ghost use Rattle.shq_oracle.specs.Decided.{IsTested, IsTestedBy, MayGoOn, HasEnded};
+ghost use Rattle.shq_oracle.specs.Decided.{IsTested, IsTestedBy, HasNumbers, MayGoOn, HasEnded};
 
 use crate::found::kept_trail;
 use crate::{NoMemory, Outcome, TestEnd};
@@ -38,13 +38,13 @@ pub(crate) fn test(
     requires numbers { AreNumbersOf rules.now query.now numbers.0 numbers.1 }
     requires set { IsAxiomSet rules.now.ontology rules.now.set }
     requires in_limit { IsInLimit rules.now.ontology query.now }
-    ensures { IfOk result (IsTested rules.now.ontology rules.now.set query.now fuel) }
+    ensures { IfOk result (IsTested rules.now.ontology rules.now.set query.now fuel wants_apart) }
 {
     let arena = Bump::new(alloc);
     test_in(&arena, alloc, rules, query, numbers, fuel, wants_apart)
 }
 
-#[tactic(auto, using(crate::proofs::Honest::tested_moved, crate::proofs::Honest::has_ended))]
+#[tactic(auto, using(crate::proofs::Honest::tested_moved, crate::proofs::Honest::has_ended, crate::proofs::Honest::has_numbers))]
 fn test_in<A: Allocator + Copy>(
     arena: A,
     alloc: Global,
@@ -57,7 +57,7 @@ fn test_in<A: Allocator + Copy>(
     requires numbers { AreNumbersOf rules.now query.now numbers.0 numbers.1 }
     requires set { IsAxiomSet rules.now.ontology rules.now.set }
     requires in_limit { IsInLimit rules.now.ontology query.now }
-    ensures { IfOk result (IsTested rules.now.ontology rules.now.set query.now fuel) }
+    ensures { IfOk result (IsTested rules.now.ontology rules.now.set query.now fuel wants_apart) }
 {
     let mut search = Search::new_in(arena, alloc, rules, query, numbers.0, numbers.1)?;
     let end = search.run(fuel)?;
@@ -73,11 +73,12 @@ fn tested_by<A: Allocator + Copy>(
     wants_apart: bool,
 ) -> Result<Tested, NoMemory>
     requires whole { search.now.failed ≡ false }
+    requires numbers { HasNumbers search.now }
     requires set { IsAxiomSet search.now.rules.ontology search.now.rules.set }
     requires in_limit { IsInLimit search.now.rules.ontology search.now.query }
     requires within { search.now.steps ≤ fuel }
     requires ended { HasEnded fuel search.now end }
-    ensures { IfOk result (IsTestedBy search.now fuel) }
+    ensures { IfOk result (IsTestedBy search.now fuel wants_apart) }
 {
     match end {
         End::Saturated => with_no(search, wants_apart),
@@ -92,9 +93,10 @@ fn with_no<A: Allocator + Copy>(
     wants_apart: bool,
 ) -> Result<Tested, NoMemory>
     requires whole { search.now.failed ≡ false }
+    requires numbers { HasNumbers search.now }
     requires in_limit { IsInLimit search.now.rules.ontology search.now.query }
     requires ended { IsAtModel search.now }
-    ensures { IfOk result (λ t. (fuel : ℕ) → search.now.steps ≤ fuel → IsTestedBy search.now fuel t) }
+    ensures { IfOk result (λ t. (fuel : ℕ) → search.now.steps ≤ fuel → IsTestedBy search.now fuel wants_apart t) }
 {
     let steps = search.steps();
     let apart = classes_apart(search, wants_apart)?;
@@ -114,7 +116,8 @@ fn classes_apart<A: Allocator + Copy>(
 ) -> Result<Option<AxiomSet>, NoMemory>
     requires whole { search.now.failed ≡ false }
     requires ended { IsAtModel search.now }
-    ensures { IfOk result (λ found. IfSome found (AreLeftOut search.now)) }
+    ensures left_out { IfOk result (λ found. IfSome found (AreLeftOut search.now)) }
+    ensures shown { wanted ≡ true → IfOk result (ShowsApart search.now) }
 {
     if wanted {
         search.classes_apart()
@@ -131,7 +134,8 @@ fn with_yes<A: Allocator + Copy>(
     requires whole { search.now.failed ≡ false }
     requires set { IsAxiomSet search.now.rules.ontology search.now.rules.set }
     requires ended { IsAtRefutation refutation search.now }
-    ensures { IfOk result (λ t. (fuel : ℕ) → search.now.steps ≤ fuel → IsTestedBy search.now fuel t) }
+    ensures { (wanted : Bool) → IfOk result
+        (λ t. (fuel : ℕ) → search.now.steps ≤ fuel → IsTestedBy search.now fuel wanted t) }
 {
     let steps = search.steps();
     let used = refutation.axioms_used().try_clone()?;
@@ -151,7 +155,8 @@ fn with_trail<A: Allocator + Copy>(
 ) -> Result<Tested, NoMemory>
     requires whole { search.now.failed ≡ false }
     requires goes_on { MayGoOn search.now }
-    ensures { IfOk result (λ t. (fuel : ℕ) → search.now.steps ≡ fuel → IsTestedBy search.now fuel t) }
+    ensures { (wanted : Bool) → IfOk result
+        (λ t. (fuel : ℕ) → search.now.steps ≡ fuel → IsTestedBy search.now fuel wanted t) }
 {
     let steps = search.steps();
     let trail = kept_trail(alloc, search)?;

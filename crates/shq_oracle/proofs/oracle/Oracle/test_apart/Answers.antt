@@ -23,4 +23,5 @@ returns-clause-entry c =
     subst (λ (o : OracleLists). IfOk r (λ (v : Shown). after ≡ o.log ++ Test s q t.steps t.ended ∷ [])) same
     c.note_shown.ensures.entry in
     adds_shown l.ontology s q c.left-fuel.result l.log after t r c.in_ok-tested.ensures.set
-    c.in_ok-tested.ensures.tested c.note_shown.ensures.outcome about c.note_shown.ensures.counted log
+    c.in_ok-tested.ensures.tested c.note_shown.ensures.outcome about c.note_shown.ensures.counted
+    c.note_shown.ensures.classes log
