@@ -93,6 +93,15 @@ def ask(given):
     return status
 
 
+def run_script(command, words):
+    """Runs a script of this folder, and returns its status."""
+    try:
+        return guarded(command.run, words)
+    except Unprepared as fault:
+        say(str(fault))
+        return fault.status
+
+
 def print_help(words):
     """Prints what a command is for, or what all are, and returns 0."""
     command = command_in(words)
@@ -114,4 +123,4 @@ def main(given):
         return ask(words)
     if command.needs_program and not program.is_ready():
         return Status.NOT_BUILT
-    return guarded(command.run, words[1:])
+    return run_script(command, words[1:])

@@ -3,7 +3,7 @@ import sys
 
 from shq_tools.converting import ontology_data_of
 from shq_tools.documents import refusal
-from shq_tools.input_files import READ_FAULT, STATUSES, say
+from shq_tools.input_files import STATUSES, say
 from shq_tools.profile import counted, table
 from shq_tools.survey import by_keyword, survey
 from shq_tools.tokens import Refused
@@ -53,8 +53,6 @@ def main(words):
         print(USAGE, file=sys.stderr)
         return 2
     data = ontology_data_of(words)
-    if data is None:
-        return READ_FAULT
     try:
         rest, looked = cut(data)
     except Refused as refused:

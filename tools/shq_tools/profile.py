@@ -3,7 +3,7 @@ import sys
 
 from shq_tools.converting import ontology_data_of
 from shq_tools.documents import refusal
-from shq_tools.input_files import READ_FAULT, STATUSES
+from shq_tools.input_files import STATUSES
 from shq_tools.keywords import ANNOTATIONS, ANONYMOUS, NOT_SIMPLE
 from shq_tools.survey import by_keyword, survey
 from shq_tools.tokens import Refused
@@ -72,8 +72,6 @@ def main(words):
         print(USAGE, file=sys.stderr)
         return 2
     data = ontology_data_of(words)
-    if data is None:
-        return READ_FAULT
     try:
         print("\n".join(profile_text(data)))
     except Refused as refused:

@@ -29,13 +29,11 @@ MISFIT = "the answer is to another statement than that of --query"
 NO_LINES = "The script has no lines."
 NOT_WHOLE = "The answer is not whole."
 NOTHING_TO_READ = (
-    "there is nothing to read. Where a job stands before read in a pipe, it says itself why it printed nothing. Only "
-    "the answer of why to a class without individuals has no line, and is read with --query CLASS; and that of session "
-    "to a script without lines"
+    "there is nothing to read. If a job stands before read in a pipe, it says itself why it printed nothing. Only the "
+    "answer of why for a class without individuals has no line, and is read with --query CLASS; and that of session for "
+    "a script without lines"
 )
-READ_AS_WHY = (
-    "nothing was read, which is the answer of why where no individual is in the class. Of another job it is none"
-)
+READ_AS_WHY = "nothing was read: that is the answer of why if no individual is in the class, and of no other job"
 NOT_COMPARED = "whether the answer is to the statement of --query cannot be told"
 
 
@@ -285,7 +283,7 @@ def main(words):
     sys.stdout.reconfigure(encoding="utf-8", errors="replace")
     label_data = ontology_data_of([given.labels]) if given.labels else b""
     data = data_of([given.file] if given.file else [])
-    if data is None or label_data is None:
+    if data is None:
         return READ_FAULT
     text = data.decode("utf-8", "replace")
     status = read(given, text, label_data)

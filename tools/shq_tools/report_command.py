@@ -6,7 +6,7 @@ from shq_tools.approximation.command import BadStrength, strength_of, with_value
 from shq_tools.asker import Asker
 from shq_tools.budgets import SECONDS
 from shq_tools.converting import ontology_data_of
-from shq_tools.input_files import READ_FAULT, STATUSES
+from shq_tools.input_files import STATUSES
 from shq_tools.messages import say
 from shq_tools.names import has_language, languages
 from shq_tools.report import given_of, given_of_translation, report_on
@@ -96,8 +96,6 @@ def main(given_words):
     """Writes the report, and returns 0; with `--fail-on contradictory` 1 where something is contradictory."""
     words = words_of(given_words)
     data = ontology_data_of([words.file] if words.file else [])
-    if data is None:
-        return READ_FAULT
     sys.stdout.reconfigure(encoding="utf-8", errors="replace")
     try:
         given = given_by(words, data)

@@ -530,7 +530,7 @@ class Shown(unittest.TestCase):
                     self.assertIn("there is nothing to read", complaint)
         said, complaint, status = shown("", b"", "--query", f"<{E}A>")
         self.assertEqual((said.strip(), status), ("No individual is in the class.", 0))
-        self.assertIn("Of another job it is none", complaint)
+        self.assertIn("of no other job", complaint)
 
     def test_no_answer(self):
         for text in ("hello\n", "consistently\n", "yes\n", "undecided\nhello\n", "axiom x\n", "bad text thing line 3\n"):

@@ -1,19 +1,14 @@
-"""`./shq approximate`, `--approximate`, files of other syntaxes, and answers to translations as they are read."""
-import gzip
+"""`./shq approximate`, `--approximate`, and answers to translations as they are read."""
 import subprocess
 import sys
-import tempfile
 import unittest
-from pathlib import Path
 
-from shq_tools import converting
 from shq_tools.approximation.text import approximation
 from shq_tools.approximation.translation import Strength
 from shq_tools.approximation.writing import axiom_text
 from shq_tools.documents import axioms_of, document
 from shq_tools.places import TOOLS
 from shq_tools.reading_answers import asked_reading, known_of_translation
-from shq_tools.syntaxes import Unopened, opened, syntax_of
 from shq_tools.text_view import lines_of
 from tests.fakes import shq
 from tests.owl_grammar import document as ontology
@@ -27,82 +22,6 @@ PENGUINS = ontology([
 ])
 # What the program answers to `explain "SubClassOf(:Lost owl:Nothing)"` on the translation, with the axioms left out.
 NUMBERS = "2 4 5 7"
-BEGINNINGS = {
-    "RDF/XML": '<?xml version="1.0"?>\n<!DOCTYPE rdf:RDF [ <!ENTITY owl "http://www.w3.org/2002/07/owl#" > ]>\n'
-               '<!-- <Ontology> -->\n<rdf:RDF xmlns="x">\n  <owl:Ontology rdf:about="y"/>',
-    "OWL/XML": '<?xml version="1.0"?>\n<Ontology xmlns="http://www.w3.org/2002/07/owl#">',
-    "Turtle": "# a comment\n@prefix : <http://e.org/> .\n",
-    "Manchester syntax": "Prefix: : <http://e.org/>\nOntology: <http://e.org/o>\n",
-    "OBO": "format-version: 1.2\nontology: go\n",
-    "JSON-LD": '[ { "@id": "http://e.org/A" } ]',
-    "N-Triples": "<http://e.org/A> <http://e.org/r> <http://e.org/B> .\n",
-}
-
-
-class Syntaxes(unittest.TestCase):
-    def test_beginnings(self):
-        for name, text in BEGINNINGS.items():
-            for mark in (b"", b"\xef\xbb\xbf"):
-                with self.subTest(name=name, mark=mark):
-                    self.assertEqual(syntax_of(mark + text.encode("utf-8")).name, name)
-
-    def test_functional_syntax(self):
-        for text in (PENGUINS, "Ontology()", "# Prefix: x\n\n  Ontology (\n", "\ufeffPrefix(:=<x>)"):
-            self.assertIsNone(syntax_of(text.encode("utf-8")))
-
-    def test_gzip_is_opened(self):
-        self.assertEqual(opened(gzip.compress(b"Ontology()")), b"Ontology()")
-        for damaged in (gzip.compress(b"Ontology()")[:-4], b"\x1f\x8b", b"\x1f\x8b\x08\x00damaged"):
-            with self.assertRaises(Unopened):
-                opened(damaged)
-
-    def test_other_packings_are_told(self):
-        for sign in (b"PK\x03\x04", b"BZh9", b"\xfd7zXZ\x00"):
-            with self.assertRaisesRegex(Unopened, "compressed"):
-                opened(sign + b"more")
-
-    def test_a_job_says_what_to_do(self):
-        found = shq("classify", data=b"PK\x03\x04")
-        self.assertEqual((found[0], found[2]), ("", 3))
-        self.assertIn("ZIP", found[1])
-
-    def test_without_the_library_a_job_says_how_to_convert(self):
-        data = BEGINNINGS["Turtle"].encode("utf-8")
-        found = shq("classify", data=data, PATH=str(Path(sys.executable).parent), JAVA_HOME="")
-        if converting.is_there() and Path(sys.executable).parent in map(Path, ("/usr/bin", "/bin")):
-            self.skipTest("java is beside python3")
-        self.assertEqual((found[0], found[2]), ("", 3))
-        self.assertIn("the file is in Turtle. Convert it first: robot convert", found[1])
-
-    def test_a_job_reads_gzip(self):
-        output, _, status = shq("classify", "--budget", 7, data=gzip.compress(b"Ontology()"))
-        self.assertEqual((output, status), ("words: classify budget 7\nOntology()", 0))
-
-
-@unittest.skipUnless(converting.is_there(), "Debian's libowlapi-java and default-jdk-headless are not installed")
-class Converting(unittest.TestCase):
-    TURTLE = """@prefix : <http://e.org/> . @prefix owl: <http://www.w3.org/2002/07/owl#> .
-@prefix rdfs: <http://www.w3.org/2000/01/rdf-schema#> .
-<http://e.org/o> a owl:Ontology ; owl:imports <http://nowhere.example/x> .
-:A a owl:Class ; rdfs:subClassOf :B . :B a owl:Class .
-"""
-
-    def test_turtle_becomes_functional_syntax_and_nothing_is_fetched(self):
-        with tempfile.TemporaryDirectory() as room:
-            environment = {"XDG_CACHE_HOME": room}
-            output, said, status = shq("convert", data=self.TURTLE.encode("utf-8"), **environment)
-            self.assertEqual((said, status), ("", 0))
-            self.assertIn("SubClassOf(:A :B)", output)
-            self.assertIn("Import(<http://nowhere.example/x>)", output)
-            # the second use compiles nothing
-            output, said, status = shq("classify", "--budget", 7, data=self.TURTLE.encode("utf-8"), **environment)
-            self.assertIn("SubClassOf(:A :B)", output)
-            self.assertIn("the file is in Turtle, and was converted", said)
-
-    def test_a_damaged_file_is_told(self):
-        output, said, status = shq("convert", data=self.TURTLE.encode("utf-8") + b"] .")
-        self.assertEqual((output, status), ("", 3))
-        self.assertIn("the OWL API cannot read the file", said)
 
 
 class Commands(unittest.TestCase):

@@ -11,6 +11,7 @@ from contextlib import redirect_stderr, redirect_stdout
 from pathlib import Path
 
 from shq_tools import program
+from shq_tools.output import guarded
 from shq_tools.places import EXAMPLES, TOOLS
 from shq_tools.report import given_of, whole_first
 from shq_tools.report_command import main
@@ -72,7 +73,7 @@ def called(words, data, path):
     with unittest.mock.patch.object(program, "PROGRAM", path), unittest.mock.patch.object(sys, "stdin", given):
         with redirect_stdout(output), redirect_stderr(complaint):
             try:
-                status = main(list(words))
+                status = guarded(main, list(words))
             except SystemExit as ended:
                 status = ended.code
     output.flush()

@@ -7,8 +7,7 @@ from shq_tools.approximation.summary import lines_of
 from shq_tools.approximation.text import approximation
 from shq_tools.approximation.translation import Strength
 from shq_tools.converting import ontology_data_of
-from shq_tools.documents import MOST_BYTES
-from shq_tools.input_files import READ_FAULT, STATUSES
+from shq_tools.input_files import STATUSES
 from shq_tools.messages import say
 from shq_tools.preparing import Unprepared
 from shq_tools.statuses import Status
@@ -50,21 +49,10 @@ def tell(found):
         say(line)
 
 
-def whole(source):
-    """All that the file of a source has, where it was cut off, since the translation may be shorter than the file."""
-    if source.name is None or len(source.data) != MOST_BYTES + 1:
-        return source.data
-    try:
-        with open(source.name, "rb") as file:
-            return file.read()
-    except OSError:
-        return source.data
-
-
 def prepared(question, source, value):
     """The question as it is, on the translation of what the job reads."""
     try:
-        found = translated(whole(source), strength_of(value))
+        found = translated(source.data, strength_of(value))
     except BadStrength as fault:
         raise Unprepared(str(fault), Status.BAD_WORDS) from fault
     except Refused:
@@ -82,8 +70,6 @@ def main(words):
         print(USAGE, file=sys.stderr)
         return Status.BAD_WORDS
     data = ontology_data_of(files)
-    if data is None:
-        return READ_FAULT
     try:
         found = translated(data, strength)
     except Refused as refused:
