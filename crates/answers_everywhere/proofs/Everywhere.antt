@@ -61,7 +61,8 @@ named_behind before (a ∷ rest) =
 -- ---- questions within the limits
 
 module _ {d : Type 0} (w : World d) where
-  of_world : (o : Listed) (q : Query) → IsInLimit o q → IsOfWorld w o.axioms q
+  -- a query in limit
+  pub of_world : (o : Listed) (q : Query) → IsInLimit o q → IsOfWorld w o.axioms q
   of_world o q within = record {
     all =
         subst (λ (as_ : List Axiom). Entails as_ q ↔ FollowsInAll w as_ q) (named_behind [] o.axioms)

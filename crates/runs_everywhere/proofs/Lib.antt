@@ -4,3 +4,4 @@ mod Classes
 mod Decided
 mod Listed
 mod Individuals
+mod Told

@@ -1,5 +1,5 @@
 -- Justifications and repairs are the same by entailment and by what follows in a world.
-use Rattle.std.proofs.Common.{◌≡◌, ◌↔◌, ℕ, List, length}
+use Rattle.std.proofs.Common.{◌↔◌, ℕ, List, length}
 use Rattle.std.specs.FinSet as set
 use Rattle.lane_sieve.specs.Sets.{NumberSet}
 use Rattle.axiom_sets.specs.Sets.{Limited, IsWithin}

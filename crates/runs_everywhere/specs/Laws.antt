@@ -21,6 +21,7 @@ use Rattle.realizer.specs.Instances.{instances_text}
 use Rattle.realizer.specs.Realization.{realization_text}
 use Rattle.realizer.specs.declared.types.Types.{Types}
 use Rattle.subsumption.specs.Groups.{Parthood}
+use Rattle.edit_session.specs.Answers.{OnScript}
 use Rattle.classification_jobs.specs.Answer.{line}
 use Rattle.classification_jobs.specs.Questions.{Text, follows, IsQuestion}
 use Rattle.classification_jobs.specs.Refusals.{OnDocument}
@@ -34,9 +35,10 @@ use Rattle.ontology_jobs.specs.Answers.{AnswersJob}
 use Rattle.ontology_jobs.specs.Entry.{Entry}
 use Rattle.ontology_jobs.specs.Laws.{HaveRead}
 use Rattle.ontology_jobs.specs.Words.{check, audit, decide, classify, realize, instances, reasons, pinpoint}
-use Rattle.ontology_jobs.specs.Words.{evidence}
+use Rattle.ontology_jobs.specs.Words.{evidence, session}
 use Rattle.runs_everywhere.specs.Sets.{HasAllIn, HasSomeIn, ListsAllIn}
 use Rattle.runs_everywhere.specs.Names.{IsSubsumptionIn, AreInstancesIn, AreTypesIn, AreReasonsIn}
+use Rattle.runs_everywhere.specs.Sessions.{AreToldIn}
 
 -- ---- verdicts
 
@@ -175,3 +177,10 @@ pub record AreExplainedIn {d : Type 0} (w : World d) (out : List ℕ) (o : Liste
 abbrev pub ReasonsHoldIn : {d : Type 0} → World d → Type 0
 ReasonsHoldIn w = (class : List ℕ) (budget : ℕ) (bytes out : List ℕ) (log : List Entry)
     → AnswersJob (reasons class budget) bytes out Done log → OnClass class bytes (AreExplainedIn w out)
+
+-- ---- sessions
+
+-- a session that is done answers each query of its script by what follows from the axioms that are live then
+abbrev pub SessionsHoldIn : {d : Type 0} → World d → Type 0
+SessionsHoldIn w = (budget : ℕ) (bytes out : List ℕ) (log : List Entry)
+    → AnswersJob (session budget) bytes out Done log → OnScript (AreToldIn w out) bytes

@@ -1,6 +1,6 @@
 // Verdicts and certificates.
 ghost use Rattle.runs_everywhere.specs.Laws.{YesFollowsIn, NoFailsInAFiniteWorld, AcceptedQueriesFollowIn};
-ghost use Rattle.runs_everywhere.specs.Laws.{AcceptedQueriesFailInAFiniteWorld};
+ghost use Rattle.runs_everywhere.specs.Laws.{AcceptedQueriesFailInAFiniteWorld, SessionsHoldIn};
 
 use crate::World;
 
@@ -23,4 +23,10 @@ pub fn accepted_queries_follow_everywhere<W: World>()
 /// What it answers by `accepted not entailed` is one that does not follow in every finite world.
 pub fn accepted_queries_fail_in_a_finite_world()
     ensures { AcceptedQueriesFailInAFiniteWorld }
+{}
+
+/// A session that is done answers a query with no where it does not follow from the axioms that are live then, and else
+/// with yes and live axioms from which it follows, in every world.
+pub fn sessions_hold_everywhere<W: World>()
+    ensures { SessionsHoldIn W.world }
 {}
