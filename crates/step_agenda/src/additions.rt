@@ -1,5 +1,7 @@
 // Concepts that a fact adds.
 ghost use Rattle.std.specs.Prelude.{◌≡◌, ◌<◌, IfSome};
+ghost use Rattle.calculus_specs.specs.State.{node_count_from};
+ghost use Rattle.step_finders.specs.Found.{PlainDue};
 ghost use Rattle.step_finders.specs.Reasons.{IsAddition};
 
 use crate::nearness::Nearness;
@@ -7,27 +9,42 @@ use blocking::{Item, Tree};
 use calculus_specs::Fact;
 use std::alloc::Allocator;
 use step_finders::{
-    Addition, Rules, Shape, State, count_of, find_by_concept, find_by_edge, find_by_name,
-    find_from, find_general,
+    Addition, PlainRow, Reason, Rules, Shape, State, count_of, find_by_concept, find_by_edge,
+    find_by_name, find_from, find_general,
 };
 
-/// The first entry from this one on that adds a concept, and what it adds; or the length of the trail.
+/// Up to where it was looked for a concept that an entry adds.
+#[derive(Clone, Copy, Debug, PartialEq, Eq)]
+pub(crate) struct Reached {
+    /// The first entry that may add more.
+    pub(crate) place: u32,
+    /// Where that is an edge to a new node: how many of the rows that are used at each node were asked what they give
+    /// that node. Where it is none, what the edge adds otherwise was not looked for.
+    pub(crate) rows: usize,
+}
+
+/// The first concept that an entry adds from here on, and up to where it was looked for then.
 pub(crate) fn first_addition<A: Allocator + Copy, S: State, R: Rules>(
     tree: &Tree<A>,
     state: &S,
     rules: &R,
-    from: u32,
-) -> (u32, Option<Addition>)
+    from: Reached,
+) -> (Reached, Option<Addition>)
     requires one_first { S.first state.now ≡ (R.context rules.now).first }
     ensures { IfSome result.1 (IsAddition (R.context rules.now) (S.facts state.now) (R.files rules.now)) }
 {
-    for place in from..tree.len() {
-        match addition_at(tree.item(place), state, rules) {
-            Some(addition) => return (place, Some(addition)),
-            None => {}
+    let mut rows = from.rows;
+    for place in from.place..tree.len() {
+        match addition_at(tree.item(place), state, rules, rows) {
+            Some((rows, addition)) => return (Reached { place, rows }, Some(addition)),
+            None => rows = 0,
         }
     }
-    (tree.len(), None)
+    let end = Reached {
+        place: tree.len(),
+        rows: 0,
+    };
+    (end, None)
 }
 
 /// The first rank from `from` on and below `to`, in the order of nearness, of a first node to which a row that is used at
@@ -54,33 +71,60 @@ pub(crate) fn first_general<S: State, R: Rules>(
     (to, None)
 }
 
-// What the entry adds.
-fn addition_at<S: State, R: Rules>(item: Item, state: &S, rules: &R) -> Option<Addition>
+// What the entry adds, where so many rows that are used at each node were asked what they give the end of its edge; and
+// how many of them were asked then.
+fn addition_at<S: State, R: Rules>(
+    item: Item,
+    state: &S,
+    rules: &R,
+    rows: usize,
+) -> Option<(usize, Addition)>
     requires one_first { S.first state.now ≡ (R.context rules.now).first }
-    ensures { IfSome result (IsAddition (R.context rules.now) (S.facts state.now) (R.files rules.now)) }
+    ensures { IfSome result (λ p. IsAddition (R.context rules.now) (S.facts state.now) (R.files rules.now) p.1) }
 {
     match item {
-        Item::Fact(fact) => by_fact(fact, state, rules),
+        Item::Fact(Fact::Edge(role, from, to)) => {
+            by_edge(state, rules, role, state.representative(from), to, rows)
+        }
+        Item::Fact(Fact::Has(node, concept)) => {
+            Some((
+                0,
+                by_concept(state, rules, state.representative(node), concept)?,
+            ))
+        }
+        Item::Fact(Fact::Same(node, _)) => Some((0, at_node(state, rules, node)?)),
+        Item::Fact(Fact::Apart(_, _)) => None,
         Item::Mark(_) => None,
     }
 }
 
-// What a fact adds.
-fn by_fact<S: State, R: Rules>(fact: Fact<u32>, state: &S, rules: &R) -> Option<Addition>
+// What an edge adds: by what its beginning has, by rows at either end, and then by rows that are used at each node, one
+// behind the other, where its end is no first node.
+fn by_edge<S: State, R: Rules>(
+    state: &S,
+    rules: &R,
+    role: u32,
+    from: u32,
+    to: u32,
+    rows: usize,
+) -> Option<(usize, Addition)>
     requires one_first { S.first state.now ≡ (R.context rules.now).first }
-    ensures { IfSome result (IsAddition (R.context rules.now) (S.facts state.now) (R.files rules.now)) }
+    ensures { IfSome result (λ p. IsAddition (R.context rules.now) (S.facts state.now) (R.files rules.now) p.1) }
 {
-    match fact {
-        Fact::Has(node, concept) => by_concept(state, rules, state.representative(node), concept),
-        Fact::Edge(role, from, to) => by_edge(state, rules, role, state.representative(from), to),
-        Fact::Same(node, _) => at_node(state, rules, node),
-        Fact::Apart(_, _) => None,
+    if rows == 0 {
+        match by_edge_alone(state, rules, role, from, to) {
+            Some(addition) => return Some((0, addition)),
+            None => {}
+        }
     }
+    if to < rules.first() {
+        return None;
+    }
+    by_general(state, rules, to, rows)
 }
 
-// What an edge adds: by what its beginning has, by rows at either end, and by rows that are used at each node, where
-// its end is no first node.
-fn by_edge<S: State, R: Rules>(
+// What an edge adds by what its beginning has, and by rows at either end.
+fn by_edge_alone<S: State, R: Rules>(
     state: &S,
     rules: &R,
     role: u32,
@@ -91,13 +135,64 @@ fn by_edge<S: State, R: Rules>(
     ensures { IfSome result (IsAddition (R.context rules.now) (S.facts state.now) (R.files rules.now)) }
 {
     match by_universals(state, rules, from, to) {
-        Some(addition) => return Some(addition),
-        None => {}
-    }
-    match by_ends(state, rules, role, from, to) {
         Some(addition) => Some(addition),
-        None if to < rules.first() => None,
-        None => in_general(state, rules, to),
+        None => by_ends(state, rules, role, from, to),
+    }
+}
+
+// What the rows from this one on that are used at each node add to the node's representative, and how many were asked
+// then.
+fn by_general<S: State, R: Rules>(
+    state: &S,
+    rules: &R,
+    node: u32,
+    from: usize,
+) -> Option<(usize, Addition)>
+    requires one_first { S.first state.now ≡ (R.context rules.now).first }
+    ensures { IfSome result (λ p. IsAddition (R.context rules.now) (S.facts state.now) (R.files rules.now) p.1) }
+{
+    let node = state.representative(node);
+    if node >= count_of(state, rules) {
+        return None;
+    }
+    for place in from..rules.general().len() {
+        match by_general_at(state, rules, node, place) {
+            Some(addition) => return Some((place + 1, addition)),
+            None => {}
+        }
+    }
+    None
+}
+
+// What the row at a place of those that are used at each node adds to the node.
+fn by_general_at<S: State, R: Rules>(
+    state: &S,
+    rules: &R,
+    node: u32,
+    place: usize,
+) -> Option<Addition>
+    requires { node < node_count_from (R.context rules.now).first (S.facts state.now) }
+    ensures { IfSome result (IsAddition (R.context rules.now) (S.facts state.now) (R.files rules.now)) }
+{
+    rules.is_ready();
+    match due_at(state, node, rules.general(), place) {
+        Some(row) => Some(Addition {
+            node,
+            concept: row.gives,
+            reason: Reason::General { row },
+        }),
+        None => None,
+    }
+}
+
+// The row at a place, where it gives the node what that does not have.
+fn due_at<S: State>(state: &S, node: u32, rows: &[PlainRow], place: usize) -> Option<PlainRow>
+    ensures { IfSome result (PlainDue (S.facts state.now) node rows.now) }
+{
+    if place >= rows.len() || state.has(node, rows[place].gives) {
+        None
+    } else {
+        Some(rows[place])
     }
 }
 

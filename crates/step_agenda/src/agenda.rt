@@ -3,7 +3,7 @@ ghost use Rattle.std.specs.Prelude.{◌≡◌, IfOk, IfSome};
 ghost use Rattle.step_finders.specs.Stepping.{IsStep};
 
 use crate::NoMemory;
-use crate::additions::{first_addition, first_general};
+use crate::additions::{Reached, first_addition, first_general};
 use crate::branchings::{Wanted, first_branching};
 use crate::forced::first_forced;
 use crate::givings::first_giving;
@@ -23,7 +23,7 @@ struct Cursors {
     given: usize,
     // Up to which of the first nodes, by nearness, it has looked for what rows add that are used at each node.
     general: usize,
-    additions: u32,
+    additions: Reached,
     forced: u32,
     pairs: u32,
     // For new nodes below first nodes, and for unions of these.
@@ -44,7 +44,7 @@ impl Cursors {
             ring: 0,
             given: 0,
             general: 0,
-            additions: 0,
+            additions: Reached { place: 0, rows: 0 },
             forced: 0,
             pairs: 0,
             first_makings: 0,
@@ -266,9 +266,10 @@ impl Agenda {
         requires one_first { S.first state.now ≡ (R.context rules.now).first }
         ensures { IfSome result (IsStep (R.context rules.now) (S.facts state.now) (R.files rules.now)) }
     {
-        let (place, addition) = first_addition(tree, state, rules, self.cursors.additions);
-        self.count_looks(self.cursors.additions, place);
-        self.cursors.additions = place;
+        let from = self.cursors.additions;
+        let (reached, addition) = first_addition(tree, state, rules, from);
+        self.count_looks(from.place, reached.place);
+        self.cursors.additions = reached;
         Some(Step::Add(addition?))
     }
 

@@ -5,7 +5,8 @@
 //! a search does not look through its whole state for each step, as a worklist does not (F. Baader and U. Sattler, "An
 //! Overview of Tableau Algorithms for Description Logics", Studia Logica 69, 2001, has the rules). Where it looked is
 //! kept with each choice, and is where it looks again once the search goes back to the choice: the facts before it are
-//! those of that time.
+//! those of that time. At the edge to a new node it also keeps how many of the rows that are used at each node were
+//! asked, so that the node gets what they give one behind the other.
 //!
 //! A part of a union is taken at once where all parts but one clash at once, as in unit propagation (I. Horrocks,
 //! *Optimising Tableaux Decision Procedures for Description Logics*, University of Manchester 1997). Whether that has

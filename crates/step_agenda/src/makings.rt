@@ -128,7 +128,7 @@ fn making_at<S: StateWithBlocks, R: Rules>(
     requires one_first { S.first state.now ≡ (R.context rules.now).first }
     ensures { IfOk result (λ found. IfSome found (IsMaking (R.context rules.now) (S.facts state.now))) }
 {
-    if !is_asked(state, rules, node, concept) || !state.is_clear(node) {
+    if !asks(rules, concept) || !state.is_clear(node) || !is_there(state, rules, node, concept) {
         return Ok(None);
     }
     find_making_by(heap, state, rules, node, concept)
@@ -192,23 +192,20 @@ fn below_first<S: State, R: Rules>(
     requires one_first { S.first state.now ≡ (R.context rules.now).first }
     ensures { IfOk result (λ found. IfSome found (IsMaking (R.context rules.now) (S.facts state.now))) }
 {
-    if node >= rules.first() || !is_asked(state, rules, node, concept) {
+    if node >= rules.first() || !asks(rules, concept) || !is_there(state, rules, node, concept) {
         return Ok(None);
     }
     find_making_by(heap, state, rules, node, concept)
 }
 
-// Whether the node is a representative, has the concept, and is asked for successors by it.
-fn is_asked<S: State, R: Rules>(state: &S, rules: &R, node: u32, concept: u32) -> bool
+// Whether the node is a representative and has the concept.
+fn is_there<S: State, R: Rules>(state: &S, rules: &R, node: u32, concept: u32) -> bool
     requires one_first { S.first state.now ≡ (R.context rules.now).first }
     ensures node { IsTrue result → node < node_count_from (R.context rules.now).first (S.facts state.now) }
     ensures representative { IsTrue result → rep (S.facts state.now) node ≡ node }
     ensures holds { IsTrue result → holds (S.facts state.now) node concept ≡ true }
 {
-    asks(rules, concept)
-        && node < count_of(state, rules)
-        && state.representative(node) == node
-        && state.has(node, concept)
+    node < count_of(state, rules) && state.representative(node) == node && state.has(node, concept)
 }
 
 // Whether the concept asks for successors.
