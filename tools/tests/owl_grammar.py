@@ -197,12 +197,12 @@ MOST_DEPTH = 3
 SHALLOW = {"class": "name", "range": "datatype", "data class": "name"}
 
 
-def text_of(sign, chooser, depth=0):
-    """A random text of the grammar."""
+def text_of(sign, chooser, grammar=GRAMMAR, depth=0):
+    """A random text of a grammar."""
     if depth > MOST_DEPTH:
         sign = SHALLOW.get(sign, sign)
-    chosen = chooser.choice(GRAMMAR[sign])
-    return SIGN.sub(lambda found: text_of(found[1], chooser, depth + (sign in SHALLOW)), chosen)
+    chosen = chooser.choice(grammar[sign])
+    return SIGN.sub(lambda found: text_of(found[1], chooser, grammar, depth + (sign in SHALLOW)), chosen)
 
 
 def document(axioms):

@@ -6,25 +6,15 @@ from shq_tools.approximation.new_names import is_new
 from shq_tools.approximation.text import approximation
 from shq_tools.approximation.translation import Strength
 from shq_tools.cut import cut
-from tests.konclude import NOTHING, NoAnswer, needs_konclude, pairs
+from tests.konclude import NoAnswer, needs_konclude, pairs
+from tests.lost_by_kind import lost_and_added
 
 ONTOLOGIES = Path(__file__).parent / "ontologies"
-
-
-def contradictory(found):
-    return {one for one, other in found if other == NOTHING}
 
 
 def old(found):
     """The pairs of names of the file."""
     return {it for it in found if not is_new(it[0]) and not is_new(it[1])}
-
-
-def lost_and_added(whole, part):
-    """The pairs that a part lacks, and those that it has too many. A contradictory class is below all others."""
-    lost = {it for it in whole - part if it[0] not in contradictory(part)}
-    added = {it for it in part - whole if it[0] not in contradictory(whole)}
-    return lost, added
 
 
 def short(found):

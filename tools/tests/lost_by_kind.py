@@ -1,0 +1,134 @@
+"""What translations lose of random ontologies, by the kind of what these have besides SHQ, and of generated ones.
+
+What follows from a file is asked of Konclude, and what follows from its translations of the program.
+`python3 -m tests.lost_by_kind COUNT [NAME..]`, in tools/, prints the table of docs/APPROXIMATION.md, of so many each.
+"""
+import sys
+from dataclasses import dataclass, field
+
+from shq_tools.answers import Plain, answer
+from shq_tools.approximation.new_names import is_new
+from shq_tools.approximation.text import approximation
+from shq_tools.approximation.translation import Strength
+from shq_tools.cut import cut
+from shq_tools.differences import pairs_of, said_of
+from tests import owl_domains, owl_kinds
+from tests.konclude import NOTHING, THING, NoAnswer, pairs, types
+from tests.program import run_program
+
+# Konclude answers a small ontology in a tenth of a second, or ends, or never answers.
+PATIENCE = {"trials": 1, "limit": 20}
+# The program takes some seconds for this.
+BUDGET = ("budget", "20000000")
+INCONSISTENT = {(THING, NOTHING)}
+WAYS = ("by cutting", "light", "full")
+
+
+def plain(found):
+    """The pairs of names of a file that say something: of a contradictory class one, that it is."""
+    contradictory = {one for one, other in found if other == NOTHING}
+    special = {THING, NOTHING}
+    kept = {it for it in found if it[0] not in contradictory | special and it[1] != THING}
+    kept = {it for it in kept if not is_new(it[0]) and not is_new(it[1])}
+    return kept | {(it, NOTHING) for it in contradictory - special if not is_new(it)}
+
+
+def by_konclude(data):
+    """The pairs of a class and one above it, and of an individual and its class, by Konclude. Raises `NoAnswer`."""
+    found = pairs(data, **PATIENCE)
+    return INCONSISTENT if (THING, NOTHING) in found else plain(found | types(data, **PATIENCE))
+
+
+def by_program(data):
+    """The same by the program. Raises `NoAnswer` where its budget is not enough."""
+    taxonomy, realization = (answer(run_program([job, *BUDGET], data)[0]) for job in ("classify", "realize"))
+    if Plain in (type(taxonomy), type(realization)):
+        raise NoAnswer
+    if not taxonomy.is_consistent:
+        return INCONSISTENT
+    said = said_of(taxonomy, realization)
+    return plain(pairs_of(said.superclasses) | pairs_of(said.types) | {(it, NOTHING) for it in said.contradictory})
+
+
+def lost_and_added(whole, part):
+    """The pairs that a part lacks, and those that it has too many. A contradictory class is below all others."""
+    def contradictory(found):
+        return {one for one, other in found if other == NOTHING}
+
+    if part == INCONSISTENT:
+        return set(), part - whole
+    if whole == INCONSISTENT:
+        return whole, set()
+    lost = {it for it in whole - part if it[0] not in contradictory(part)}
+    return lost, {it for it in part - whole if it[0] not in contradictory(whole)}
+
+
+@dataclass
+class Count:
+    """How many ontologies of a kind were asked about, and the pairs that they have, and lose in each way."""
+
+    ontologies: int = 0
+    unanswered: int = 0
+    pairs: int = 0
+    lost: dict = field(default_factory=lambda: dict.fromkeys(WAYS, 0))
+    # of ontologies without a model: how many there are, and of how many it is lost that they have none
+    inconsistent: int = 0
+    not_seen: dict = field(default_factory=lambda: dict.fromkeys(WAYS, 0))
+    # pairs that the whole file does not have, and pairs that are lost where nothing is said to be lost, with the seeds
+    wrong: list = field(default_factory=list)
+
+    def add(self, data, seed):
+        translations = [approximation(data, it) for it in (Strength.LIGHT, Strength.FULL)]
+        try:
+            whole = by_konclude(data)
+            parts = [by_program(it) for it in (cut(data)[0], *(found.data for found in translations))]
+        except NoAnswer:
+            self.unanswered += 1
+            return
+        self.ontologies += 1
+        self.inconsistent += whole == INCONSISTENT
+        self.pairs += len(whole - INCONSISTENT)
+        for way, part, is_exact in zip(WAYS, parts, (False, *(it.losses.is_exact for it in translations))):
+            self.compare(way, seed, *lost_and_added(whole, part), whole == INCONSISTENT, is_exact)
+
+    def compare(self, way, seed, lost, added, is_inconsistent, is_exact):
+        if is_inconsistent:
+            self.not_seen[way] += bool(lost)
+        else:
+            self.lost[way] += len(lost)
+        if added:
+            self.wrong.append((seed, way, "has too many", sorted(added)))
+        if lost and is_exact:
+            self.wrong.append((seed, way, "is said to lose nothing", sorted(lost)))
+
+
+def count_of(make, kind, seeds):
+    """The count of random or generated ontologies of a kind, made by `make(kind, seed)`."""
+    found = Count()
+    for seed in seeds:
+        found.add(make(kind, seed).encode("utf-8"), seed)
+    return found
+
+
+def row(kind, found):
+    """A line of the table."""
+    of_pairs = " | ".join(f"{found.lost[it]:,}" for it in WAYS)
+    of_models = " | ".join(f"{found.not_seen[it]}" for it in WAYS)
+    return f"| {kind} | {found.ontologies} | {found.pairs:,} | {of_pairs} | {found.inconsistent} | {of_models} |"
+
+
+# What makes the ontologies of a kind, and of a domain.
+MAKERS = dict.fromkeys(owl_kinds.KINDS, owl_kinds.ontology)
+MAKERS.update(dict.fromkeys(owl_domains.DOMAINS, owl_domains.ontology))
+
+
+def main(count, names):
+    """Prints the lines of the table for some kinds and domains, or for all."""
+    for name in names or MAKERS:
+        counted = count_of(MAKERS[name], name, range(int(count)))
+        print(row(name, counted), flush=True)
+        print(f"{name}: {counted.unanswered} without an answer", *counted.wrong, sep="\n", file=sys.stderr, flush=True)
+
+
+if __name__ == "__main__":
+    main(sys.argv[1], sys.argv[2:])
