@@ -4,7 +4,7 @@ use Rattle.std.proofs.Common.{refl, ap, ◌∙◌, sym, subst, arith, inl, inr, 
 use Rattle.std.proofs.lemmas.List.{append-nil, get_or_push}
 use Rattle.std.proofs.lemmas.List.Elements.{All-weaker}
 use Rattle.std.proofs.lemmas.Bool.{cases_Bool, cases_lt, eqb-true}
-use Rattle.calculus_specs.specs.Concept.{Concept, name}
+use Rattle.calculus_specs.specs.Concept.{Concept, top as concept_top, name, complement}
 use Rattle.calculus_specs.specs.Rules.{Question}
 use Rattle.calculus_specs.specs.Normal.{normal_form}
 use Rattle.calculus_specs.specs.Shape.{Shape, shape_of, IsTable}
@@ -19,11 +19,12 @@ use Rattle.tableau_specs.specs.Steps.{IsSaturated}
 use Rattle.tableau_specs.specs.Reached.{FactsHaveNumbers, start, context_of}
 use Rattle.tableau_specs.proofs.Listed.{listed}
 use Rattle.search_laws.specs.Runs.{IsRun, LeavesOut}
-use Rattle.search_laws.specs.ReuseLaws.{EndsSaturated, IsUnnamed, with_sup, OneRunAnswersMore}
+use Rattle.search_laws.specs.ReuseLaws.{EndsSaturated, with_sup, OneRunAnswersMore}
 use Rattle.search_laws.proofs.LongerGiven.{facts_up}
-use Rattle.search_laws.proofs.ReuseSetting.{short}
+use Rattle.search_laws.proofs.ReuseSetting.{short, IsSetting}
+use Rattle.tableau_specs.specs.Items.{facts_of}
 use Rattle.search_laws.proofs.Stepping.{saturated}
-use Rattle.search_laws.proofs.Running.{followed, setting}
+use Rattle.search_laws.proofs.Running.{leaves_out_before, followed, unnamed_setting}
 
 -- ---- the number of the complement
 
@@ -57,6 +58,17 @@ complement_below table a (suc bound) = elim (cases_Bool (is_complement_of a (sha
   ]
 ]
 
+-- the number of the complement of a class stands for it
+pub complement_tree : (table : List Shape) → IsTable table → (n a : ℕ) → shape_of table n ≡ not_name a
+    → tree_of table n ≡ complement (name a)
+complement_tree table good n a sh =
+    shape_tree table good n (listed table n (λ k. (let l = sym sh ∙ k in cc))) ∙ ap (tree_over (trees_of table)) sh
+
+-- number 0 stands for top
+pub zero_tree : (table : List Shape) → IsTable table → tree_of table 0 ≡ concept_top
+zero_tree table good =
+    shape_tree table good 0 good.has_top ∙ ap (tree_over (trees_of table)) good.begins_with_top
+
 row_up : (theory : Theory) (table more : List Shape) (row : Row) → IsRowOf theory table row
     → IsRowOf theory (table ++ more) row
 row_up theory table more row h = record {
@@ -74,15 +86,21 @@ choice_up theory table more rows h = record {
   each_once = h.each_once;
 }
 
--- ---- the law
+-- ---- the end of the other run
 
-module _ (q : Question) (table : List Shape) (rows : List Row) (number a : ℕ) (trail : List Item)
-    (earlier : List (List Item)) (good : IsTable table)
+module _ (q : Question) (table : List Shape) (rows : List Row) (home number a : ℕ) (good : IsTable table)
     (fits : IsChoice q.theory table rows) (have : FactsHaveNumbers q table) (is_first : q.at < q.first)
-    (unnamed : IsUnnamed q)
     (number_listed : number < length table) (number_reads : tree_of table number ≡ normal_form q.sub)
-    (run : IsRun (context_of q table rows) (start q.at number 0) (trail ∷ earlier))
-    (sat : IsSaturated (context_of q table rows) trail) (out : LeavesOut q.at table (trail ∷ earlier) a) where
+    (Leaves : List (List Item) → Type 0)
+    (out : (run : List (List Item)) → Leaves run → LeavesOut q.at table run a)
+    (shorter : (trail : List Item) (earlier : List (List Item)) → Leaves (trail ∷ earlier) → Leaves earlier)
+    (set_of : (more : List Shape) (n : ℕ) → IsTable (table ++ more) → shape_of (table ++ more) n ≡ not_name a
+    → (rest : List Item) (earlier : List (List Item))
+    → IsRun (context_of q table rows) (start home number 0) ((start home number 0 ++ rest) ∷ earlier)
+    → Leaves ((start home number 0 ++ rest) ∷ earlier) → IsSetting q table more home number n a (facts_of rest))
+    (trail : List Item) (earlier : List (List Item))
+    (run : IsRun (context_of q table rows) (start home number 0) (trail ∷ earlier))
+    (sat : IsSaturated (context_of q table rows) trail) (h : Leaves (trail ∷ earlier)) where
   -- over the table, or one that has grown
   answers : (more : List Shape) (n : ℕ) → IsTable (table ++ more)
       → (table ++ more ≡ table) ⊎ (table ++ more ≡ table ++ not_name a ∷ [])
@@ -90,12 +108,13 @@ module _ (q : Question) (table : List Shape) (rows : List Row) (number a : ℕ) 
       → EndsSaturated table rows a (with_sup q (name a)) (length earlier)
   answers more n longer is_longer shape_n =
       let f =
-      followed q table more rows good fits n a shape_n is_first unnamed number number_listed trail earlier run out in
+      followed q table more rows good fits n a shape_n home number number_listed Leaves out shorter
+      (set_of more n longer shape_n) trail earlier run h in
       let w = short q table more rows in
       let set =
-      setting q table more rows good fits n a shape_n is_first unnamed number number_listed f.rest earlier
-      (subst (λ (is : List Item). IsRun w (start q.at number 0) (is ∷ earlier)) f.splits run)
-      (subst (λ (is : List Item). LeavesOut q.at table (is ∷ earlier) a) f.splits out) in
+      set_of more n longer shape_n f.rest earlier
+      (subst (λ (is : List Item). IsRun w (start home number 0) (is ∷ earlier)) f.splits run)
+      (subst (λ (is : List Item). Leaves (is ∷ earlier)) f.splits h) in
       let n_listed : n < length (table ++ more) = listed (table ++ more) n (λ k. (let l = sym shape_n ∙ k in cc)) in
       record {
         longer = table ++ more;
@@ -111,16 +130,15 @@ module _ (q : Question) (table : List Shape) (rows : List Row) (number a : ℕ) 
           sub_reads = tree_of-append table more number number_listed ∙ number_reads;
           not_sup_number = n;
           not_sup_listed = n_listed;
-          not_sup_reads =
-              shape_tree (table ++ more) longer n n_listed ∙ ap (tree_over (trees_of (table ++ more))) shape_n;
+          not_sup_reads = complement_tree (table ++ more) longer n a shape_n;
           follows = f.follows;
         };
         is_saturated =
-            saturated q table more rows good n a shape_n unnamed number f.rest set longer have
+            saturated q table more rows good n a shape_n home number f.rest set longer have
             (subst (IsSaturated w) f.splits sat);
       }
 
-  answered : EndsSaturated table rows a (with_sup q (name a)) (length earlier)
+  pub answered : EndsSaturated table rows a (with_sup q (name a)) (length earlier)
   answered = elim (complement_below table a (length table)) [
     | inl found ↦
         answers [] found.0 (subst IsTable (sym (append-nil table)) good) (inl (append-nil table))
@@ -131,7 +149,12 @@ module _ (q : Question) (table : List Shape) (rows : List Row) (number a : ℕ) 
         (get_or_push table (not_name a) top (length table) refl)
   ]
 
+-- ---- the law
+
 pub one_run_answers_more : OneRunAnswersMore
 one_run_answers_more q table rows number k a trail earlier good fits have is_first unnamed lt reads run steps sat out =
     subst (EndsSaturated table rows a (with_sup q (name a))) steps
-    (answered q table rows number a trail earlier good fits have is_first unnamed lt reads run sat out)
+    (answered q table rows q.at number a good fits have is_first lt reads (λ r. LeavesOut q.at table r a) (λ r h. h)
+    (λ t e h. leaves_out_before q.at table a t e h)
+    (λ more n longer shape_n. unnamed_setting q table more rows good fits n a shape_n number lt is_first unnamed) trail
+    earlier run sat out)

@@ -1,10 +1,10 @@
 -- Blocks where the node in question has two concepts from the start: only nodes with a label inside it have others.
 use Rattle.std.proofs.Common.{◌≡◌, ℕ, zero, suc, ◌+◌, ◌<◌, ◌≤◌, ◌&&◌, ◌||◌, ◌⊎◌, eqb, ltb, cond, Bool, true, false}
-use Rattle.std.proofs.Common.{List, [], ◌∷◌, Option, Some, None, refl, ap, ◌∙◌, sym, subst, arith, inl, inr}
+use Rattle.std.proofs.Common.{List, ◌∷◌, Option, Some, None, refl, ap, ◌∙◌, sym, subst, arith, inl, inr}
 use Rattle.std.proofs.Common.{eq-eqb, lt-ltb}
 use Rattle.std.specs.Prelude.{slice_index_or}
-use Rattle.std.specs.List.{list_any, list_all}
-use Rattle.std.proofs.lemmas.Bool.{eqb-true, or_cases, cases_Bool, cases_lt, and_parts, and_from, or_left, or_right}
+use Rattle.std.specs.List.{list_all}
+use Rattle.std.proofs.lemmas.Bool.{eqb-true, cases_Bool, cases_lt, or_left, or_right}
 use Rattle.std.proofs.lemmas.Bool.{false_from_ne_true}
 use Rattle.calculus_specs.specs.declared.facts.Fact.{Fact}
 use Rattle.calculus_specs.specs.Joins.{rep}
@@ -17,37 +17,13 @@ use Rattle.tableau_specs.specs.Blocked.{block_of}
 use Rattle.tableau_specs.proofs.Blocks.{get_or-blocks_to}
 use Rattle.search_laws.specs.BeginningLaws.{is_inside, ParentsHaveMore}
 use Rattle.search_laws.proofs.First.{rep-rep}
+use Rattle.search_laws.proofs.LabelParts.{all_from, one_of, part_each}
 use Rattle.search_laws.proofs.FullerStart.{bare_facts, full_facts, has_cases, has_other, label_other}
 
 -- ---- labels inside the start
 
 abbrev pub is_of_start : ℕ → ℕ → ℕ → Bool
 is_of_start a b c = eqb c 0 || eqb c a || eqb c b
-
--- all members pass where each one does
-all_from : (p : ℕ → Bool) (cs : List ℕ) → ((c : ℕ) → list_any (λ d. eqb d c) cs ≡ true → p c ≡ true)
-    → list_all p cs ≡ true
-all_from p [] each = refl
-all_from p (c ∷ cs) each =
-    and_from (p c) (list_all p cs) (each c (or_left (eqb c c) (list_any (λ d. eqb d c) cs) (eq-eqb c c refl)))
-    (all_from p cs (λ d h. each d (or_right (eqb c d) (list_any (λ e. eqb e d) cs) h)))
-
-one_of : (p : ℕ → Bool) (cs : List ℕ) (c : ℕ) → list_all p cs ≡ true → list_any (λ d. eqb d c) cs ≡ true → p c ≡ true
-one_of p [] c h m = cc
-one_of p (d ∷ cs) c h m =
-    let t = and_parts (p d) (list_all p cs) h in
-    elim (or_cases (eqb d c) (list_any (λ e. eqb e c) cs) m) [
-      | inl here ↦ subst (λ (e : ℕ). p e ≡ true) (eqb-true d c here) t.0
-      | inr later ↦ one_of p cs c t.1 later
-    ]
-
--- each concept of a label is had, and each that is had is one of the label
-part_each : (fs : List (Fact ℕ)) (x z c : ℕ) → is_label_part fs x z ≡ true → has fs x c ≡ true → has fs z c ≡ true
-part_each fs x z c part held = one_of (has fs z) (label fs x) c part (any-label fs x c ∙ held)
-
-part_from : (fs : List (Fact ℕ)) (x z : ℕ) → ((c : ℕ) → has fs x c ≡ true → has fs z c ≡ true)
-    → is_label_part fs x z ≡ true
-part_from fs x z each = all_from (has fs z) (label fs x) (λ c m. each c (sym (any-label fs x c) ∙ m))
 
 pub inside_each : (a b : ℕ) (fs : List (Fact ℕ)) (x c : ℕ) → is_inside a b fs x ≡ true → has fs x c ≡ true
     → is_of_start a b c ≡ true

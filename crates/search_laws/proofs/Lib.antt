@@ -57,3 +57,5 @@ pub mod LongerShapes
 pub mod FullerSteps
 pub mod Beginning
 pub mod ParentsAsk
+pub mod LabelParts
+pub mod Individuals

@@ -28,13 +28,13 @@ min_other : (b c at : ℕ) → ¬ (b ≡ at) → ¬ (c ≡ at) → ¬ (min b c �
 min_other b c at nb nc e = grind (arith, nb, nc, e)
 
 -- where neither of the joined ones is the node, the node alone stays it
-merged_root : (b c p at : ℕ) → ¬ (b ≡ at) → ¬ (c ≡ at) → merged b c p ≡ at → p ≡ at
+pub merged_root : (b c p at : ℕ) → ¬ (b ≡ at) → ¬ (c ≡ at) → merged b c p ≡ at → p ≡ at
 merged_root b c p at nb nc h = elim (cases_Bool (eqb p b || eqb p c)) [
   | inl hit ↦ absurd (min_other b c at nb nc (sym (ap (λ (t : Bool). cond t (min b c) p) hit) ∙ h))
   | inr miss ↦ sym (ap (λ (t : Bool). cond t (min b c) p) miss) ∙ h
 ]
 
-merged_stays : (b c at : ℕ) → ¬ (b ≡ at) → ¬ (c ≡ at) → merged b c at ≡ at
+pub merged_stays : (b c at : ℕ) → ¬ (b ≡ at) → ¬ (c ≡ at) → merged b c at ≡ at
 merged_stays b c at nb nc =
     ap (λ (t : Bool). cond (t || eqb at c) (min b c) at) (ne_eqb at b (λ e. nb (sym e)))
     ∙ ap (λ (t : Bool). cond t (min b c) at) (ne_eqb at c (λ e. nc (sym e)))

@@ -1,6 +1,6 @@
 -- A whole run.
 use Rattle.std.proofs.Common.{◌≡◌, ℕ, suc, ◌<◌, ◌&&◌, eqb, ltb, Bool, true, false, List, [], ◌∷◌, ◌++◌, length, refl}
-use Rattle.std.proofs.Common.{ap, ◌∙◌, sym, subst, arith, inl, inr, eq-eqb}
+use Rattle.std.proofs.Common.{ap, ◌∙◌, sym, subst, arith, inl, inr, eq-eqb, Contains}
 use Rattle.std.specs.List.{list_any, All}
 use Rattle.std.proofs.lemmas.List.{get_or_append_left}
 use Rattle.std.proofs.lemmas.Bool.{cases_Bool, or_cases, or_left, or_right, and_parts, and_from, eqb-true, ltb-true}
@@ -15,13 +15,13 @@ use Rattle.calculus_specs.specs.Reading.{are_listed}
 use Rattle.calculus_specs.specs.State.{gives_concept, has}
 use Rattle.tableau_specs.specs.declared.Item.{Item}
 use Rattle.tableau_specs.specs.Items.{facts_of}
-use Rattle.tableau_specs.specs.Steps.{IsGiven, IsLegal}
+use Rattle.tableau_specs.specs.Steps.{IsLegal}
 use Rattle.tableau_specs.specs.Reached.{start, Follows}
 use Rattle.tableau_specs.proofs.Listed.{ItemListed, facts_listed, follows_listed, start_listed, disjunct_listed}
 use Rattle.tableau_specs.proofs.Reached.{reached_built}
 use Rattle.search_laws.specs.Runs.{IsRun, was_ever, puts, puts_at, LeavesOut}
 use Rattle.search_laws.specs.ReuseLaws.{IsUnnamed}
-use Rattle.search_laws.proofs.Root.{Avoids, IsRooted, built_rooted, end_is_other}
+use Rattle.search_laws.proofs.Root.{IsRooted, built_rooted, end_is_other}
 use Rattle.search_laws.proofs.LongerGiven.{given_avoids}
 use Rattle.search_laws.proofs.Turned.{old_facts, has_listed}
 use Rattle.search_laws.proofs.ReuseSetting.{short, long, IsSetting}
@@ -68,7 +68,8 @@ given_puts c m at (Edge r y z ∷ fs) h = given_puts c m at fs h
 given_puts c m at (Apart y z ∷ fs) h = given_puts c m at fs h
 given_puts c m at (Same y z ∷ fs) h = given_puts c m at fs h
 
-pub given_there : (node c : ℕ) (m : ℕ → ℕ) (at : ℕ) → at ≡ node → ((y : ℕ) → m y ≡ node → y ≡ node) → (fs : List (Fact ℕ))
+pub given_there : (node c : ℕ) (m : ℕ → ℕ) (at : ℕ) → at ≡ node → ((y : ℕ) → m y ≡ node → y ≡ node)
+    → (fs : List (Fact ℕ))
     → list_any (gives_concept (λ d. eqb d c) m at) fs ≡ true
     → list_any (puts_at node c) fs ≡ true
 given_there node c m at there alone [] h = cc
@@ -101,113 +102,154 @@ puts_listed bound c (Same y z ∷ fs) h g = puts_listed bound c fs h g
 
 module _ (q : Question) (table more : List Shape) (rows : List Row) (good : IsTable table)
     (fits : IsChoice q.theory table rows) (n a : ℕ) (shape_n : shape_of (table ++ more) n ≡ not_name a)
-    (is_first : q.at < q.first) (unnamed : IsUnnamed q) (sub : ℕ) (sub_listed : sub < length table) where
-  is_complement : n < length table → shape_of table n ≡ not_name a
+    (home sub : ℕ) (sub_listed : sub < length table) where
+  pub is_complement : n < length table → shape_of table n ≡ not_name a
   is_complement lt = sym (get_or_append_left table more top n lt) ∙ shape_n
 
-  items_listed : (trail : List Item) (earlier : List (List Item))
-      → IsRun (short q table more rows) (start q.at sub 0) (trail ∷ earlier) → All (ItemListed (length table)) trail
+  pub items_listed : (trail : List Item) (earlier : List (List Item))
+      → IsRun (short q table more rows) (start home sub 0) (trail ∷ earlier) → All (ItemListed (length table)) trail
   items_listed trail earlier r =
-      follows_listed q table rows good fits (start q.at sub 0) (length earlier) trail
-      (start_listed (length table) q.at sub 0 sub_listed good.has_top)
-      (run_follows q table more rows (start q.at sub 0) trail earlier r)
+      follows_listed q table rows good fits (start home sub 0) (length earlier) trail
+      (start_listed (length table) home sub 0 sub_listed good.has_top)
+      (run_follows q table more rows (start home sub 0) trail earlier r)
 
-  never_put : (trail : List Item) (earlier : List (List Item)) → All (ItemListed (length table)) trail
-      → LeavesOut q.at table (trail ∷ earlier) a → list_any (puts n) (facts_of trail) ≡ false
-  never_put trail earlier items h = elim (cases_Bool (list_any (puts n) (facts_of trail))) [
+  never_put : (at : ℕ) (trail : List Item) (earlier : List (List Item)) → All (ItemListed (length table)) trail
+      → LeavesOut at table (trail ∷ earlier) a → list_any (puts n) (facts_of trail) ≡ false
+  never_put at trail earlier items h = elim (cases_Bool (list_any (puts n) (facts_of trail))) [
     | inr none ↦ none
     | inl there ↦
         let lt = puts_listed (length table) n (facts_of trail) (facts_listed (length table) trail items) there in
         absurd (h.complement_is_never_put n (ever_now (puts n) trail earlier there) (is_complement lt))
   ]
 
+  pub not_top : (c : ℕ) (s : Shape) → ¬ (top ≡ s) → shape_of table c ≡ s → ¬ (c ≡ 0)
+  not_top c s ne sh e = ne (sym good.begins_with_top ∙ ap (shape_of table) (sym e) ∙ sh)
+
+  -- a trail of the run, in which the node in question is joined to no other
   module _ (rest : List Item) (earlier : List (List Item))
-      (run : IsRun (short q table more rows) (start q.at sub 0) ((start q.at sub 0 ++ rest) ∷ earlier))
-      (h : LeavesOut q.at table ((start q.at sub 0 ++ rest) ∷ earlier) a) where
+      (run : IsRun (short q table more rows) (start home sub 0) ((start home sub 0 ++ rest) ∷ earlier))
+      (h : LeavesOut q.at table ((start home sub 0 ++ rest) ∷ earlier) a) where
     abbrev now : List (Fact ℕ)
-    now = old_facts q.at sub n (facts_of rest)
+    now = old_facts home q.at sub n (facts_of rest)
 
-    items : All (ItemListed (length table)) (start q.at sub 0 ++ rest)
-    items = items_listed (start q.at sub 0 ++ rest) earlier run
+    items : All (ItemListed (length table)) (start home sub 0 ++ rest)
+    items = items_listed (start home sub 0 ++ rest) earlier run
 
-    known : are_listed (length table) now ≡ true
-    known = facts_listed (length table) (start q.at sub 0 ++ rest) items
+    pub now_listed : are_listed (length table) now ≡ true
+    now_listed = facts_listed (length table) (start home sub 0 ++ rest) items
 
-    avoided : (f : Fact ℕ) → IsGiven (short q table more rows) f → Avoids q.at f
-    avoided = given_avoids q table rows unnamed
-
-    rooted : IsRooted (short q table more rows) q.at is_first avoided now
-    rooted = built_rooted (short q table more rows) q.at is_first avoided (start q.at sub 0 ++ rest)
-        (reached_built (short q table more rows) q.at sub 0 (length earlier) (start q.at sub 0 ++ rest) is_first
-        (run_follows q table more rows (start q.at sub 0) (start q.at sub 0 ++ rest) earlier run))
-
-    not_top : (c : ℕ) (s : Shape) → ¬ (top ≡ s) → shape_of table c ≡ s → ¬ (c ≡ 0)
-    not_top c s ne sh e = ne (sym good.begins_with_top ∙ ap (shape_of table) (sym e) ∙ sh)
-
-    put_there : (c : ℕ) → ¬ (c ≡ 0) → has now q.at c ≡ true
-        → was_ever (puts_at q.at c) ((start q.at sub 0 ++ rest) ∷ earlier) ≡ true
-    put_there c other held =
-        elim (or_cases (eqb c 0) (list_any (gives_concept (λ d. eqb d c) (rep now) (rep now q.at)) now) held) [
+    -- what a node has, but for top, was put
+    pub was_put : (x c : ℕ) → ¬ (c ≡ 0) → has now x c ≡ true
+        → was_ever (puts c) ((start home sub 0 ++ rest) ∷ earlier) ≡ true
+    was_put x c other held =
+        elim (or_cases (eqb c 0) (list_any (gives_concept (λ d. eqb d c) (rep now) (rep now x)) now) held) [
           | inl z ↦ absurd (other (eqb-true c 0 z))
           | inr given ↦
-              ever_now (puts_at q.at c) (start q.at sub 0 ++ rest) earlier
-              (given_there q.at c (rep now) (rep now q.at) rooted.stays rooted.alone now given)
+              ever_now (puts c) (start home sub 0 ++ rest) earlier (given_puts c (rep now) (rep now x) now given)
         ]
 
-    none_has : (x : ℕ) → has now x n ≡ false
+    pub none_has : (x : ℕ) → has now x n ≡ false
     none_has x = elim (cases_Bool (has now x n)) [
       | inr none ↦ none
       | inl held ↦
-          let lt = has_listed (length table) now good.has_top known x n held in
+          let lt = has_listed (length table) now good.has_top now_listed x n held in
           elim (or_cases (eqb n 0) (list_any (gives_concept (λ d. eqb d n) (rep now) (rep now x)) now) held) [
             | inl z ↦ absurd (not_top n (not_name a) (λ k. cc) (is_complement lt) (eqb-true n 0 z))
             | inr given ↦
                 (let put = given_puts n (rep now) (rep now x) now given in
-                let none = never_put (start q.at sub 0 ++ rest) earlier items h in cc)
+                let none = never_put q.at (start home sub 0 ++ rest) earlier items h in cc)
           ]
     ]
 
-    pub setting : IsSetting q table sub n a (facts_of rest)
-    setting = record {
-      known = known;
-      ends = end_is_other (short q table more rows) q.at is_first avoided now rooted;
-      alone = rooted.alone;
-      stays = rooted.stays;
-      is_first = is_first;
-      lacks_class = λ c held sh. h.class_is_not_there c (put_there c (not_top c (name_shape a) (λ k. cc) sh) held) sh;
-      no_part = λ c parts held sh part.
+    module _ (stays : rep now q.at ≡ q.at) (alone : (x : ℕ) → rep now x ≡ q.at → x ≡ q.at) where
+      put_there : (c : ℕ) → ¬ (c ≡ 0) → has now q.at c ≡ true
+          → was_ever (puts_at q.at c) ((start home sub 0 ++ rest) ∷ earlier) ≡ true
+      put_there c other held =
+          elim (or_cases (eqb c 0) (list_any (gives_concept (λ d. eqb d c) (rep now) (rep now q.at)) now) held) [
+            | inl z ↦ absurd (other (eqb-true c 0 z))
+            | inr given ↦
+                ever_now (puts_at q.at c) (start home sub 0 ++ rest) earlier
+                (given_there q.at c (rep now) (rep now q.at) stays alone now given)
+          ]
+
+      pub lacks_class : (c : ℕ) → has now q.at c ≡ true → ¬ (shape_of table c ≡ name_shape a)
+      lacks_class c held sh = h.class_is_not_there c (put_there c (not_top c (name_shape a) (λ k. cc) sh) held) sh
+
+      pub no_part : (c : ℕ) (parts : List ℕ) → has now q.at c ≡ true → shape_of table c ≡ union parts
+          → ¬ Contains parts n
+      no_part c parts held sh part =
           h.unions_there_lack_complement c n parts (put_there c (not_top c (union parts) (λ k. cc) sh) held) sh part
-          (is_complement (disjunct_listed (short q table more rows) good c n parts sh part));
-      none = none_has;
-    }
+          (is_complement (disjunct_listed (short q table more rows) good c n parts sh part))
+
+  -- ---- the other run
 
   -- the trail goes on from the start, and the other search follows with the same rest
   pub record IsFollowed (k : ℕ) (trail : List Item) : Type 0 where
     pub rest : List Item
-    pub splits : trail ≡ start q.at sub 0 ++ rest
+    pub splits : trail ≡ start home sub 0 ++ rest
     pub follows : Follows (long q table more rows) (start q.at sub n) k (start q.at sub n ++ rest)
 
-  one_more : (k : ℕ) (before trail : List Item) (earlier : List (List Item)) → IsFollowed k before
-      → IsRun (short q table more rows) (start q.at sub 0) (trail ∷ before ∷ earlier)
-      → LeavesOut q.at table (trail ∷ before ∷ earlier) a → IsFollowed (suc k) trail
-  one_more k before trail earlier f run h =
-      let again : IsRun (short q table more rows) (start q.at sub 0) ((start q.at sub 0 ++ f.rest) ∷ earlier) =
-      subst (λ (is : List Item). IsRun (short q table more rows) (start q.at sub 0) (is ∷ earlier)) f.splits run.1 in
-      let out =
-      subst (λ (is : List Item). LeavesOut q.at table (is ∷ earlier) a) f.splits
-      (leaves_out_before q.at table a trail (before ∷ earlier) h) in
-      let set = setting f.rest earlier again out in
-      let legal = subst (λ (is : List Item). IsLegal (short q table more rows) is trail) f.splits run.0 in
-      let t =
-      turned q table more rows good n a shape_n unnamed sub f.rest set trail
-      (items_listed (start q.at sub 0 ++ f.rest) earlier again) fits
-      (never_put trail (before ∷ earlier) (items_listed trail (before ∷ earlier) run) h) legal in
-      record { rest = t.further; splits = t.splits; follows = (start q.at sub n ++ f.rest, f.follows, t.is_legal) }
+  module _ (Leaves : List (List Item) → Type 0)
+      (out : (run : List (List Item)) → Leaves run → LeavesOut q.at table run a)
+      (shorter : (trail : List Item) (earlier : List (List Item)) → Leaves (trail ∷ earlier) → Leaves earlier)
+      (set_of : (rest : List Item) (earlier : List (List Item))
+      → IsRun (short q table more rows) (start home sub 0) ((start home sub 0 ++ rest) ∷ earlier)
+      → Leaves ((start home sub 0 ++ rest) ∷ earlier) → IsSetting q table more home sub n a (facts_of rest)) where
+    one_more : (k : ℕ) (before trail : List Item) (earlier : List (List Item)) → IsFollowed k before
+        → IsRun (short q table more rows) (start home sub 0) (trail ∷ before ∷ earlier)
+        → Leaves (trail ∷ before ∷ earlier) → IsFollowed (suc k) trail
+    one_more k before trail earlier f run h =
+        let again : IsRun (short q table more rows) (start home sub 0) ((start home sub 0 ++ f.rest) ∷ earlier) =
+        subst (λ (is : List Item). IsRun (short q table more rows) (start home sub 0) (is ∷ earlier)) f.splits run.1 in
+        let left : Leaves ((start home sub 0 ++ f.rest) ∷ earlier) =
+        subst (λ (is : List Item). Leaves (is ∷ earlier)) f.splits (shorter trail (before ∷ earlier) h) in
+        let legal = subst (λ (is : List Item). IsLegal (short q table more rows) is trail) f.splits run.0 in
+        let t =
+        turned q table more rows good n a shape_n home sub f.rest (set_of f.rest earlier again left) trail
+        (items_listed (start home sub 0 ++ f.rest) earlier again) fits
+        (never_put q.at trail (before ∷ earlier) (items_listed trail (before ∷ earlier) run)
+        (out (trail ∷ before ∷ earlier) h)) legal in
+        record { rest = t.further; splits = t.splits; follows = (start q.at sub n ++ f.rest, f.follows, t.is_legal) }
 
-  pub followed : (trail : List Item) (earlier : List (List Item))
-      → IsRun (short q table more rows) (start q.at sub 0) (trail ∷ earlier) → LeavesOut q.at table (trail ∷ earlier) a
-      → IsFollowed (length earlier) trail
-  followed trail [] run h = record { rest = []; splits = run; follows = refl }
-  followed trail (before ∷ earlier) run h =
-      one_more (length earlier) before trail earlier
-      (followed before earlier run.1 (leaves_out_before q.at table a trail (before ∷ earlier) h)) run h
+    pub followed : (trail : List Item) (earlier : List (List Item))
+        → IsRun (short q table more rows) (start home sub 0) (trail ∷ earlier) → Leaves (trail ∷ earlier)
+        → IsFollowed (length earlier) trail
+    followed trail [] run h = record { rest = []; splits = run; follows = refl }
+    followed trail (before ∷ earlier) run h =
+        one_more (length earlier) before trail earlier
+        (followed before earlier run.1 (shorter trail (before ∷ earlier) h)) run h
+
+-- ---- where no axiom speaks of the node in question
+
+module _ (q : Question) (table more : List Shape) (rows : List Row) (good : IsTable table)
+    (fits : IsChoice q.theory table rows) (n a : ℕ) (shape_n : shape_of (table ++ more) n ≡ not_name a)
+    (sub : ℕ) (sub_listed : sub < length table) (is_first : q.at < q.first) (unnamed : IsUnnamed q) where
+  pub unnamed_setting : (rest : List Item) (earlier : List (List Item))
+      → IsRun (short q table more rows) (start q.at sub 0) ((start q.at sub 0 ++ rest) ∷ earlier)
+      → LeavesOut q.at table ((start q.at sub 0 ++ rest) ∷ earlier) a
+      → IsSetting q table more q.at sub n a (facts_of rest)
+  unnamed_setting rest earlier run h =
+      let now : List (Fact ℕ) = old_facts q.at q.at sub n (facts_of rest) in
+      let w = short q table more rows in
+      let avoided = given_avoids q table rows unnamed in
+      let rooted : IsRooted w q.at is_first avoided now =
+      built_rooted w q.at is_first avoided (start q.at sub 0 ++ rest)
+      (reached_built w q.at sub 0 (length earlier) (start q.at sub 0 ++ rest) is_first
+      (run_follows q table more rows (start q.at sub 0) (start q.at sub 0 ++ rest) earlier run)) in
+      let ends = end_is_other w q.at is_first avoided now rooted in
+      record {
+        known = now_listed q table more rows good fits n a shape_n q.at sub sub_listed rest earlier run h;
+        moves = inl refl;
+        fillers = λ x c s e held is y edge root. ends (λ r. q.theory.below r s) x y edge root.0;
+        complements = λ x c m s e d held sh neg y edge root. ends (λ r. q.theory.below r s) x y edge root.0;
+        alone = rooted.alone;
+        stays = rooted.stays;
+        is_first = is_first;
+        lacks_class =
+            lacks_class q table more rows good fits n a shape_n q.at sub sub_listed rest earlier run h rooted.stays
+            rooted.alone;
+        no_part =
+            no_part q table more rows good fits n a shape_n q.at sub sub_listed rest earlier run h rooted.stays
+            rooted.alone;
+        none = none_has q table more rows good fits n a shape_n q.at sub sub_listed rest earlier run h;
+      }

@@ -3,14 +3,14 @@ use Rattle.std.proofs.Common.{◌≡◌, ℕ, zero, suc, ◌+◌, ◌<◌, ◌&&
 use Rattle.std.proofs.Common.{◌∷◌, ◌++◌, refl, ap, ◌∙◌, sym, subst, arith, inl, inr, eq-eqb, lt-ltb}
 use Rattle.std.specs.Prelude.{slice_index_or}
 use Rattle.std.specs.List.{list_any, list_all}
-use Rattle.std.proofs.lemmas.Bool.{eqb-true, ltb-true, or_cases, cases_Bool, and_parts, or_left, ne_eqb}
+use Rattle.std.proofs.lemmas.Bool.{eqb-true, ltb-true, or_cases, cases_Bool, and_parts, or_left}
 use Rattle.std.proofs.Math.Bool.{or-false, or_comm}
 use Rattle.calculus_specs.specs.declared.facts.Fact.{Fact}
 use Rattle.calculus_specs.specs.declared.facts.Fact.TheVariants.{Has, Edge, Apart, Same}
 use Rattle.calculus_specs.specs.Joins.{rep}
 use Rattle.calculus_specs.specs.State.{parent_from, gives_concept, has, has_edge, concepts_at, label, is_label_part}
 use Rattle.calculus_specs.specs.Reading.{are_listed}
-use Rattle.calculus_specs.proofs.State.{eqb-comm, any-label}
+use Rattle.calculus_specs.proofs.State.{eqb-comm}
 use Rattle.tableau_specs.specs.declared.Block.{Block}
 use Rattle.tableau_specs.specs.declared.Block.TheVariants.{Clear, By, Under}
 use Rattle.tableau_specs.specs.Blocked.{is_clear, is_parent_clear, may_block, blocked_from, block_at, blocks_to}
@@ -18,6 +18,7 @@ use Rattle.tableau_specs.specs.Blocked.{block_of}
 use Rattle.tableau_specs.specs.Clash.{is_filled_successor, filled_successors}
 use Rattle.tableau_specs.proofs.After.{IsAlike, filled_alike}
 use Rattle.tableau_specs.proofs.PlainClash.{successor_has_edge}
+use Rattle.search_laws.proofs.LabelParts.{part_each, part_from}
 
 -- ---- tests
 
@@ -27,6 +28,28 @@ moved true t a s m r h = refl
 moved false t true true m r h = refl
 moved false t false s m r h = sym (or-false r)
 moved false t true false m r h = or_comm m r ∙ ap (λ (b : Bool). (b || r) || m) (sym (h refl))
+
+-- the same where the concept at the end is given at another node, and the others give nothing
+moved_away : (z a b s t m r : Bool) → (z ≡ false → s ≡ false) → (z ≡ false → t ≡ false)
+    → (z || ((a && s) || ((a && m) || r))) ≡ ((z || ((b && s) || ((b && t) || r))) || (a && m))
+moved_away true a b s t m r h k = refl
+moved_away false a b true t m r h k = absurd (let e = h refl in cc)
+moved_away false a b false true m r h k = absurd (let e = k refl in cc)
+moved_away false true true false false m r h k = or_comm m r
+moved_away false true false false false m r h k = or_comm m r
+moved_away false false true false false m r h k = sym (or-false r)
+moved_away false false false false false m r h k = sym (or-false r)
+
+same_if : (s t : Bool) → (s ≡ true → t ≡ true) → (t ≡ true → s ≡ true) → s ≡ t
+same_if true t f g = sym (f refl)
+same_if false true f g = g refl
+same_if false false f g = refl
+
+-- concepts that a test does not pass change nothing
+front : (p : ℕ → Bool) (t : Bool) (u v : ℕ) (cs : List ℕ) → p u ≡ false → p v ≡ false
+    → list_any p (cond t (u ∷ cond t (v ∷ cs) cs) (cond t (v ∷ cs) cs)) ≡ list_any p cs
+front p true u v cs h g = ap (λ (b : Bool). b || (p v || list_any p cs)) h ∙ ap (λ (b : Bool). b || list_any p cs) g
+front p false u v cs h g = refl
 
 and_last : (a b c d : Bool) → (b ≡ true → c ≡ d) → (a && b && c) ≡ (a && b && d)
 and_last true true c d h = h refl
@@ -85,25 +108,40 @@ has_listed bound fs some h x c held =
 
 -- ---- the two lists of facts
 
-module _ (at sub n : ℕ) (gs : List (Fact ℕ)) where
+-- the start of the second stands at the node `at`, and that of the first there too, or its concepts are top
+module _ (home at sub n : ℕ) (gs : List (Fact ℕ)) where
   abbrev pub old_facts : List (Fact ℕ)
-  old_facts = Has at sub ∷ Has at 0 ∷ gs
+  old_facts = Has home sub ∷ Has home 0 ∷ gs
 
   abbrev pub new_facts : List (Fact ℕ)
   new_facts = Has at sub ∷ Has at n ∷ gs
 
-module _ (first at sub n : ℕ) (gs : List (Fact ℕ)) (stays : rep (old_facts at sub n gs) at ≡ at) where
+  -- what stands at the end of edges below a role from a node has the filler by both or by none
+  abbrev pub HaveAsBefore : (ℕ → ℕ → Bool) → ℕ → ℕ → ℕ → Type 0
+  HaveAsBefore below x s e =
+      (y : ℕ) → has_edge old_facts (λ t. below t s) x y ≡ true → ¬ ((rep old_facts y ≡ at) × (n ≡ e))
+
+module _ (first home at sub n : ℕ) (gs : List (Fact ℕ)) (moves : (home ≡ at) ⊎ (sub ≡ 0))
+    (stays : rep (old_facts home at sub n gs) at ≡ at) where
   abbrev olds : List (Fact ℕ)
-  olds = old_facts at sub n gs
+  olds = old_facts home at sub n gs
 
   abbrev news : List (Fact ℕ)
-  news = new_facts at sub n gs
+  news = new_facts home at sub n gs
 
   has_new : (x c : ℕ) → has news x c ≡ (has olds x c || (eqb (rep olds at) (rep olds x) && eqb n c))
   has_new x c =
-      moved (eqb c 0) (eqb 0 c) (eqb (rep olds at) (rep olds x)) (eqb sub c) (eqb n c)
-      (list_any (gives_concept (λ d. eqb d c) (rep olds) (rep olds x)) gs)
-      (λ h. eqb-comm 0 c ∙ h)
+      let r : Bool = list_any (gives_concept (λ d. eqb d c) (rep olds) (rep olds x)) gs in
+      elim moves [
+        | inl same ↦
+            subst (λ (h : ℕ). has news x c
+            ≡ (has (old_facts h at sub n gs) x c || (eqb (rep olds at) (rep olds x) && eqb n c))) (sym same)
+            (moved (eqb c 0) (eqb 0 c) (eqb (rep olds at) (rep olds x)) (eqb sub c) (eqb n c) r
+            (λ h. eqb-comm 0 c ∙ h))
+        | inr none ↦
+            moved_away (eqb c 0) (eqb (rep olds at) (rep olds x)) (eqb (rep olds home) (rep olds x)) (eqb sub c)
+            (eqb 0 c) (eqb n c) r (λ h. ap (λ (d : ℕ). eqb d c) none ∙ eqb-comm 0 c ∙ h) (λ h. eqb-comm 0 c ∙ h)
+      ]
 
   pub has_up : (x c : ℕ) → has olds x c ≡ true → has news x c ≡ true
   has_up x c h = has_new x c ∙ or_left (has olds x c) (eqb (rep olds at) (rep olds x) && eqb n c) h
@@ -135,58 +173,60 @@ module _ (first at sub n : ℕ) (gs : List (Fact ℕ)) (stays : rep (old_facts a
       → ((c : ℕ) → c < bound → p c ≡ q c) → are_listed bound olds ≡ true
       → list_any p (label news x) ≡ list_any q (label olds x)
   label_alike p q bound x none zero_out some same h =
-      let t = and_parts (ltb sub bound) (are_listed bound (Has at 0 ∷ gs)) h in
+      let t = and_parts (ltb sub bound) (are_listed bound (Has home 0 ∷ gs)) h in
       let u = and_parts (ltb 0 bound) (are_listed bound gs) t.1 in
       let top = same 0 some in
       let first = same sub (ltb-true sub bound t.0) in
       let rest = concepts_alike p q bound same (rep olds) (rep olds x) gs u.1 in
       let R : List ℕ = concepts_at (rep olds) (rep olds x) gs in
-      elim (eqb (rep olds at) (rep olds x)) as
-      (λ b. (p 0 || list_any p (cond b (sub ∷ cond b (n ∷ R) R) (cond b (n ∷ R) R)))
-      ≡ (q 0 || list_any q (cond b (sub ∷ cond b (0 ∷ R) R) (cond b (0 ∷ R) R)))) [
-        | true ↦ (λ i. top i || (first i || ((none ∙ sym zero_out) i || rest i)))
-        | false ↦ (λ i. top i || rest i)
+      elim moves [
+        | inl is ↦
+            subst (λ (k : ℕ). list_any p (label news x) ≡ list_any q (label (old_facts k at sub n gs) x)) (sym is)
+            (elim (eqb (rep olds at) (rep olds x)) as
+            (λ b. (p 0 || list_any p (cond b (sub ∷ cond b (n ∷ R) R) (cond b (n ∷ R) R)))
+            ≡ (q 0 || list_any q (cond b (sub ∷ cond b (0 ∷ R) R) (cond b (0 ∷ R) R)))) [
+              | true ↦ (λ i. top i || (first i || ((none ∙ sym zero_out) i || rest i)))
+              | false ↦ (λ i. top i || rest i)
+            ])
+        | inr away ↦
+            let sub_out : q sub ≡ false = ap q away ∙ zero_out in
+            ap (λ (b : Bool). p 0 || b) (front p (eqb (rep olds at) (rep olds x)) sub n R (first ∙ sub_out) none)
+            ∙ (λ i. top i || rest i)
+            ∙ sym (ap (λ (b : Bool). q 0 || b)
+            (front q (eqb (rep olds home) (rep olds x)) sub 0 R sub_out zero_out))
       ]
 
   -- ---- blocks
 
-  module _ (ends : (roles : ℕ → Bool) (x y : ℕ) → has_edge olds roles x y ≡ true → ¬ (rep olds y ≡ at)) where
-    -- successors are not the node in question
-    pub filled_same : (below : ℕ → ℕ → Bool) (x s e : ℕ)
-        → filled_successors first below news x s e ≡ filled_successors first below olds x s e
-    filled_same below x s e =
-        filled_alike first olds news alike below x s e
-        (λ y next. has_other y e
-        (λ r. ends (λ t. below t s) x y (successor_has_edge olds (λ t. below t s) x y next) r.0))
+  pub filled_same : (below : ℕ → ℕ → Bool) (x s e : ℕ) → HaveAsBefore home at sub n gs below x s e
+      → filled_successors first below news x s e ≡ filled_successors first below olds x s e
+  filled_same below x s e before =
+      filled_alike first olds news alike below x s e
+      (λ y next. has_other y e (before y (successor_has_edge olds (λ t. below t s) x y next)))
 
-    filled_each : (below : ℕ → ℕ → Bool) (x s e y : ℕ)
-        → is_filled_successor first below news x s e y ≡ is_filled_successor first below olds x s e y
-    filled_each below x s e y =
-        and_last _ (has_edge olds (λ t. below t s) x y) (has news y e) (has olds y e)
-        (λ edge. has_other y e (λ r. ends (λ t. below t s) x y edge r.0))
+  filled_each : (below : ℕ → ℕ → Bool) (x s e : ℕ) → HaveAsBefore home at sub n gs below x s e → (y : ℕ)
+      → is_filled_successor first below news x s e y ≡ is_filled_successor first below olds x s e y
+  filled_each below x s e before y =
+      and_last _ (has_edge olds (λ t. below t s) x y) (has news y e) (has olds y e)
+      (λ edge. has_other y e (before y edge))
 
-    pub run_same : (below : ℕ → ℕ → Bool) (x s e : ℕ) (ys : List ℕ)
-        → list_all (is_filled_successor first below news x s e) ys
-        ≡ list_all (is_filled_successor first below olds x s e) ys
-    run_same below x s e ys = λ i. list_all (λ y. filled_each below x s e y i) ys
+  pub run_same : (below : ℕ → ℕ → Bool) (x s e : ℕ) → HaveAsBefore home at sub n gs below x s e → (ys : List ℕ)
+      → list_all (is_filled_successor first below news x s e) ys
+      ≡ list_all (is_filled_successor first below olds x s e) ys
+  run_same below x s e before ys = λ i. list_all (λ y. filled_each below x s e before y i) ys
 
   module _ (is_first : at < first) (alone : (x : ℕ) → rep olds x ≡ at → x ≡ at)
       (none : (x : ℕ) → has olds x n ≡ false) where
-    label_same : (x : ℕ) → ¬ (x ≡ at) → label news x ≡ label olds x
-    label_same x ne =
-        let R : List ℕ = concepts_at (rep olds) (rep olds x) gs in
-        let other : eqb (rep olds at) (rep olds x) ≡ false =
-        ne_eqb (rep olds at) (rep olds x) (λ e. ne (alone x (sym e ∙ stays))) in
-        ap (λ (b : Bool). 0 ∷ cond b (sub ∷ cond b (n ∷ R) R) (cond b (n ∷ R) R)) other
-        ∙ sym (ap (λ (b : Bool). 0 ∷ cond b (sub ∷ cond b (0 ∷ R) R) (cond b (0 ∷ R) R)) other)
-
     part_same : (x z : ℕ) → ¬ (x ≡ at) → is_label_part news x z ≡ is_label_part olds x z
     part_same x z ne =
-        ap (list_all (has news z)) (label_same x ne)
-        ∙ all_alike (has news z) (has olds z) (label olds x)
-        (λ c there. has_other z c
-        (λ r. (let held = sym (any-label olds x c) ∙ there in
-        let k = subst (λ (d : ℕ). has olds x d ≡ false) r.1 (none x) in cc)))
+        let other : (c : ℕ) → has news x c ≡ has olds x c = λ c. has_other x c (λ r. ne (alone x r.0)) in
+        same_if (is_label_part news x z) (is_label_part olds x z)
+        (λ h. part_from olds x z (λ c held.
+        elim (has_cases z c (part_each news x z c h (other c ∙ held))) [
+          | inl before ↦ before
+          | inr root ↦ absurd (let k = subst (λ (d : ℕ). has olds x d ≡ false) root.1 (none x) in cc)
+        ]))
+        (λ h. part_from news x z (λ c held. has_up z c (part_each olds x z c h (sym (other c) ∙ held))))
 
     may_same : (blocks : List Block) (x z : ℕ) → ¬ (x ≡ at) → may_block news blocks x z ≡ may_block olds blocks x z
     may_same blocks x z ne =

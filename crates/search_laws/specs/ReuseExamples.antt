@@ -5,10 +5,10 @@ use Rattle.std.proofs.Common.{lit<, ap, sym, subst, ◌∙◌, arith}
 use Rattle.std.specs.List.{list_any}
 use Rattle.calculus_specs.specs.Concept.{name as class}
 use Rattle.calculus_specs.specs.Shape.{Shape, shape_of}
-use Rattle.calculus_specs.specs.Shape.Shape.{top, name, not_name}
+use Rattle.calculus_specs.specs.Shape.Shape.{top, name, not_name, some_of, at_most}
 use Rattle.calculus_specs.specs.Rows.{Row, inclusion_of}
 use Rattle.calculus_specs.specs.Rows.Trigger.{names}
-use Rattle.calculus_specs.specs.declared.facts.Fact.TheVariants.{Has}
+use Rattle.calculus_specs.specs.declared.facts.Fact.TheVariants.{Has, Same}
 use Rattle.calculus_specs.specs.State.{has}
 use Rattle.tableau_specs.specs.declared.Item.{Item}
 use Rattle.tableau_specs.specs.declared.Branch.TheVariants.{Or}
@@ -20,7 +20,7 @@ use Rattle.tableau_specs.specs.Steps.Adds.{by_row}
 use Rattle.tableau_specs.specs.Steps.IsLegal.{add}
 use Rattle.tableau_specs.specs.Reached.{start}
 use Rattle.tableau_specs.specs.StepExamples.{IsPlain}
-use Rattle.search_laws.specs.Runs.{IsRun, was_ever, puts_at, LeavesOut}
+use Rattle.search_laws.specs.Runs.{IsRun, was_ever, puts_at, LeavesOut, LeavesOutAt}
 
 -- ---- the run for class 10
 
@@ -110,6 +110,40 @@ leaves_out_twelve = record {
   unions_there_lack_complement = λ c d parts ever sh part. is_not_twelve d (not_name 12) refl;
   complement_is_never_put = λ c ever. is_not_twelve c (not_name 12) refl;
 }
+
+-- ---- an individual, whose node is 0, and which is said to be in class 10
+
+abbrev told : List (List Item)
+told = (start 1 0 0 ++ Says (Has 0 1) ∷ []) ∷ start 1 0 0 ∷ []
+
+-- of class 12 it shows that the individual is not in it, and of class 10 nothing
+pub leaves_out_of_individual : LeavesOutAt 0 table told 12
+leaves_out_of_individual = record {
+  leaves_out = record {
+    class_is_not_there = λ c ever. is_not_twelve c (name 12) refl;
+    unions_there_lack_complement = λ c d parts ever sh part. is_not_twelve d (not_name 12) refl;
+    complement_is_never_put = λ c ever. is_not_twelve c (not_name 12) refl;
+  };
+  is_never_joined = refl;
+  complement_is_no_filler = λ c s e ever is. is_not_twelve e (not_name 12) refl;
+  class_is_not_counted = λ c m s e ever sh k. subst IsPlain sh (plain_each c);
+}
+
+pub says_nothing_of_ten : ¬ LeavesOutAt 0 table told 10
+says_nothing_of_ten h = h.leaves_out.class_is_not_there 1 refl refl
+
+-- nor does a run say anything of a node that is one with another, on either side
+pub says_nothing_of_joined : (¬ LeavesOutAt 0 table ((start 2 0 0 ++ Says (Same 0 1) ∷ []) ∷ start 2 0 0 ∷ []) 12)
+    × (¬ LeavesOutAt 1 table ((start 2 0 0 ++ Says (Same 0 1) ∷ []) ∷ start 2 0 0 ∷ []) 12)
+says_nothing_of_joined = (λ h. (let k = h.is_never_joined in cc), λ h. (let k = h.is_never_joined in cc))
+
+-- nor of a class where successors are asked for in its complement, or counted in it: an edge may lead to the node
+pub says_nothing_of_fillers : ¬ LeavesOutAt 1 (table ++ some_of 7 3 ∷ []) ((start 2 0 0 ++ Says (Has 0 4) ∷ []) ∷ []) 11
+says_nothing_of_fillers h = h.complement_is_no_filler 4 7 3 refl refl refl
+
+pub says_nothing_of_counted : ¬ LeavesOutAt 1 (table ++ at_most 1 7 2 ∷ [])
+    ((start 2 0 0 ++ Says (Has 0 4) ∷ []) ∷ []) 11
+says_nothing_of_counted h = h.class_is_not_counted 4 1 7 2 refl refl refl
 
 -- ---- going back
 

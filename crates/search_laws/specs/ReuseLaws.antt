@@ -5,7 +5,7 @@ use Rattle.std.specs.List.{list_any}
 use Rattle.shq_terms.specs.declared.axioms.Numbered.{Numbered}
 use Rattle.shq_terms.specs.declared.axioms.Query.{Query}
 use Rattle.shq_terms.specs.declared.axioms.On.TheVariants.{Any}
-use Rattle.calculus_specs.specs.Concept.{Concept, name}
+use Rattle.calculus_specs.specs.Concept.{Concept, top, name}
 use Rattle.calculus_specs.specs.Normal.{normal_form}
 use Rattle.calculus_specs.specs.Shape.{Shape, IsTable}
 use Rattle.calculus_specs.specs.Shape.Shape.{not_name}
@@ -18,7 +18,7 @@ use Rattle.tableau_specs.specs.Items.{facts_of}
 use Rattle.tableau_specs.specs.Steps.{SearchContext, IsLegal, IsSaturated}
 use Rattle.tableau_specs.specs.Reached.{FactsHaveNumbers, start, context_of, IsReached}
 use Rattle.refutation_truth.specs.Theory.{nodes_pass, question_of}
-use Rattle.search_laws.specs.Runs.{IsRun, LeavesOut}
+use Rattle.search_laws.specs.Runs.{IsRun, LeavesOut, LeavesOutAt}
 
 -- k legal steps reach a saturated trail by these rows, over this table or one with the complement of class a besides
 pub record EndsSaturated (table : List Shape) (rows : List Row) (a : ℕ) (q : Question) (k : ℕ) : Type 0 where
@@ -54,6 +54,22 @@ OneRunAnswersMore =
     → IsRun (context_of q table rows) (start q.at number 0) (trail ∷ earlier) → length earlier ≡ k
     → IsSaturated (context_of q table rows) trail → LeavesOut q.at table (trail ∷ earlier) a
     → EndsSaturated table rows a (with_sup q (name a)) k
+
+-- the question whether what first node `at` stands for is in `sup`
+abbrev pub about : Question → ℕ → Concept → Question
+about q at sup =
+    record { theory = q.theory; sub = top; sup = sup; first = q.first; at = at; fact_of = q.fact_of }
+
+-- A search whether anything is in top and not in bottom begins at a node that is in top. Where its run ends saturated
+-- and has nothing to do with whether the individual of another first node is in class a, as many legal steps end
+-- saturated in the search whether that individual is in a.
+abbrev pub OneRunAnswersOfIndividuals : Type 0
+OneRunAnswersOfIndividuals =
+    (q : Question) (table : List Shape) (rows : List Row) (k at a : ℕ) (trail : List Item) (earlier : List (List Item))
+    → IsTable table → IsChoice q.theory table rows → FactsHaveNumbers q table → at < q.first
+    → IsRun (context_of q table rows) (start q.at 0 0) (trail ∷ earlier) → length earlier ≡ k
+    → IsSaturated (context_of q table rows) trail → LeavesOutAt at table (trail ∷ earlier) a
+    → EndsSaturated table rows a (about q at (name a)) k
 
 -- What a legal step puts into a trail stands at its end: from any place on that is neither past the end of the old
 -- trail nor past the last item of the new one. So who has noted all facts of the old trail need look no further back.

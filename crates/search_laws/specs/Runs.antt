@@ -1,8 +1,11 @@
 -- Runs of a search: all their trails, and what was ever put into one.
-use Rattle.std.specs.Prelude.{◌≡◌, ℕ, ◌==◌, ◌&&◌, Bool, true, false, List, [], ◌∷◌, Contains}
+use Rattle.std.specs.Prelude.{◌≡◌, ℕ, ◌==◌, ◌&&◌, ◌||◌, Bool, true, false, List, [], ◌∷◌, Contains}
 use Rattle.std.specs.List.{list_any}
+use Rattle.calculus_specs.specs.Concept.{name as class, complement}
+use Rattle.calculus_specs.specs.Normal.{negated_form}
 use Rattle.calculus_specs.specs.Shape.{Shape, shape_of}
-use Rattle.calculus_specs.specs.Shape.Shape.{name, not_name, union}
+use Rattle.calculus_specs.specs.Tree.{tree_of}
+use Rattle.calculus_specs.specs.Shape.Shape.{name, not_name, union, some_of, at_least, at_most}
 use Rattle.calculus_specs.specs.declared.facts.Fact.{Fact}
 use Rattle.calculus_specs.specs.declared.facts.Fact.TheVariants.{Has, Edge, Apart, Same}
 use Rattle.tableau_specs.specs.declared.Item.{Item}
@@ -35,6 +38,20 @@ puts_at at c (Edge r x y) = false
 puts_at at c (Apart y z) = false
 puts_at at c (Same y z) = false
 
+-- whether the fact says that the node is one with another
+abbrev pub joins_node : ℕ → Fact ℕ → Bool
+joins_node at (Has x d) = false
+joins_node at (Edge r x y) = false
+joins_node at (Apart y z) = false
+joins_node at (Same y z) = y == at || z == at
+
+-- whether the shape asks of successors by a role that they have a filler
+abbrev pub has_filler : ℕ → ℕ → Shape → Bool
+has_filler s e (some_of r c) = r == s && c == e
+has_filler s e (at_least n r c) = r == s && c == e
+has_filler s e (at_most n r c) = r == s && c == e
+has_filler s e _ = false
+
 -- the run has nothing to do with whether the node `at` is in class a: no trail gives the node the class, or a union of
 -- which the class's complement is a part, and none gives the complement to any node
 pub record LeavesOut (at : ℕ) (table : List Shape) (run : List (List Item)) (a : ℕ) : Type 0 where
@@ -43,3 +60,13 @@ pub record LeavesOut (at : ℕ) (table : List Shape) (run : List (List Item)) (a
       → shape_of table c ≡ union parts → Contains parts d
       → ¬ (shape_of table d ≡ not_name a)
   pub complement_is_never_put : (c : ℕ) → was_ever (puts c) run ≡ true → ¬ (shape_of table c ≡ not_name a)
+
+-- the same where edges may lead to the node `at`, as to that of an individual: no trail joins it to another node, and
+-- none gives a node a concept that asks of successors whether they are in the complement, or counts those in the class
+pub record LeavesOutAt (at : ℕ) (table : List Shape) (run : List (List Item)) (a : ℕ) : Type 0 where
+  pub leaves_out : LeavesOut at table run a
+  pub is_never_joined : was_ever (joins_node at) run ≡ false
+  pub complement_is_no_filler : (c s e : ℕ) → was_ever (puts c) run ≡ true → has_filler s e (shape_of table c) ≡ true
+      → ¬ (shape_of table e ≡ not_name a)
+  pub class_is_not_counted : (c m s e : ℕ) → was_ever (puts c) run ≡ true → shape_of table c ≡ at_most m s e
+      → ¬ (negated_form (tree_of table e) ≡ complement (class a))

@@ -3,8 +3,8 @@
 //! Where axioms speak of many individuals, each search gives all that they assert and follows it up. What comes of that
 //! is the same whatever is asked of an element without a name. So one search can do it once, for the question whether
 //! anything is in top and not in bottom, and others can go on from there. A budget counts legal steps of the search
-//! that was asked for, though. So it has to be shown that this search could have made the same steps: it owes them then,
-//! and nobody has to make them again.
+//! that was asked for, though. So it has to be shown that this search could have made the same steps: it owes them
+//! then, and nobody has to make them again.
 //!
 //! - **The same steps are legal** where the beginning says nothing of the node in question, and no axiom speaks of that
 //!   node. No edge begins or ends there, and the node is joined to no other, so that no step looks at its label but for

@@ -28,5 +28,7 @@ pub use counter_model_laws::{
     saturated_does_not_entail, saturated_is_counter_model, successors_are_elements,
 };
 pub use ontology_limits::{Concepts, Shape};
-pub use reuse_laws::{any_is_unnamed, one_run_answers_more, steps_put_last};
+pub use reuse_laws::{
+    any_is_unnamed, one_run_answers_more, one_run_answers_of_individuals, steps_put_last,
+};
 pub use trail_laws::{few_successors_fit, the_start_stays, theories_are_their_axioms};

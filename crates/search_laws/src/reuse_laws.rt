@@ -14,11 +14,16 @@
 //!   query on any element asks of such a node.
 //! - **The end is saturated** by the same reasons. The blocks are the same: a first node is never blocked, and the one
 //!   in question blocks no other node less than before, since no other node has the complement.
+//! - **Of individuals too.** One run over all axioms, for the question whether anything is in top and not in bottom,
+//!   shows of many individuals that they are not in W. Edges may lead to the node of an individual, and facts may join
+//!   it to another. So the run may not do the latter, and it may not give any node a concept that asks of successors
+//!   whether they are in the complement of W, or counts those that are in W.
 //!
 //! Such reuse of a satisfiability test is the pseudo-model technique of classification (Haarslev, Möller and Turhan,
 //! "Exploiting Pseudo Models for TBox and ABox Reasoning in Expressive Description Logics", 2001), here with a proof
 //! that it saves no step that a log owes.
-ghost use Rattle.search_laws.specs.ReuseLaws.{AnyIsUnnamed, OneRunAnswersMore, StepsPutLast};
+ghost use Rattle.search_laws.specs.ReuseLaws.{AnyIsUnnamed, OneRunAnswersMore, OneRunAnswersOfIndividuals};
+ghost use Rattle.search_laws.specs.ReuseLaws.{StepsPutLast};
 
 /// No axiom speaks of the node in question of a query on any element.
 pub fn any_is_unnamed()
@@ -28,6 +33,12 @@ pub fn any_is_unnamed()
 /// A run for one class that ends saturated answers whether the class is in another, where it leaves the other out.
 pub fn one_run_answers_more()
     ensures { OneRunAnswersMore }
+{}
+
+/// A run over all axioms that ends saturated answers whether an individual is in a class, where it has nothing to do
+/// with that.
+pub fn one_run_answers_of_individuals()
+    ensures { OneRunAnswersOfIndividuals }
 {}
 
 /// What a legal step puts stands at the end of the new trail.
