@@ -406,6 +406,9 @@ class Rows(RowsTest):
         self.assert_rows(axioms, rows, Loss.INVERSE, Loss.SELF)
 
 
+CHAIN, IRREGULAR = "SubObjectPropertyOf(ObjectPropertyChain", [Loss.CHAIN_IN_FULL]
+
+
 class LossesTest(unittest.TestCase):
     """What is said to be lost, axiom by axiom."""
 
@@ -436,9 +439,20 @@ class LossesTest(unittest.TestCase):
         ("SymmetricObjectProperty(:r)", [Loss.INVERSE], [Loss.INVERSE_IN_FULL]),
         ("SubClassOf(:A ObjectSomeValuesFrom(ObjectInverseOf(:r) :B))", [Loss.INVERSE], ()),
         ("SubClassOf(:A ObjectMaxCardinality(1 ObjectInverseOf(:r)))", [Loss.INVERSE], [Loss.INVERSE_IN_FULL]),
-        ("SubObjectPropertyOf(ObjectPropertyChain(:r :s) :t)", [Loss.CHAIN], ()),
-        ("SubObjectPropertyOf(ObjectPropertyChain(:s :r :s) :r)", [Loss.CHAIN], [Loss.CHAIN_IN_FULL]),
-        ("SubObjectPropertyOf(ObjectPropertyChain(:r :r) :r)", (), ()),
+        (f"{CHAIN}(:r :s) :t)", [Loss.CHAIN], ()),
+        # chains in a regular order, and in none
+        (f"{CHAIN}(:r :s) :r)", [Loss.CHAIN], ()),
+        (f"{CHAIN}(:s :r) :r)", [Loss.CHAIN], ()),
+        (f"{CHAIN}(:s :t) :r) SubObjectPropertyOf(:s :r)", [Loss.CHAIN], ()),
+        (f"{CHAIN}(:s :t) :r) {CHAIN}(:r :t) :u)", [Loss.CHAIN], ()),
+        (f"{CHAIN}(:s :r :s) :r)", [Loss.CHAIN], IRREGULAR),
+        (f"{CHAIN}(:s :t) :r) SubObjectPropertyOf(:r :s)", [Loss.CHAIN], IRREGULAR),
+        (f"{CHAIN}(:s :t) :r) EquivalentObjectProperties(:r :u :s)", [Loss.CHAIN], IRREGULAR),
+        (f"{CHAIN}(:s :t) :r) SubObjectPropertyOf(:r :u) SubObjectPropertyOf(:u :s)", [Loss.CHAIN], IRREGULAR),
+        (f"{CHAIN}(:s :t) :r) {CHAIN}(:t :r) :s)", [Loss.CHAIN], IRREGULAR),
+        (f"{CHAIN}(:s :t) :r) SubClassOf(:A ObjectMaxCardinality(1 :r))", [Loss.CHAIN], [Loss.COUNTED]),
+        (f"{CHAIN}(:s :t) :r) SubObjectPropertyOf(:r :u) FunctionalObjectProperty(:u)", [Loss.CHAIN], [Loss.COUNTED]),
+        (f"{CHAIN}(:r :r) :r)", (), ()),
         ('SubClassOf(:A DataHasValue(:p "x"))', [Loss.DATA], [Loss.DATA]),
         ("FunctionalDataProperty(owl:topDataProperty)", [Loss.DATA], [Loss.DATA]),
         ("DatatypeDefinition(:D xsd:string)", [Loss.DATATYPE], [Loss.DATATYPE]),
