@@ -450,6 +450,9 @@ class LossesTest(unittest.TestCase):
         (f"{CHAIN}(:s :t) :r) EquivalentObjectProperties(:r :u :s)", [Loss.CHAIN], IRREGULAR),
         (f"{CHAIN}(:s :t) :r) SubObjectPropertyOf(:r :u) SubObjectPropertyOf(:u :s)", [Loss.CHAIN], IRREGULAR),
         (f"{CHAIN}(:s :t) :r) {CHAIN}(:t :r) :s)", [Loss.CHAIN], IRREGULAR),
+        # of equal roles each needs a class for the other one, and so on
+        (f"{CHAIN}(:r :t) :r) EquivalentObjectProperties(:r :s) SubClassOf(:A ObjectAllValuesFrom(:s :B))", [Loss.CHAIN],
+         IRREGULAR),
         (f"{CHAIN}(:s :t) :r) SubClassOf(:A ObjectMaxCardinality(1 :r))", [Loss.CHAIN], [Loss.COUNTED]),
         (f"{CHAIN}(:s :t) :r) SubObjectPropertyOf(:r :u) FunctionalObjectProperty(:u)", [Loss.CHAIN], [Loss.COUNTED]),
         (f"{CHAIN}(:r :r) :r)", (), ()),
