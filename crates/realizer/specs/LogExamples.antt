@@ -1,8 +1,9 @@
 -- Worked logs: for each thing that the honest log of a question on individuals has to be, one that is so and one that
 -- is not.
-use Rattle.std.specs.Prelude.{◌≡◌, ◌<◌, ℕ, zero, suc, Bool, true, false, nat_le, List, [], ◌∷◌, refl}
-use Rattle.std.proofs.Common.{lit<, ap, sym, ◌∙◌, arith}
+use Rattle.std.specs.Prelude.{◌≡◌, ◌<◌, ◌⊎◌, ℕ, zero, suc, Bool, true, false, nat_le, List, [], ◌∷◌, refl, Contains}
+use Rattle.std.proofs.Common.{lit<, ap, sym, ◌∙◌, subst, arith, inl, inr}
 use Rattle.std.proofs.lemmas.List.Elements.{All-nil, All-cons, All-head}
+use Rattle.axiom_sets.specs.Sets.{Limited}
 use Rattle.shq_terms.specs.Concept.{top, name}
 use Rattle.shq_terms.specs.declared.axioms.On.TheVariants.{Individual}
 use Rattle.shq_terms.specs.declared.axioms.Query.{Query}
@@ -17,6 +18,7 @@ use Rattle.realizer.specs.Places.IsPlaceStep.{by_test, in_top, of_bottom}
 use Rattle.realizer.specs.Places.IsPlaceChain.{none, onward}
 use Rattle.realizer.specs.RealizationLogs.{IsInstanceTest, AreInstanceTests, IsTypingTest, AreTypingTests}
 use Rattle.realizer.specs.RealizationLogs.{AsksNoPlaceChain}
+use Rattle.realizer.specs.ShownLogs.{HasYes, IsModelledOut, ShowsInstances}
 
 -- ---- which individuals are in a class: class 1 of three, and one individual
 
@@ -146,3 +148,38 @@ leads_from_no_class chain =
     let k : is_class_zero (class_place (name 1)) ≡ true =
     stays is_class_zero (at_one 1 ∷ []) kept_by_individual (class_place (name 0)) (class_place (name 1)) chain refl in
     cc
+
+-- ---- what a log shows of the individual
+
+-- a yes about class 1 shows that it is in class 1
+pub one_yes_shows : ShowsInstances bare (name 1) (at_one 1 ∷ [])
+one_yes_shows a la =
+    let lt : a < 1 = la in
+    let e : ◌≡◌ {A = ℕ} 0 a = omega (arith, lt) in
+    subst
+    (λ (b : ℕ). HasYes (at_one 1 ∷ []) (instance_query (name 1) b) ⊎ IsModelledOut bare (at_one 1 ∷ []) (name 1) b) e
+    (inl (record { tested = no_axioms; steps = 4; enough = no_axioms; is_yes = (0, lit< tt, refl) }))
+
+-- an empty log shows nothing
+pub nothing_shows_nothing : ¬ ShowsInstances bare (name 1) []
+nothing_shows_nothing h = elim (h 0 (lit< tt))
+    [ inl found ↦ omega (arith, found.is_yes.1) | inr out ↦ omega (arith, out.is_no.1) ]
+
+-- and a yes about class 1 shows nothing of class 2
+pub another_yes_shows_nothing : ¬ ShowsInstances bare (name 2) (at_one 1 ∷ [])
+another_yes_shows_nothing h = elim (h 0 (lit< tt)) [
+  | inl found ↦ no_yes found.tested found.enough found.steps found.is_yes
+  | inr out ↦ no_no out.tested out.query out.steps out.is_no
+]
+  where
+    no_yes : (s u : Limited) (steps : ℕ) → ¬ Contains (at_one 1 ∷ []) (Test s (instance_query (name 2) 0) steps (Yes u))
+    no_yes s u steps (zero, lt, is) =
+        let same : instance_query (name 1) 0 ≡ instance_query (name 2) 0 = cc is in
+        let k : name 1 ≡ name 2 = ap (λ (q : Query). q.sup) same in
+        let m : ◌≡◌ {A = ℕ} 1 2 = cc in
+        omega (arith, m)
+    no_yes s u steps (suc k, lt, is) = omega (arith, lt)
+
+    no_no : (s : Limited) (q : Query) (steps : ℕ) → ¬ Contains (at_one 1 ∷ []) (Test s q steps No)
+    no_no s q steps (zero, lt, is) = cc is
+    no_no s q steps (suc k, lt, is) = omega (arith, lt)
