@@ -6,7 +6,7 @@ use Rattle.ontology_jobs.specs.Status.TheVariants.{WriteFault, Undecided, NoMemo
 use Rattle.ontology_jobs.specs.Entry.{Entry}
 use Rattle.ontology_jobs.specs.Words.{request_of}
 use Rattle.ontology_jobs.specs.Answers.{AnsweredAll, Leaves}
-use Rattle.ontology_jobs.specs.Laws.{HasSpentAll}
+use Rattle.ontology_jobs.specs.Laws.{HasSpentAll, HasSpentNoTest}
 use Rattle.ontology_jobs.specs.Complete.{IsComplete}
 
 -- the number of a status
@@ -28,6 +28,7 @@ pub record HasEnded (held left before now : Option (List ℕ)) (words : List (Li
   pub answered : AnsweredAll held before now words status log
   pub leaves : Leaves words held left status
   pub undecided : status ≡ Undecided → HasSpentAll (request_of words) log
+  pub unspent : status ≡ NoMemory → HasSpentNoTest (request_of words) log
   pub complete : IsComplete (request_of words) held status log
 
 -- it ended with the status of this number

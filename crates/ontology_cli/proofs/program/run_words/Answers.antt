@@ -6,5 +6,6 @@ returns-clause-ended g c = record {
   answered = c.run.ensures.answer;
   leaves = c.run.ensures.leaves;
   undecided = c.run.ensures.undecided;
+  unspent = c.run.ensures.unspent;
   complete = c.run.ensures.complete;
 }
