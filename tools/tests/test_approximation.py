@@ -453,6 +453,8 @@ class LossesTest(unittest.TestCase):
         # of equal roles each needs a class for the other one, and so on
         (f"{CHAIN}(:r :t) :r) EquivalentObjectProperties(:r :s) SubClassOf(:A ObjectAllValuesFrom(:s :B))", [Loss.CHAIN],
          IRREGULAR),
+        (" ".join([f"{CHAIN}(:s :t) :r)", *(f"SubClassOf(:A ObjectAllValuesFrom(:r :B{it}))" for it in range(40))]),
+         [Loss.CHAIN], ()),
         (f"{CHAIN}(:s :t) :r) SubClassOf(:A ObjectMaxCardinality(1 :r))", [Loss.CHAIN], [Loss.COUNTED]),
         (f"{CHAIN}(:s :t) :r) SubObjectPropertyOf(:r :u) FunctionalObjectProperty(:u)", [Loss.CHAIN], [Loss.COUNTED]),
         (f"{CHAIN}(:r :r) :r)", (), ()),

@@ -1505,7 +1505,10 @@ FULL = [
         SubClassOf(:A ObjectAllValuesFrom(:r :B))
         """,
         full="SubClassOf(:A ObjectAllValuesFrom(:r ObjectAllValuesFrom(:s ObjectAllValuesFrom(:s :B))))",
-        open="SubClassOf(:A ObjectAllValuesFrom(:s :B))",
+        open="""
+        SubClassOf(:A ObjectAllValuesFrom(:s :B))
+        SubClassOf(:B ObjectAllValuesFrom(:s :B))
+        """,
     ),
     Case(
         "full.FullRows.rows_of_some",
@@ -1514,7 +1517,10 @@ FULL = [
         SubClassOf(ObjectSomeValuesFrom(:r :A) :B)
         """,
         full="SubClassOf(ObjectSomeValuesFrom(:r ObjectSomeValuesFrom(:s ObjectSomeValuesFrom(:s :A))) :B)",
-        open="SubClassOf(ObjectSomeValuesFrom(:s :A) :B)",
+        open="""
+        SubClassOf(ObjectSomeValuesFrom(:s :A) :B)
+        SubClassOf(ObjectSomeValuesFrom(:s :A) :A)
+        """,
     ),
     Case(
         "full.FullRows.rows_of_all",
@@ -1547,6 +1553,26 @@ FULL = [
         SubClassOf(ObjectSomeValuesFrom(:r ObjectSomeValuesFrom(:s :C)) :D)
         """,
         open="SubClassOf(:A ObjectAllValuesFrom(:r :B))",
+    ),
+    Case(
+        "full.FullRows.rows_of_all",
+        f"""
+        {CHAIN}(:r :s) :t)
+        SubObjectPropertyOf(:t :u)
+        SubObjectPropertyOf(:u :v)
+        SubClassOf(:A ObjectIntersectionOf(:C ObjectAllValuesFrom(:v :B)))
+        """,
+        full="SubClassOf(:A ObjectAllValuesFrom(:r ObjectAllValuesFrom(:s :B)))",
+        open="SubClassOf(:A ObjectAllValuesFrom(:s :B))",
+    ),
+    Case(
+        "full.FullRows.rows_of_some",
+        f"""
+        {CHAIN}(:r :s) :t)
+        SubClassOf(ObjectUnionOf(:C ObjectSomeValuesFrom(:t :A)) :B)
+        """,
+        full="SubClassOf(ObjectSomeValuesFrom(:r ObjectSomeValuesFrom(:s :A)) :B)",
+        open="SubClassOf(ObjectSomeValuesFrom(:r :A) :B)",
     ),
     Case(
         "full.FullRows.rows_of_all",
