@@ -1,6 +1,7 @@
 """What translations lose of random ontologies, by the kind of what these have besides SHQ, and of generated ones.
 
-What follows from a file is asked of Konclude, and what follows from its translations of the program.
+What follows from a file is asked of Konclude, and what follows from its translations of the program. Konclude is asked
+of these too: where it finds more there than the program, whose answers are proved, nothing is counted as lost.
 `python3 -m tests.lost_by_kind COUNT [NAME..]`, in tools/, prints the table of docs/APPROXIMATION.md, of so many each.
 """
 import sys
@@ -69,6 +70,8 @@ class Count:
 
     ontologies: int = 0
     unanswered: int = 0
+    # where Konclude says of a translation what does not follow from it
+    misjudged: int = 0
     pairs: int = 0
     lost: dict = field(default_factory=lambda: dict.fromkeys(WAYS, 0))
     # of ontologies without a model: how many there are, and of how many it is lost that they have none
@@ -79,27 +82,31 @@ class Count:
 
     def add(self, data, seed):
         translations = [approximation(data, it) for it in (Strength.LIGHT, Strength.FULL)]
+        texts = [cut(data)[0], *(it.data for it in translations)]
         try:
-            whole = by_konclude(data)
-            parts = [by_program(it) for it in (cut(data)[0], *(found.data for found in translations))]
+            whole, *judged = map(by_konclude, [data, *texts])
+            parts = list(map(by_program, texts))
         except NoAnswer:
             self.unanswered += 1
+            return
+        compared = [lost_and_added(whole, it) for it in parts]
+        self.wrong += [(seed, way, "too many", sorted(added)) for way, (_, added) in zip(WAYS, compared) if added]
+        if any(lost_and_added(one, other)[0] for one, other in zip(judged, parts)):
+            self.misjudged += 1
             return
         self.ontologies += 1
         self.inconsistent += whole == INCONSISTENT
         self.pairs += len(whole - INCONSISTENT)
-        for way, part, is_exact in zip(WAYS, parts, (False, *(it.losses.is_exact for it in translations))):
-            self.compare(way, seed, *lost_and_added(whole, part), whole == INCONSISTENT, is_exact)
+        for way, (lost, _), is_exact in zip(WAYS, compared, (False, *(it.losses.is_exact for it in translations))):
+            self.count_lost(way, lost, whole == INCONSISTENT)
+            if lost and is_exact:
+                self.wrong.append((seed, way, "said to lose nothing", sorted(lost)))
 
-    def compare(self, way, seed, lost, added, is_inconsistent, is_exact):
+    def count_lost(self, way, lost, is_inconsistent):
         if is_inconsistent:
             self.not_seen[way] += bool(lost)
         else:
             self.lost[way] += len(lost)
-        if added:
-            self.wrong.append((seed, way, "has too many", sorted(added)))
-        if lost and is_exact:
-            self.wrong.append((seed, way, "is said to lose nothing", sorted(lost)))
 
 
 def count_of(make, kind, seeds):
@@ -127,7 +134,8 @@ def main(count, names):
     for name in names or MAKERS:
         counted = count_of(MAKERS[name], name, range(int(count)))
         print(row(name, counted), flush=True)
-        print(f"{name}: {counted.unanswered} without an answer", *counted.wrong, sep="\n", file=sys.stderr, flush=True)
+        unused = f"{counted.unanswered} without an answer, {counted.misjudged} misjudged"
+        print(f"{name}: {unused}", *counted.wrong, sep="\n", file=sys.stderr, flush=True)
 
 
 if __name__ == "__main__":

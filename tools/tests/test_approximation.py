@@ -502,6 +502,15 @@ class FullRowsTest(RowsTest):
         ]
         self.assert_full(axioms, rows)
 
+    def test_a_chain_that_begins_with_its_role_and_some(self):
+        axioms = ["SubObjectPropertyOf(ObjectPropertyChain(:r :s) :r)", "SubClassOf(ObjectSomeValuesFrom(:r :B) :A)"]
+        led_to = "(inverse (r) only (r some B))"
+        rows = [
+            [f"s some {led_to} SubClassOf {led_to}"],
+            ["(r some B) SubClassOf A", f"B SubClassOf {led_to}", f"r some {led_to} SubClassOf (r some B)"],
+        ]
+        self.assert_full(axioms, rows)
+
     def test_a_chain_that_ends_with_its_role(self):
         axioms = ["SubObjectPropertyOf(ObjectPropertyChain(:s :r) :r)", "SubClassOf(ObjectSomeValuesFrom(:r :B) :A)"]
         rows = [

@@ -1598,9 +1598,16 @@ FULL = [
         TransitiveObjectProperty(:r)
         InverseObjectProperties(:r :s)
         SubClassOf(:A ObjectSomeValuesFrom(:r ObjectSomeValuesFrom(:r ObjectAllValuesFrom(:s :B))))
+        SubClassOf(:C ObjectAllValuesFrom(:s :D))
         """,
-        full="SubClassOf(:A :B)",
-        open="SubClassOf(:A ObjectAllValuesFrom(:r :B))",
+        full="""
+        SubClassOf(:A :B)
+        SubClassOf(ObjectSomeValuesFrom(:r :C) ObjectAllValuesFrom(:s :D))
+        """,
+        open="""
+        SubClassOf(:A ObjectAllValuesFrom(:r :B))
+        SubClassOf(ObjectSomeValuesFrom(:s :C) ObjectAllValuesFrom(:r :D))
+        """,
     ),
     Case(
         "full.FullRows.rows_of_some",
@@ -1609,7 +1616,10 @@ FULL = [
         InverseObjectProperties(:r :s)
         SubClassOf(ObjectSomeValuesFrom(:s :A) :B)
         """,
-        full="SubClassOf(:A ObjectAllValuesFrom(:r ObjectAllValuesFrom(:r :B)))",
+        full="""
+        SubClassOf(:A ObjectAllValuesFrom(:r ObjectAllValuesFrom(:r :B)))
+        SubClassOf(ObjectSomeValuesFrom(:s :A) ObjectAllValuesFrom(:r :B))
+        """,
         open="SubClassOf(:A :B)",
     ),
     Case(
