@@ -4,7 +4,9 @@ What follows from a file is asked of Konclude, and what follows from its transla
 of these too: where it finds more there than the program, whose answers are proved, nothing is counted as lost.
 `python3 -m tests.lost_by_kind COUNT [NAME..]`, in tools/, prints the table of docs/APPROXIMATION.md, of so many each.
 """
+import os
 import sys
+from concurrent.futures import ThreadPoolExecutor
 from dataclasses import dataclass, field
 
 from shq_tools.answers import Plain, answer
@@ -65,12 +67,44 @@ def lost_and_added(whole, part):
 
 
 @dataclass
+class Judged:
+    """What follows from an ontology by Konclude, and in each way what follows by the program from what is left of it,
+    and by Konclude; and whether a translation is said to lose nothing.
+    """
+
+    whole: set
+    parts: list
+    by_konclude: list
+    are_exact: list
+
+    @property
+    def is_misjudged(self):
+        """Whether Konclude finds more in a translation than the program, whose answers are proved."""
+        return any(lost_and_added(one, other)[0] for one, other in zip(self.by_konclude, self.parts))
+
+    @property
+    def is_inconsistent(self):
+        return self.whole == INCONSISTENT
+
+
+def judged(data):
+    """What follows from an ontology and from its translations, or None where there is no answer in time."""
+    translations = [approximation(data, it) for it in (Strength.LIGHT, Strength.FULL)]
+    texts = [cut(data)[0], *(it.data for it in translations)]
+    are_exact = [False, *(it.losses.is_exact for it in translations)]
+    try:
+        whole, *others = map(by_konclude, [data, *texts])
+        return Judged(whole, list(map(by_program, texts)), others, are_exact)
+    except NoAnswer:
+        return None
+
+
+@dataclass
 class Count:
     """How many ontologies of a kind were asked about, and the pairs that they have, and lose in each way."""
 
     ontologies: int = 0
     unanswered: int = 0
-    # where Konclude says of a translation what does not follow from it
     misjudged: int = 0
     pairs: int = 0
     lost: dict = field(default_factory=lambda: dict.fromkeys(WAYS, 0))
@@ -80,25 +114,21 @@ class Count:
     # pairs that the whole file does not have, and pairs that are lost where nothing is said to be lost, with the seeds
     wrong: list = field(default_factory=list)
 
-    def add(self, data, seed):
-        translations = [approximation(data, it) for it in (Strength.LIGHT, Strength.FULL)]
-        texts = [cut(data)[0], *(it.data for it in translations)]
-        try:
-            whole, *judged = map(by_konclude, [data, *texts])
-            parts = list(map(by_program, texts))
-        except NoAnswer:
+    def add(self, found, seed):
+        """Counts what is lost of an ontology, where Konclude judged it well."""
+        if found is None:
             self.unanswered += 1
             return
-        compared = [lost_and_added(whole, it) for it in parts]
+        compared = [lost_and_added(found.whole, it) for it in found.parts]
         self.wrong += [(seed, way, "too many", sorted(added)) for way, (_, added) in zip(WAYS, compared) if added]
-        if any(lost_and_added(one, other)[0] for one, other in zip(judged, parts)):
+        if found.is_misjudged:
             self.misjudged += 1
             return
         self.ontologies += 1
-        self.inconsistent += whole == INCONSISTENT
-        self.pairs += len(whole - INCONSISTENT)
-        for way, (lost, _), is_exact in zip(WAYS, compared, (False, *(it.losses.is_exact for it in translations))):
-            self.count_lost(way, lost, whole == INCONSISTENT)
+        self.inconsistent += found.is_inconsistent
+        self.pairs += len(found.whole - INCONSISTENT)
+        for way, (lost, _), is_exact in zip(WAYS, compared, found.are_exact):
+            self.count_lost(way, lost, found.is_inconsistent)
             if lost and is_exact:
                 self.wrong.append((seed, way, "said to lose nothing", sorted(lost)))
 
@@ -110,10 +140,11 @@ class Count:
 
 
 def count_of(make, kind, seeds):
-    """The count of random or generated ontologies of a kind, made by `make(kind, seed)`."""
+    """The count of random or generated ontologies of a kind, made by `make(kind, seed)`; several are asked at once."""
     found = Count()
-    for seed in seeds:
-        found.add(make(kind, seed).encode("utf-8"), seed)
+    with ThreadPoolExecutor(os.cpu_count()) as pool:
+        for seed, one in zip(seeds, pool.map(lambda it: judged(make(kind, it).encode("utf-8")), seeds)):
+            found.add(one, seed)
     return found
 
 

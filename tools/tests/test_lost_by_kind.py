@@ -9,7 +9,7 @@ from tests.program import needs_program
 
 # SHQ_LONG_TESTS=1 tools/test asks about those of the table in docs/APPROXIMATION.md.
 IS_LONG = bool(os.environ.get("SHQ_LONG_TESTS"))
-OF_A_KIND, OF_A_DOMAIN = (40, 10) if IS_LONG else (2, 1)
+OF_A_KIND, OF_A_DOMAIN = (24, 6) if IS_LONG else (2, 1)
 
 
 @needs_konclude
