@@ -30,7 +30,8 @@ def asked_again(question, *more):
 def hint_on_budget(question):
     """What to say where the steps that the words allow were spent."""
     steps = steps_in(question.words)
-    said = f"undecided: the {steps:,} steps that were allowed are spent"
+    spent = "the one step that was allowed is" if steps == 1 else f"the {steps:,} steps that were allowed are"
+    said = f"undecided: {spent} spent"
     if steps >= MOST:
         return f"{said}, {NO_MORE}"
     more = min(10 * steps, MOST)

@@ -73,6 +73,8 @@ class Words(unittest.TestCase):
             return hint_on_budget(asked(given))
 
         self.assertIn("./shq sat :A --budget 50 f.ofn", hint(["sat", ":A", "--budget", "5", "f.ofn"]))
+        self.assertIn("the 1,000 steps that were allowed are spent", hint(["classify", "--budget", "1000", "f.ofn"]))
+        self.assertIn("the one step that was allowed is spent", hint(["classify", "--budget", "1", "f.ofn"]))
         most = hint(["explain", "SubClassOf(:A :B)", "budget", "4294967294"])
         self.assertIn("./shq explain 'SubClassOf(:A :B)' --budget 4294967295 < FILE", most)
         self.assertIn("no more can be allowed", hint(["classify", "budget", "4294967295"]))
