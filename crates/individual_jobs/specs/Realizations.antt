@@ -10,7 +10,7 @@ use Rattle.realizer.specs.declared.types.Types.{Types}
 use Rattle.realizer.specs.Instances.{AreInstances, instances_text}
 use Rattle.realizer.specs.Realization.{AreTypes, realization_text}
 use Rattle.realizer.specs.RealizationLogs.{IsInstancesLog, IsRealizationLog}
-use Rattle.realizer.specs.ShownLogs.{ShowsInstances, ShowsTypes}
+use Rattle.realizer.specs.ShownLogs.{ShowsInstances, ShowsTypes, SettlesClasses}
 use Rattle.job_inputs.specs.Answer.{line}
 use Rattle.job_inputs.specs.Refusals.{OnDocument, IsRefusedDocument, IsOutOfMemory}
 use Rattle.job_inputs.specs.declared.status.Status.{Status}
@@ -21,13 +21,14 @@ use Rattle.individual_jobs.specs.Answers.{AnswersOnClass}
 -- ---- the types of all individuals
 
 -- they are found: the text is that of the realization, and the log is honest, shows it of each individual and each
--- class, and has no test that spent the budget
+-- class and of each two classes, and has no test that spent the budget
 pub record IsRealized (budget : ℕ) (out : List ℕ) (log : List Entry) (o : Listed) : Type 0 where
   pub types : Types
   pub are_types : AreTypes o types
   pub text : out ≡ realization_text o types
   pub honest : IsRealizationLog o budget log
   pub shown : ShowsTypes o log
+  pub classes : SettlesClasses o log
   pub unspent : list_any is_spent log ≡ false
 
 -- the budget was spent in the middle of a test, the last one of an honest log, and the text says nothing else

@@ -7,7 +7,7 @@ ghost use Rattle.realizer.specs.Stops.{IsStop};
 ghost use Rattle.realizer.specs.Listing.{is_listed};
 ghost use Rattle.realizer.specs.Realization.{AreTypes, realization_text};
 ghost use Rattle.realizer.specs.RealizationLogs.{IsRealizationLog};
-ghost use Rattle.realizer.specs.ShownLogs.{ShowsTypes};
+ghost use Rattle.realizer.specs.ShownLogs.{ShowsTypes, SettlesClasses};
 ghost use Rattle.job_inputs.specs.Answer.{text_bytes, is_fault};
 ghost use Rattle.job_inputs.specs.Refusals.{OnDocument};
 ghost use Rattle.individual_jobs.specs.Realizations.{IsRealizing, AnswersRealization};
@@ -85,6 +85,7 @@ fn types_of(
     requires unlogged { log.old ≡ [] }
     ensures types { IfOk result (AreTypes ontology.now) }
     ensures shown { OnOk result (ShowsTypes ontology.now log.new) }
+    ensures classes { OnOk result (SettlesClasses ontology.now log.new) }
     ensures unspent { OnOk result (list_any is_spent log.new ≡ false) }
     ensures listed { IfOk result
         (λ t. IsTrue (is_listed (length ontology.now.classes) (length ontology.now.individuals) t)) }

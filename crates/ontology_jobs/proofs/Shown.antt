@@ -4,6 +4,7 @@ use Rattle.edit_session.specs.Entry.{Entry}
 use Rattle.audit_jobs.specs.Decided.{Matches}
 use Rattle.audit_jobs.specs.Decisions.{IsDecisionTold}
 use Rattle.audit_jobs.specs.Listings.{IsListing}
+use Rattle.classifier.proofs.Settled.{classified}
 use Rattle.classification_jobs.specs.Questions.{Text}
 use Rattle.classification_jobs.specs.Status.TheVariants.{Done}
 use Rattle.ontology_jobs.specs.Shown.{ShowsDecision, DoneAnswersAreShown}
@@ -42,8 +43,12 @@ done_shown (classify budget) bytes out log (inl long) = absurd (never_long bytes
 done_shown (classify budget) bytes out log (inr (short, on)) =
     record { ontology = on.ontology; kept = on.kept; is_document = on.is_document; so = on.so.shown }
 done_shown (realize budget) bytes out log (inl long) = absurd (never_long bytes out log Done refl long)
-done_shown (realize budget) bytes out log (inr (short, on)) =
-    record { ontology = on.ontology; kept = on.kept; is_document = on.is_document; so = on.so.shown }
+done_shown (realize budget) bytes out log (inr (short, on)) = record {
+  ontology = on.ontology;
+  kept = on.kept;
+  is_document = on.is_document;
+  so = ((classified on.ontology log on.so.classes.relation on.so.classes.settled).shown, on.so.shown);
+}
 done_shown (instances class budget) bytes out log (inl long) = absurd (never_long bytes out log Done refl long)
 done_shown (instances class budget) bytes out log (inr (short, on)) =
     record { ontology = on.ontology; query = on.query; is_question = on.is_question; so = on.so.shown }

@@ -177,6 +177,7 @@ module _ (l : OracleLists) (known : Rows) (axioms : Limited) (a : ℕ) (rows : L
       };
       shown = record {
         chains = amid.typing.shown.chains;
+        pairs = amid.typing.shown.pairs;
         in_rows = λ c y before_next lc ly h. elim (cases_lt c a) [
           | inl lt ↦ amid.typing.shown.in_rows c y lt lc ly h
           | inr ge ↦

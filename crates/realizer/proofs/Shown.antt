@@ -19,10 +19,10 @@ use Rattle.subsumption.specs.HonestLog.IsStep.{by_test as class_test, in_top as 
 use Rattle.subsumption.specs.HonestLog.IsStep.{of_bottom as class_of_bottom}
 use Rattle.subsumption.specs.HonestLog.IsChain.{none as no_class_step, onward as class_onward}
 use Rattle.subsumption.specs.Rows.{Rows, holds}
-use Rattle.subsumption.specs.Settled.{IsSettled}
+use Rattle.subsumption.specs.Settled.{IsSettled, IsShownPair}
 use Rattle.subsumption.specs.Subsumption.{class_at}
 use Rattle.subsumption.specs.TestEnd.TheVariants as E
-use Rattle.subsumption.proofs.Chains.{chain_stays}
+use Rattle.subsumption.proofs.Chains.{chain_stays, ruled_out_stays}
 use Rattle.subsumption.proofs.InLimit.{at_top, at_bottom, at_name}
 use Rattle.subsumption.proofs.Settled.{ruled_out_is_true}
 use Rattle.realizer.specs.Asked.{IsBefore}
@@ -81,12 +81,19 @@ module _ (log : List Entry) (e : Entry) where
       → ShowsKnownTypes known (log ++ e ∷ []) a types
   types_stay known a types h x lx member = type_stays known a x (h x lx member)
 
+  pair_stays : (n x y : ℕ) → IsShownPair n log x y → IsShownPair n (log ++ e ∷ []) x y
+  pair_stays n x y shown = elim shown [
+    | inl chain ↦ inl (chain_stays log e (class_at n x) (class_at n y) chain)
+    | inr out ↦ inr (ruled_out_stays log e (class_at n x) (class_at n y) out)
+  ]
+
   pub rows_stay : (o : Listed) (known : Rows) (i : ℕ) (rows : List Limited) → ShowsRows o known log i rows
       → ShowsRows o known (log ++ e ∷ []) i rows
   rows_stay o known i rows h = record {
     chains =
         λ x y lx ly part. chain_stays log e (class_at (length o.classes) x) (class_at (length o.classes) y)
         (h.chains x y lx ly part);
+    pairs = λ x y lx ly. pair_stays (length o.classes) x y (h.pairs x y lx ly);
     in_rows = λ a x before la lx typed. type_stays known a x (h.in_rows a x before la lx typed);
     out_of_rows = λ a x la lx gone. out_stays o (name x) a (h.out_of_rows a x la lx gone);
   }
@@ -152,6 +159,7 @@ rows_at_first o budget log known rows honest settled full = record {
         absurd (ruled_out_is_true o budget log honest (class_at (length o.classes) x) (class_at (length o.classes) y) out
         ((settled.is_so x y (omega (arith, lx)) (omega (arith, ly))).0 part))
   ];
+  pairs = settled.shown;
   in_rows = λ a x before la lx typed. absurd (omega (arith, before));
   out_of_rows = λ a x la lx gone. absurd (true≢false (sym (full a x la lx) ∙ gone));
 }
@@ -225,6 +233,17 @@ types_are_shown o l known axioms rows same b =
           (b.typing.shown.in_rows a x la la lx typed))
       | inr gone ↦ inr (b.typing.shown.out_of_rows a x la lx gone)
     ])
+
+-- the questions on individuals leave it settled which class is part of which
+pub still_settled : (o : Listed) (l : OracleLists) (known : Rows) (axioms : Limited) (rows : List Limited)
+    → l.ontology ≡ o → IsBefore l known axioms (length l.ontology.individuals) rows → IsSettled o l.log known
+still_settled o l known axioms rows same b =
+    subst (λ (p : Listed). IsSettled p l.log known) same (record {
+      count_is = b.typing.count_is;
+      order = b.typing.order;
+      is_so = b.typing.is_so;
+      shown = b.typing.shown.pairs;
+    })
 
 -- and where it is settled that nothing can have an element
 pub none_are_shown : (o : Listed) (budget : ℕ) (log : List Entry) (known : Rows) → IsClassificationLog o budget log

@@ -283,6 +283,7 @@ module _ (before : OracleLists) (known : Rows) (axioms : Limited) (a : ℕ) (row
           let old = rows_stay before.log (entry steps E.No) before.ontology known a rows amid.typing.shown in
           record {
             chains = old.chains;
+            pairs = old.pairs;
             in_rows =
                 λ b y before_a lb ly h. old.in_rows b y before_a lb ly
                 (and_parts (typed_by rows b y) (stays_possible (meaning m) (name y) a b) (sym (was b y lb ly) ∙ h)).0;

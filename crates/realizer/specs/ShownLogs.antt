@@ -13,6 +13,7 @@ use Rattle.subsumption.specs.Entry.{Entry}
 use Rattle.subsumption.specs.Entry.TheVariants.{Test}
 use Rattle.subsumption.specs.HonestLog.{IsChain}
 use Rattle.subsumption.specs.Rows.{Rows, holds}
+use Rattle.subsumption.specs.Settled.{IsSettled, IsShownPair}
 use Rattle.subsumption.specs.Subsumption.{class_at}
 use Rattle.subsumption.specs.TestEnd.TheVariants.{Yes, No}
 use Rattle.realizer.specs.Candidates.{has_individual}
@@ -52,6 +53,11 @@ abbrev pub ShowsTypes : Listed → List Entry → Type 0
 ShowsTypes o log = (a x : ℕ) → a < length o.individuals → x < length o.classes
     → IsPlaceChain log (individual_place a) (class_place (name x)) ⊎ IsModelledOut o log (name x) a
 
+-- the log shows of each two classes whether the one is part of the other
+pub record SettlesClasses (o : Listed) (log : List Entry) : Type 0 where
+  pub relation : Rows
+  pub settled : IsSettled o log relation
+
 -- ---- while it is asked
 
 -- so it is of the first i individuals that are still possible, and of each that is not
@@ -66,11 +72,12 @@ pub record IsShownType (known : Rows) (log : List Entry) (a x : ℕ) : Type 0 wh
   pub is_part : holds known lower x ≡ true
   pub is_type : (lower ≡ known.count) ⊎ ((lower < known.count) × HasYes log (instance_query (name lower) a))
 
--- chains of tests show what is known of the classes; of the first i individuals it is shown which of the classes in
+-- tests show what is known of each two classes; of the first i individuals it is shown which of the classes in
 -- their rows they are in, and of each individual that it need not be in the others
 pub record ShowsRows (o : Listed) (known : Rows) (log : List Entry) (i : ℕ) (rows : List Limited) : Type 0 where
   pub chains : (x y : ℕ) → x < length o.classes + 2 → y < length o.classes + 2 → holds known x y ≡ true
       → IsChain log (class_at (length o.classes) x) (class_at (length o.classes) y)
+  pub pairs : (x y : ℕ) → x < length o.classes + 2 → y < length o.classes + 2 → IsShownPair (length o.classes) log x y
   pub in_rows : (a x : ℕ) → a < i → a < length o.individuals → x < length o.classes → typed_by rows a x ≡ true
       → IsShownType known log a x
   pub out_of_rows : (a x : ℕ) → a < length o.individuals → x < length o.classes → typed_by rows a x ≡ false

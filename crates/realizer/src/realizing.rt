@@ -10,7 +10,7 @@ ghost use Rattle.subsumption.specs.Stops.{IsStop};
 ghost use Rattle.realizer.specs.Realization.{AreTypeLines, AreTypes};
 ghost use Rattle.realizer.specs.RealizationLogs.{IsRealizationLog};
 ghost use Rattle.realizer.specs.Listing.{lines_are_listed, is_listed};
-ghost use Rattle.realizer.specs.ShownLogs.{ShowsTypes};
+ghost use Rattle.realizer.specs.ShownLogs.{ShowsTypes, SettlesClasses};
 
 use crate::Halt;
 use crate::direct_types::type_lines;
@@ -23,7 +23,8 @@ use subsumption::{Oracle, Relation, settle};
 /// The direct types of each individual of the ontology, by all of its axioms (OWL 2 Direct Semantics, section 2.5),
 /// where the oracle is one for this ontology that was asked nothing yet: the groups of equal classes of which it is an
 /// instance and that hold no other such group. It is settled first which class is part of which, and then, one
-/// individual after the other, which classes it is in. The log shows it of each individual and each listed class.
+/// individual after the other, which classes it is in. The log shows both: of each two classes, and of each individual
+/// and each listed class.
 ///
 /// # Errors
 /// The budget of the oracle was spent in the middle of a test, which is the last of the log; or memory was refused, and
@@ -35,6 +36,7 @@ pub fn realize(alloc: Global, oracle: &mut Oracle<'_>, ontology: &Ontology) -> R
 
     ensures types { IfOk result (AreTypes ontology.now) }
     ensures shown { OnOk result (ShowsTypes ontology.now oracle.new.log) }
+    ensures classes { OnOk result (SettlesClasses ontology.now oracle.new.log) }
     ensures listed { IfOk result
         (λ t. IsTrue (is_listed (length ontology.now.classes) (length ontology.now.individuals) t)) }
     ensures unspent { OnOk result (list_any is_spent oracle.new.log ≡ false) }
@@ -64,6 +66,7 @@ fn types_by(
     requires goes_on { list_any is_spent oracle.old.log ≡ false }
     ensures types { IfOk result (AreTypes ontology.now) }
     ensures shown { OnOk result (ShowsTypes ontology.now oracle.new.log) }
+    ensures classes { OnOk result (IsSettled ontology.now oracle.new.log relation.now) }
     ensures listed { IfOk result
         (λ t. IsTrue (is_listed (length ontology.now.classes) (length ontology.now.individuals) t)) }
     ensures unspent { OnOk result (list_any is_spent oracle.new.log ≡ false) }
@@ -94,6 +97,7 @@ fn lines_by(
     requires goes_on { list_any is_spent oracle.old.log ≡ false }
     ensures lines { IfOk result (AreTypeLines ontology.now (holds relation.now)) }
     ensures shown { OnOk result (ShowsTypes ontology.now oracle.new.log) }
+    ensures classes { OnOk result (IsSettled ontology.now oracle.new.log relation.now) }
     ensures listed { IfOk result
         (λ ts. IsTrue (lines_are_listed (length ontology.now.classes) (length ontology.now.individuals) ts)) }
     ensures unspent { OnOk result (list_any is_spent oracle.new.log ≡ false) }

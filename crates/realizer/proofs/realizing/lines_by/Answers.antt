@@ -5,7 +5,7 @@ use Rattle.realizer.specs.TypeRows.{typed_by}
 use Rattle.realizer.proofs.Begun.{before_on}
 use Rattle.realizer.proofs.Chains.{realization_log}
 use Rattle.realizer.proofs.Realized.{type_lines_are, lines_listed}
-use Rattle.realizer.proofs.Shown.{types_are_shown}
+use Rattle.realizer.proofs.Shown.{types_are_shown, still_settled}
 use Rattle.realizer.proofs.realizing.lines_by.Goals as goal
 
 pub returns-in_err-typing-clause-honest : goal.returns-in_err-typing-clause-honest
@@ -34,5 +34,11 @@ returns-clause-listed c =
 pub returns-clause-shown : goal.returns-clause-shown
 returns-clause-shown c =
     types_are_shown c.args.ontology.now c.settle_all.new.oracle c.args.relation.now c.settle_all.new.self.axioms
+    c.settle_all.new.self.rows.items (c.in_ok-settle_all.ensures.alike.ontology ∙ c.requires.same)
+    c.in_ok-settle_all.ensures.ok
+
+pub returns-clause-classes : goal.returns-clause-classes
+returns-clause-classes c =
+    still_settled c.args.ontology.now c.settle_all.new.oracle c.args.relation.now c.settle_all.new.self.axioms
     c.settle_all.new.self.rows.items (c.in_ok-settle_all.ensures.alike.ontology ∙ c.requires.same)
     c.in_ok-settle_all.ensures.ok
