@@ -9,9 +9,9 @@ import org.semanticweb.owlapi.model.OWLAxiom;
  * without which it does not. Sets are in the order of their sizes.
  *
  * @param sets the sets that were found
- * @param isWhole whether these are all; else the budget was spent, there may be more, and a set in which an axiom stands
- *     for several lines of the program's text may not be smallest
- * @param coverage what of the ontology the sets rest on: where it is not the whole, each justification is enough for the
- *     statement, but there may be others, and a repair may not stop it
+ * @param isWhole whether these are all; else the budget was spent, there may be more, and a set in which an axiom
+ *     stands for several lines of the program's text may not be smallest
+ * @param coverage what of the ontology the sets rest on: where it is not the whole, each justification is enough for
+ *     the statement, but there may be others, and a repair may not stop it
  */
 public record AxiomSets(List<Set<OWLAxiom>> sets, boolean isWhole, Coverage coverage) {}

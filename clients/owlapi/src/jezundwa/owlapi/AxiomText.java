@@ -214,7 +214,8 @@ final class AxiomText implements OWLAxiomVisitorEx<String> {
 
     @Override
     public String visit(OWLHasKeyAxiom axiom) {
-        return outside("HasKey", text.of(axiom.getClassExpression()) + " (" + roles(axiom.getObjectPropertyExpressions())
+        return outside("HasKey", text.of(axiom.getClassExpression())
+            + " (" + roles(axiom.getObjectPropertyExpressions())
             + ") (" + list(axiom.getDataPropertyExpressions(), text::of) + ")");
     }
 

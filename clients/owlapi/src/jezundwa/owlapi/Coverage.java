@@ -52,8 +52,9 @@ public final class Coverage {
             return "All axioms were taken as they are. Each answer holds of the whole ontology.";
         }
         String taken = policy == OutsidePolicy.APPROXIMATE ? "taken in a weaker form or left out" : "left out";
-        return outside.size() + " axioms are outside of the language and were " + taken + ". That something follows holds "
-            + "of the whole ontology; that something does not follow holds of the rest alone."
+        return outside.size() + " axioms are outside of the language and were " + taken
+            + ". That something follows holds of the whole ontology; that something does not follow holds of the rest"
+            + " alone."
             + (summary.isEmpty() ? "" : "\n" + summary);
     }
 }

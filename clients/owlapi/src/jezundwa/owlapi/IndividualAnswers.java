@@ -153,7 +153,8 @@ final class IndividualAnswers {
             || snapshot.document().axioms().stream().anyMatch(axiom -> axiom instanceof OWLSameIndividualAxiom
                 || axiom instanceof OWLFunctionalObjectPropertyAxiom
                 || axiom instanceof OWLInverseFunctionalObjectPropertyAxiom
-                || axiom.getNestedClassExpressions().stream().anyMatch(OWLObjectCardinalityRestriction.class::isInstance));
+                || axiom.getNestedClassExpressions().stream()
+                    .anyMatch(OWLObjectCardinalityRestriction.class::isInstance));
     }
 
     /** Individuals as nodes: each by itself, or with those that are one with it. */

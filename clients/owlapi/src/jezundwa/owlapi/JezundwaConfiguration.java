@@ -26,8 +26,9 @@ public final class JezundwaConfiguration extends SimpleConfiguration {
 
     /** The standard: no limit of time, the greatest budget, fresh names allowed, what is outside left out. */
     public JezundwaConfiguration() {
-        this(new NullReasonerProgressMonitor(), FreshEntityPolicy.ALLOW, Long.MAX_VALUE, IndividualNodeSetPolicy.BY_NAME,
-            System.getProperty("jezundwa.program"), propertyOutside(), propertyBudget());
+        this(new NullReasonerProgressMonitor(), FreshEntityPolicy.ALLOW, Long.MAX_VALUE,
+            IndividualNodeSetPolicy.BY_NAME, System.getProperty("jezundwa.program"), propertyOutside(),
+            propertyBudget());
     }
 
     private JezundwaConfiguration(ReasonerProgressMonitor monitor, FreshEntityPolicy freshEntities, long timeOut,

@@ -44,8 +44,8 @@ import org.semanticweb.owlapi.reasoner.impl.OWLObjectPropertyNodeSet;
 import org.semanticweb.owlapi.util.Version;
 
 /**
- * The program as a reasoner of the OWL API. Classes and individuals are answered by what is entailed; the hierarchies of
- * properties, and all about data, by what axioms say directly or by chains.
+ * The program as a reasoner of the OWL API. Classes and individuals are answered by what is entailed; the hierarchies
+ * of properties, and all about data, by what axioms say directly or by chains.
  *
  * <p>Any thread may ask; one question is answered at a time. {@link #interrupt} ends the one that is under way, from
  * whichever thread. A change of the ontology is only noted, so it never waits for an answer.

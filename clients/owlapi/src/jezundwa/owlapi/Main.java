@@ -1,15 +1,21 @@
 package jezundwa.owlapi;
 
 import java.io.File;
+import java.io.IOException;
 import java.io.PrintStream;
 import java.nio.charset.StandardCharsets;
 import java.util.ArrayList;
 import java.util.List;
+import java.util.Optional;
 import java.util.Set;
 import java.util.TreeSet;
 import java.util.stream.Collectors;
 import org.semanticweb.owlapi.apibinding.OWLManager;
+import org.semanticweb.owlapi.formats.OBODocumentFormat;
 import org.semanticweb.owlapi.formats.PrefixDocumentFormat;
+import org.semanticweb.owlapi.formats.TrigDocumentFormat;
+import org.semanticweb.owlapi.io.FileDocumentSource;
+import org.semanticweb.owlapi.io.OWLParserException;
 import org.semanticweb.owlapi.io.StringDocumentSource;
 import org.semanticweb.owlapi.io.UnparsableOntologyException;
 import org.semanticweb.owlapi.model.OWLAxiom;
@@ -20,6 +26,7 @@ import org.semanticweb.owlapi.model.OWLNamedIndividual;
 import org.semanticweb.owlapi.model.OWLObject;
 import org.semanticweb.owlapi.model.OWLOntology;
 import org.semanticweb.owlapi.model.OWLOntologyCreationException;
+import org.semanticweb.owlapi.model.OWLOntologyManager;
 import org.semanticweb.owlapi.model.OWLRuntimeException;
 import org.semanticweb.owlapi.model.parameters.Imports;
 import org.semanticweb.owlapi.reasoner.InconsistentOntologyException;
@@ -139,10 +146,45 @@ public final class Main {
     /** Reads a file in whichever syntax it is. */
     private static OWLOntology read(File file) throws OWLOntologyCreationException {
         try {
-            return OWLManager.createOWLOntologyManager().loadOntologyFromOntologyDocument(file);
-        } catch (UnparsableOntologyException unreadable) {
-            throw new OWLRuntimeException(file + " is in no syntax that the OWL API reads", unreadable);
+            Optional<OWLDocumentFormat> format = DocumentSyntax.formatOf(file);
+            return format.isPresent() ? readAs(format.get(), file) : readByTrial(file);
+        } catch (IOException unreadable) {
+            throw new OWLRuntimeException(file + " cannot be read", unreadable);
         }
+    }
+
+    private static OWLOntology readAs(OWLDocumentFormat format, File file) throws OWLOntologyCreationException {
+        try {
+            return OWLManager.createOWLOntologyManager()
+                .loadOntologyFromOntologyDocument(new FileDocumentSource(file, format));
+        } catch (UnparsableOntologyException unreadable) {
+            String fault = unreadable.getExceptions().values().stream().findFirst()
+                .map(OWLParserException::getMessage).map(Main::inOneLine).orElse("nothing is known");
+            throw new OWLRuntimeException(file + " is not read as " + format.getKey() + ": " + fault, unreadable);
+        }
+    }
+
+    /** What a parser says, without the name of its exception and the list of what it would have taken. */
+    private static String inOneLine(String message) {
+        return message.replaceFirst("^([\\w.]+Exception: )+", "").split("Was expecting|Expected one of")[0]
+            .replaceAll("\\s+", " ").strip();
+    }
+
+    /** Lets the OWL API try each of its parsers. */
+    private static OWLOntology readByTrial(File file) throws OWLOntologyCreationException {
+        OWLOntologyManager manager = OWLManager.createOWLOntologyManager();
+        UnparsableOntologyException cause = null;
+        try {
+            OWLOntology found = manager.loadOntologyFromOntologyDocument(file);
+            // These parsers take nearly any lines, or what is cut off; and no file in OBO or TriG comes here.
+            OWLDocumentFormat format = manager.getOntologyFormat(found);
+            if (!(format instanceof OBODocumentFormat || format instanceof TrigDocumentFormat)) {
+                return found;
+            }
+        } catch (UnparsableOntologyException unreadable) {
+            cause = unreadable;
+        }
+        throw new OWLRuntimeException(file + " is in no syntax that the OWL API reads", cause);
     }
 
     private void classify(JezundwaReasoner reasoner) {

@@ -23,7 +23,7 @@ final class ProgramFinder {
                 + "property jezundwa.program nor the variable JEZUNDWA_PROGRAM names one"));
     }
 
-    /** {@code shq}: the program where it is that one, the one of the checkout where the program lies in, or the PATH's. */
+    /** {@code shq}: the program where it is that one, that of the checkout in which the program lies, or the PATH's. */
     static Path translator(String configured) {
         Optional<Path> named = named(configured);
         return Stream.of(named.filter(path -> path.endsWith("shq")), named.flatMap(ProgramFinder::checkout),

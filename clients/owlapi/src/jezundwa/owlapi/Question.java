@@ -6,8 +6,8 @@ import org.semanticweb.owlapi.model.OWLAxiom;
 import org.semanticweb.owlapi.model.OWLEntity;
 
 /**
- * What the program can be asked: whether a statement, one {@code SubClassOf} or {@code ClassAssertion}, follows from the
- * ontology and some assumptions.
+ * What the program can be asked: whether a statement, one {@code SubClassOf} or {@code ClassAssertion}, follows from
+ * the ontology and some assumptions.
  */
 record Question(List<OWLAxiom> assumptions, OWLAxiom statement) {
     static Question of(OWLAxiom statement) {

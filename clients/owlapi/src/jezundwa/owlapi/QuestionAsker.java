@@ -41,8 +41,8 @@ final class QuestionAsker {
 
     /**
      * A job on the document without assertions. Where the ontology is consistent, the same inclusions between classes
-     * follow as with them: the language has no nominals, so a model of the ontology beside a model in which an inclusion
-     * fails is one model of both.
+     * follow as with them: the language has no nominals, so a model of the ontology beside a model in which an
+     * inclusion fails is one model of both.
      */
     ProgramAnswer onTerms(String job, String task) {
         return whole(call(document.terms().text(), task, job));
@@ -71,7 +71,7 @@ final class QuestionAsker {
             document.text(written)));
     }
 
-    /** Whether each question follows. Questions on a consistent ontology without its individuals leave assertions out. */
+    /** Whether each question follows. Questions without individuals, on a consistent ontology, leave assertions out. */
     List<Boolean> follow(List<Question> questions, boolean isKnownConsistent) {
         List<Boolean> answers = new ArrayList<>();
         for (int from = 0; from < questions.size(); from += MOST_QUESTIONS) {
@@ -135,7 +135,8 @@ final class QuestionAsker {
         ProgramAnswer answer = runner.run(
             new ProgramCall(configuration.command(), all, OntologyDocument.bytes(input)), task);
         if (!answer.status().isAnswer()) {
-            String told = document.explained(answer.firstLine()) + (answer.faults().isEmpty() ? "" : "\n" + answer.faults());
+            String told = document.explained(answer.firstLine())
+                + (answer.faults().isEmpty() ? "" : "\n" + answer.faults());
             throw answer.status().exception(told.isBlank() ? "the program ended without an answer" : told);
         }
         return answer;

@@ -9,9 +9,9 @@ import org.semanticweb.owlapi.reasoner.UnsupportedEntailmentTypeException;
 
 /**
  * Each kind of axiom about classes, roles and individuals as questions: the axiom is entailed just where each of them
- * is answered by yes. The helpers x are a class, y0, y1, .. individuals and s a role of which the ontology says nothing.
- * The reasons below say why a question fails only where the axiom does: a model in which the axiom fails becomes one of
- * the assumptions, when the helpers are given the meaning that is told. The other way round it is plain.
+ * is answered by yes. The helpers x are a class, y0, y1, .. individuals and s a role of which the ontology says
+ * nothing. The reasons below say why a question fails only where the axiom does: a model in which the axiom fails
+ * becomes one of the assumptions, when the helpers are given the meaning that is told. The other way round it is plain.
  */
 final class Reductions implements OWLAxiomVisitorEx<List<Question>> {
     /** More different individuals than this are asked about two by two: the program counts no further. */
@@ -103,13 +103,15 @@ final class Reductions implements OWLAxiomVisitorEx<List<Question>> {
     /** R is functional just where no y0 leads to two things: call them y1 and y2. */
     @Override
     public List<Question> visit(OWLFunctionalObjectPropertyAxiom axiom) {
-        return impossible(both(both(edge(axiom.getProperty(), y0, y1), edge(axiom.getProperty(), y0, y2)), different()));
+        return impossible(
+            both(both(edge(axiom.getProperty(), y0, y1), edge(axiom.getProperty(), y0, y2)), different()));
     }
 
     /** The same of edges that lead to y0. */
     @Override
     public List<Question> visit(OWLInverseFunctionalObjectPropertyAxiom axiom) {
-        return impossible(both(both(edge(axiom.getProperty(), y1, y0), edge(axiom.getProperty(), y2, y0)), different()));
+        return impossible(
+            both(both(edge(axiom.getProperty(), y1, y0), edge(axiom.getProperty(), y2, y0)), different()));
     }
 
     /** R is in S just where an edge of R between two things, call them y0 and y1, is one of S. */
@@ -279,7 +281,8 @@ final class Reductions implements OWLAxiomVisitorEx<List<Question>> {
         if (role.isOWLBottomObjectProperty()) {
             return List.of(factory.getOWLClassAssertionAxiom(factory.getOWLNothing(), from));
         }
-        return List.of(role.isAnonymous() ? factory.getOWLObjectPropertyAssertionAxiom(role.getNamedProperty(), to, from)
+        return List.of(role.isAnonymous()
+            ? factory.getOWLObjectPropertyAssertionAxiom(role.getNamedProperty(), to, from)
             : factory.getOWLObjectPropertyAssertionAxiom(role, from, to));
     }
 

@@ -85,7 +85,7 @@ final class Rewriting {
         return role.isAnonymous();
     }
 
-    /** All is below the top role, and the bottom role below all; of two inverse roles the same holds as of the roles. */
+    /** All is below the top role, and the bottom role below all; what holds of two inverse roles holds of the roles. */
     private List<OWLAxiom> inclusion(OWLSubObjectPropertyOfAxiom axiom) {
         OWLObjectPropertyExpression below = axiom.getSubProperty();
         OWLObjectPropertyExpression above = axiom.getSuperProperty();
@@ -132,12 +132,14 @@ final class Rewriting {
     /** What an inverse role starts from is what the role leads to. */
     private List<OWLAxiom> domain(OWLObjectPropertyDomainAxiom axiom) {
         return List.of(isInverse(axiom.getProperty())
-            ? factory.getOWLObjectPropertyRangeAxiom(axiom.getProperty().getNamedProperty(), axiom.getDomain()) : axiom);
+            ? factory.getOWLObjectPropertyRangeAxiom(axiom.getProperty().getNamedProperty(), axiom.getDomain())
+            : axiom);
     }
 
     private List<OWLAxiom> range(OWLObjectPropertyRangeAxiom axiom) {
         return List.of(isInverse(axiom.getProperty())
-            ? factory.getOWLObjectPropertyDomainAxiom(axiom.getProperty().getNamedProperty(), axiom.getRange()) : axiom);
+            ? factory.getOWLObjectPropertyDomainAxiom(axiom.getProperty().getNamedProperty(), axiom.getRange())
+            : axiom);
     }
 
     /** a is not related to b just where some class has b in it and nothing that a is related to: {b} itself is one. */

@@ -72,7 +72,8 @@ public class ChangesTest {
         OWLOntology imported = manager.createOntology(IRI.create("urn:imported"));
         manager.addAxiom(root, A_IN_B);
         manager.addAxiom(imported, B_IN_C);
-        JezundwaReasoner reasoner = new JezundwaReasonerFactory().createNonBufferingReasoner(root, Called.configuration());
+        JezundwaReasoner reasoner =
+            new JezundwaReasonerFactory().createNonBufferingReasoner(root, Called.configuration());
         assertFalse(reasoner.isEntailed(A_IN_C));
         var declaration = manager.getOWLDataFactory().getOWLImportsDeclaration(IRI.create("urn:imported"));
         manager.applyChange(new AddImport(root, declaration));

@@ -150,7 +150,8 @@ public class EntailmentTest {
     @Test
     public void whatCannotBeAskedIsRefused() {
         JezundwaReasoner reasoner = Called.reasoner(Ontologies.read(ONTOLOGY));
-        for (String text : List.of("FunctionalDataProperty(:age)", "DataPropertyAssertion(:age :rex \"3\"^^xsd:integer)",
+        for (String text : List.of("FunctionalDataProperty(:age)",
+            "DataPropertyAssertion(:age :rex \"3\"^^xsd:integer)",
             "HasKey(:Dog (:hasMaster) ())", "ClassAssertion(:Dog _:someone)",
             "SubClassOf(:Dog ObjectHasValue(:hasMaster :ann))", "SubClassOf(:Dog ObjectMinCardinality(2 :has :Dog))")) {
             assertThrows(text, UnsupportedEntailmentTypeException.class,

@@ -7,6 +7,7 @@ import java.nio.file.Files;
 import java.nio.file.Path;
 import java.util.List;
 import java.util.Set;
+import java.util.function.Supplier;
 import org.semanticweb.owlapi.apibinding.OWLManager;
 import org.semanticweb.owlapi.model.OWLAxiom;
 import org.semanticweb.owlapi.model.OWLDataFactory;
@@ -57,7 +58,7 @@ final class Judge {
 
     /**
      * Whether the second checker accepts each refutation, and Konclude itself says that the axiom follows from one of
-     * the justifications alone: then it contradicts itself.
+     * the justifications alone, as it is or in negation normal form: then it contradicts itself.
      */
     boolean isShownToFollow(OWLAxiom axiom) {
         return explanations.certificates(axiom).stream().allMatch(one -> one.isOfEntailment() && isAccepted(one))
@@ -65,8 +66,15 @@ final class Judge {
     }
 
     private static boolean isEnoughForKonclude(Set<OWLAxiom> justification, OWLAxiom axiom) {
+        OWLOntology alone = Ontologies.of(justification);
+        return isYes(() -> Konclude.entailed(alone, List.of(axiom)))
+            || isYes(() -> Konclude.entailedInNormalForm(alone, List.of(axiom)));
+    }
+
+    /** Whether an answer on one axiom is that it follows, as everything does from an inconsistent ontology. */
+    private static boolean isYes(Supplier<List<Boolean>> answer) {
         try {
-            List<Boolean> entailed = Konclude.entailed(Ontologies.of(justification), List.of(axiom));
+            List<Boolean> entailed = answer.get();
             return entailed == null || entailed.get(0);
         } catch (Konclude.NoAnswer crash) {
             return false;

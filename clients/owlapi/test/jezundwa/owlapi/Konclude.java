@@ -9,6 +9,8 @@ import java.util.HashSet;
 import java.util.List;
 import java.util.Set;
 import java.util.concurrent.TimeUnit;
+import java.util.function.UnaryOperator;
+import java.util.stream.Collectors;
 import java.util.stream.Stream;
 import org.semanticweb.owlapi.apibinding.OWLManager;
 import org.semanticweb.owlapi.formats.FunctionalSyntaxDocumentFormat;
@@ -46,15 +48,29 @@ final class Konclude {
 
     /** Whether each axiom is entailed; null where the ontology is inconsistent. */
     static List<Boolean> entailed(OWLOntology ontology, List<OWLAxiom> axioms) {
+        return entailed(ontology, axioms, UnaryOperator.identity());
+    }
+
+    /**
+     * The same, where all is put in negation normal form first. Konclude was seen to miss that the complement of "at
+     * most one" of a functional role has no member, and to crash on it.
+     */
+    static List<Boolean> entailedInNormalForm(OWLOntology ontology, List<OWLAxiom> axioms) {
+        return entailed(ontology, axioms, OWLAxiom::getNNF);
+    }
+
+    private static List<Boolean> entailed(OWLOntology ontology, List<OWLAxiom> axioms, UnaryOperator<OWLAxiom> form) {
         Set<OWLAxiom> all = new HashSet<>(ontology.getAxioms());
         ontology.getImportsClosure().forEach(imported -> all.addAll(imported.getAxioms()));
         List<OWLClass> failures = new ArrayList<>();
         for (int at = 0; at < axioms.size(); at++) {
             OWLClass failure = FACTORY.getOWLClass(IRI.create("urn:failure#" + at));
             failures.add(failure);
-            all.add(FACTORY.getOWLEquivalentClassesAxiom(failure, axioms.get(at).accept(new FailureClass(FACTORY, at))));
+            all.add(FACTORY.getOWLEquivalentClassesAxiom(failure,
+                axioms.get(at).accept(new FailureClass(FACTORY, at))));
         }
-        Set<OWLClass> contradictory = contradictory(Ontologies.of(all));
+        Set<OWLClass> contradictory =
+            contradictory(Ontologies.of(all.stream().map(form).collect(Collectors.toSet())));
         if (contradictory.contains(FACTORY.getOWLThing())) {
             return null;
         }

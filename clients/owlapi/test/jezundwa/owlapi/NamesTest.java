@@ -76,7 +76,8 @@ public class NamesTest {
         Called.requireLongForm();
         List<OWLClassExpression> many = new ArrayList<>();
         for (int at = 0; at < 140; at++) {
-            OWLClassExpression part = FACTORY.getOWLObjectSomeValuesFrom(Ontologies.role("r"), Ontologies.type("A" + at));
+            OWLClassExpression part =
+                FACTORY.getOWLObjectSomeValuesFrom(Ontologies.role("r"), Ontologies.type("A" + at));
             for (int complements = 0; complements < 50; complements++) {
                 part = FACTORY.getOWLObjectComplementOf(part);
             }

@@ -71,7 +71,8 @@ public class ReasonerCallsTest {
         assertTrue(reasoner.isConsistent());
         assertEquals(classes("Dog", "Hound"), reasoner.getEquivalentClasses(Ontologies.type("Dog")).getEntities());
         assertEquals(classes("Dog", "Hound"), reasoner.getSuperClasses(Ontologies.type("Puppy"), true).getFlattened());
-        assertEquals(classes("Dog", "Hound", "Cat"), reasoner.getSubClasses(Ontologies.type("Animal"), true).getFlattened());
+        assertEquals(classes("Dog", "Hound", "Cat"),
+            reasoner.getSubClasses(Ontologies.type("Animal"), true).getFlattened());
         assertEquals(Set.of(NOTHING, Ontologies.type("Chimera")), reasoner.getUnsatisfiableClasses().getEntities());
         assertEquals(Set.of(THING), reasoner.getTopClassNode().getEntities());
         assertFalse(reasoner.isSatisfiable(Ontologies.type("Chimera")));
@@ -79,9 +80,11 @@ public class ReasonerCallsTest {
         assertFalse(reasoner.isSatisfiable(FACTORY.getOWLObjectIntersectionOf(classes("Puppy", "Cat"))));
         assertEquals(classes("Cat"), reasoner.getDisjointClasses(Ontologies.type("Puppy")).getFlattened().stream()
             .filter(type -> type.equals(Ontologies.type("Cat"))).collect(Collectors.toSet()));
-        OWLClassExpression dogOwner = FACTORY.getOWLObjectSomeValuesFrom(Ontologies.role("owns"), Ontologies.type("Dog"));
+        OWLClassExpression dogOwner =
+            FACTORY.getOWLObjectSomeValuesFrom(Ontologies.role("owns"), Ontologies.type("Dog"));
         assertEquals(classes("Owner"), reasoner.getSuperClasses(dogOwner, true).getFlattened());
-        assertEquals(Set.of(NOTHING, Ontologies.type("Chimera")), reasoner.getSubClasses(dogOwner, true).getFlattened());
+        assertEquals(Set.of(NOTHING, Ontologies.type("Chimera")),
+            reasoner.getSubClasses(dogOwner, true).getFlattened());
         assertEquals(Set.of(), reasoner.getEquivalentClasses(dogOwner).getEntities());
         OWLClassExpression animalOwner =
             FACTORY.getOWLObjectSomeValuesFrom(Ontologies.role("owns"), Ontologies.type("Animal"));
@@ -154,7 +157,8 @@ public class ReasonerCallsTest {
         JezundwaReasoner refusing = new JezundwaReasonerFactory().createReasoner(Ontologies.read(ANIMALS),
             Called.configuration().withFreshEntities(FreshEntityPolicy.DISALLOW));
         assertThrows(FreshEntitiesException.class, () -> refusing.isSatisfiable(unknown));
-        assertThrows(FreshEntitiesException.class, () -> refusing.isEntailed(Ontologies.axiom("SubClassOf(:Unknown :Dog)")));
+        assertThrows(FreshEntitiesException.class,
+            () -> refusing.isEntailed(Ontologies.axiom("SubClassOf(:Unknown :Dog)")));
         assertThrows(FreshEntitiesException.class, () -> refusing.getTypes(Ontologies.individual("nobody"), true));
         assertTrue(refusing.isSatisfiable(Ontologies.type("Dog")));
     }

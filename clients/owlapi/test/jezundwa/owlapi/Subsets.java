@@ -20,8 +20,8 @@ final class Subsets {
     private Subsets() {}
 
     /**
-     * Of each subset, by the number whose bits tell its axioms. One ontology has a copy of each subset with names of its
-     * own, so that Konclude tells of all in one run; null where it is inconsistent, or Konclude has no answer.
+     * Of each subset, by the number whose bits tell its axioms. One ontology has a copy of each subset with names of
+     * its own, so that Konclude tells of all in one run; null where it is inconsistent, or Konclude has no answer.
      */
     static List<Boolean> entailed(List<OWLAxiom> axioms, OWLAxiom statement) {
         Set<OWLAxiom> copies = new HashSet<>();
@@ -86,7 +86,8 @@ final class Subsets {
         return found;
     }
 
-    private static Set<OWLAxiom> members(List<OWLAxiom> axioms, int subset) {
+    /** The axioms of a subset. */
+    static Set<OWLAxiom> members(List<OWLAxiom> axioms, int subset) {
         Set<OWLAxiom> members = new HashSet<>();
         for (int at = 0; at < axioms.size(); at++) {
             if ((subset >> at & 1) == 1) {
