@@ -21,8 +21,8 @@ from tests.program import run_program
 
 # Konclude answers a small ontology in a tenth of a second, or ends, or never answers.
 PATIENCE = {"trials": 1, "limit": 20}
-# The program takes some seconds for this.
-BUDGET = ("budget", "20000000")
+# The program takes about a second for this.
+BUDGET = ("budget", "3000000")
 INCONSISTENT = {(THING, NOTHING)}
 WAYS = ("by cutting", "light", "full")
 

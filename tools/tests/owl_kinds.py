@@ -59,7 +59,8 @@ BASE = {
     "range": [
         "<datatype>",
         "<datatype>",
-        "DataOneOf(<literal> <literal>)",
+        # Konclude counts a value that stands there twice as two
+        'DataOneOf(<literal> "y")',
         "DatatypeRestriction(xsd:integer xsd:minInclusive <bound>)",
         "DatatypeRestriction(xsd:integer xsd:maxExclusive <bound>)",
         "DataComplementOf(<range>)",
