@@ -217,7 +217,7 @@ public class ExplanationTest {
         Called.requireLongForm();
         assumeTrue("konclude is not installed", Konclude.isHere());
         int compared = 0;
-        for (int seed = 0; compared < Called.many(2, 40); seed++) {
+        for (int seed = 0; compared < 40 && seed < 300; seed++) {
             Ontologies.Maker maker = new Ontologies.Maker(1_000 + seed, false);
             List<OWLAxiom> axioms = sixOf(maker.ontology(), seed);
             for (OWLAxiom statement : maker.questions()) {
@@ -230,6 +230,8 @@ public class ExplanationTest {
                 }
             }
         }
+        System.out.println("compared with Konclude's answers to all subsets: " + compared + " statements");
+        assertTrue(compared > 0);
     }
 
     /** Some axioms of all kinds, the same ones in every run. */

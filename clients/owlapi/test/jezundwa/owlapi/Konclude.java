@@ -48,7 +48,12 @@ final class Konclude {
 
     /** Whether each axiom is entailed; null where the ontology is inconsistent. */
     static List<Boolean> entailed(OWLOntology ontology, List<OWLAxiom> axioms) {
-        return entailed(ontology, axioms, UnaryOperator.identity());
+        return entailed(ontology, axioms, UnaryOperator.identity(), Called.LONGEST);
+    }
+
+    /** The same, where a case for which so many milliseconds do not suffice is passed over. */
+    static List<Boolean> entailedWithin(long milliseconds, OWLOntology ontology, List<OWLAxiom> axioms) {
+        return entailed(ontology, axioms, UnaryOperator.identity(), milliseconds);
     }
 
     /**
@@ -56,10 +61,11 @@ final class Konclude {
      * most one" of a functional role has no member, and to crash on it.
      */
     static List<Boolean> entailedInNormalForm(OWLOntology ontology, List<OWLAxiom> axioms) {
-        return entailed(ontology, axioms, OWLAxiom::getNNF);
+        return entailed(ontology, axioms, OWLAxiom::getNNF, Called.LONGEST);
     }
 
-    private static List<Boolean> entailed(OWLOntology ontology, List<OWLAxiom> axioms, UnaryOperator<OWLAxiom> form) {
+    private static List<Boolean> entailed(OWLOntology ontology, List<OWLAxiom> axioms, UnaryOperator<OWLAxiom> form,
+            long longest) {
         Set<OWLAxiom> all = new HashSet<>(ontology.getAxioms());
         ontology.getImportsClosure().forEach(imported -> all.addAll(imported.getAxioms()));
         List<OWLClass> failures = new ArrayList<>();
@@ -70,7 +76,7 @@ final class Konclude {
                 axioms.get(at).accept(new FailureClass(FACTORY, at))));
         }
         Set<OWLClass> contradictory =
-            contradictory(Ontologies.of(all.stream().map(form).collect(Collectors.toSet())));
+            contradictory(Ontologies.of(all.stream().map(form).collect(Collectors.toSet())), longest);
         if (contradictory.contains(FACTORY.getOWLThing())) {
             return null;
         }
@@ -78,9 +84,9 @@ final class Konclude {
     }
 
     /** The classes that Konclude calls equal to Nothing; Thing is among them where the ontology is inconsistent. */
-    static Set<OWLClass> contradictory(OWLOntology ontology) {
+    private static Set<OWLClass> contradictory(OWLOntology ontology, long longest) {
         Set<OWLClass> found = new HashSet<>();
-        for (OWLAxiom axiom : classified(ontology).getLogicalAxioms()) {
+        for (OWLAxiom axiom : classified(ontology, longest).getLogicalAxioms()) {
             if (axiom instanceof OWLEquivalentClassesAxiom equal && equal.contains(FACTORY.getOWLNothing())) {
                 found.addAll(equal.getNamedClasses());
                 if (equal.contains(FACTORY.getOWLThing())) {
@@ -93,6 +99,10 @@ final class Konclude {
 
     /** The hierarchy as Konclude writes it. One worker alone was seen to wait for ever, so there are two. */
     static OWLOntology classified(OWLOntology ontology) {
+        return classified(ontology, Called.LONGEST);
+    }
+
+    private static OWLOntology classified(OWLOntology ontology, long longest) {
         try {
             Path folder = Files.createTempDirectory("konclude");
             Path input = folder.resolve("input.ofn");
@@ -102,7 +112,7 @@ final class Konclude {
             Process process = new ProcessBuilder(PROGRAM, "classification", "-w", "2", "-i",
                 input.toString(), "-o", output.toString()).redirectErrorStream(true)
                 .redirectOutput(ProcessBuilder.Redirect.DISCARD).start();
-            boolean hasEnded = process.waitFor(Called.LONGEST, TimeUnit.MILLISECONDS);
+            boolean hasEnded = process.waitFor(longest, TimeUnit.MILLISECONDS);
             process.destroyForcibly().waitFor();
             try {
                 if (!hasEnded || process.exitValue() != 0 || !Files.exists(output)) {

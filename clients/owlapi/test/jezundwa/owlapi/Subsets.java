@@ -16,6 +16,8 @@ import org.semanticweb.owlapi.util.OWLObjectDuplicator;
 /** From which subsets of some axioms a statement follows, and the smallest sets out of that. */
 final class Subsets {
     private static final OWLOntologyManager MANAGER = OWLManager.createOWLOntologyManager();
+    /** In milliseconds. Most cases take one second; some, in which each copy has a choice everywhere, have no end. */
+    private static final long LONGEST = 20_000;
 
     private Subsets() {}
 
@@ -35,7 +37,7 @@ final class Subsets {
             statements.add(copy(statement, subset));
         }
         try {
-            return Konclude.entailed(Ontologies.of(copies), statements);
+            return Konclude.entailedWithin(LONGEST, Ontologies.of(copies), statements);
         } catch (Konclude.NoAnswer crash) {
             return null;
         }
