@@ -1331,6 +1331,41 @@ DATA = [
         """,
     ),
     Case(
+        "data_classes.DataClasses.bound",
+        """
+        SubClassOf(:A DataSomeValuesFrom(:p DataUnionOf(xsd:integer xsd:string)))
+        SubClassOf(DataSomeValuesFrom(:p xsd:integer) :B)
+        SubClassOf(DataSomeValuesFrom(:p xsd:string) :B)
+        """,
+        follows="SubClassOf(:A :B)",
+        open="SubClassOf(:B :A)",
+    ),
+    Case(
+        "data_classes.DataClasses.split",
+        f"""
+        SubClassOf(DataSomeValuesFrom(:p DataIntersectionOf(xsd:string DataComplementOf(DataOneOf({TEXT})))) :A)
+        SubClassOf(DataSomeValuesFrom(:p DataComplementOf(xsd:string)) :A)
+        SubClassOf(DataHasValue(:p {TEXT}) :A)
+        SubClassOf(:B DataSomeValuesFrom(:p rdfs:Literal))
+        """,
+        follows="SubClassOf(:B :A)",
+        open="SubClassOf(:A :B)",
+    ),
+    Case(
+        "data_classes.DataClasses.relate",
+        """
+        SubClassOf(:A DataSomeValuesFrom(:p DatatypeRestriction(xsd:integer xsd:minInclusive "0"^^xsd:integer)))
+        SubClassOf(DataSomeValuesFrom(:p DatatypeRestriction(xsd:integer xsd:minInclusive "0"^^xsd:integer)) :B)
+        SubClassOf(:C DataSomeValuesFrom(:p xsd:nonNegativeInteger))
+        SubClassOf(DataSomeValuesFrom(:p xsd:nonNegativeInteger) :D)
+        """,
+        follows="""
+        SubClassOf(:A :D)
+        SubClassOf(:C :B)
+        """,
+        open="SubClassOf(:D :C)",
+    ),
+    Case(
         "data_classes.of_assertion",
         f"""
         DataPropertyAssertion(:p :a {ONE})
