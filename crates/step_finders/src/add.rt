@@ -8,17 +8,16 @@ ghost use Rattle.step_finders.specs.Reasons.{IsAddition};
 use crate::nodes::count_of;
 use crate::parts::find_at_node;
 use crate::rows::find_by_rows;
-use crate::{Addition, Rules, State};
+use crate::{Addition, Rules, State, StateWithRules};
 
 /// A node and a concept that is to be added to it; none exactly where there is none.
-pub fn find_add<S: State, R: Rules>(state: &S, rules: &R) -> Option<Addition>
-    requires one_first { S.first state.now ≡ (R.context rules.now).first }
-    ensures { let w = R.context rules.now in let fs = S.facts state.now in
-        MatchOption result (NothingToAdd w fs) (IsAddition w fs (R.files rules.now)) }
+pub fn find_add<S: State, R: Rules>(search: &StateWithRules<'_, S, R>) -> Option<Addition>
+    ensures { let w = R.context search.now.rules.now in let fs = S.facts search.now.state.now in
+        MatchOption result (NothingToAdd w fs) (IsAddition w fs (R.files search.now.rules.now)) }
 {
-    rules.is_ready();
-    for node in 0..count_of(state, rules) {
-        match find_at_representative(state, rules, node) {
+    search.rules.is_ready();
+    for node in 0..count_of(search) {
+        match find_at_representative(search, node) {
             Some(addition) => return Some(addition),
             None => {}
         }
@@ -27,26 +26,33 @@ pub fn find_add<S: State, R: Rules>(state: &S, rules: &R) -> Option<Addition>
 }
 
 // What is to be added because of what the node has, where it is a representative.
-fn find_at_representative<S: State, R: Rules>(state: &S, rules: &R, node: u32) -> Option<Addition>
-    requires { node < node_count_from (R.context rules.now).first (S.facts state.now) }
-    ensures { let w = R.context rules.now in let fs = S.facts state.now in
-        MatchOption result (rep fs node ≡ node → NothingFrom w fs (R.files rules.now) node)
-        (IsAddition w fs (R.files rules.now)) }
+fn find_at_representative<S: State, R: Rules>(
+    search: &StateWithRules<'_, S, R>,
+    node: u32,
+) -> Option<Addition>
+    requires { node < node_count_from (R.context search.now.rules.now).first (S.facts search.now.state.now) }
+    ensures { let w = R.context search.now.rules.now in let fs = S.facts search.now.state.now in
+        MatchOption result (rep fs node ≡ node → NothingFrom w fs (R.files search.now.rules.now) node)
+        (IsAddition w fs (R.files search.now.rules.now)) }
 {
-    if state.representative(node) != node {
+    if search.state.representative(node) != node {
         return None;
     }
-    find_from(state, rules, node)
+    find_from(search, node)
 }
 
 /// What is to be added because of what the node has; none exactly where there is nothing.
-pub fn find_from<S: State, R: Rules>(state: &S, rules: &R, node: u32) -> Option<Addition>
-    requires { node < node_count_from (R.context rules.now).first (S.facts state.now) }
-    ensures { let w = R.context rules.now in let fs = S.facts state.now in
-        MatchOption result (NothingFrom w fs (R.files rules.now) node) (IsAddition w fs (R.files rules.now)) }
+pub fn find_from<S: State, R: Rules>(
+    search: &StateWithRules<'_, S, R>,
+    node: u32,
+) -> Option<Addition>
+    requires { node < node_count_from (R.context search.now.rules.now).first (S.facts search.now.state.now) }
+    ensures { let w = R.context search.now.rules.now in let fs = S.facts search.now.state.now in
+        MatchOption result (NothingFrom w fs (R.files search.now.rules.now) node)
+        (IsAddition w fs (R.files search.now.rules.now)) }
 {
-    match find_at_node(state, rules, node) {
+    match find_at_node(search, node) {
         Some(addition) => Some(addition),
-        None => find_by_rows(state, rules, node),
+        None => find_by_rows(search, node),
     }
 }

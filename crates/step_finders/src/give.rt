@@ -3,7 +3,7 @@ ghost use Rattle.std.specs.Prelude.{◌≡◌, ◌==◌, true, MatchOption};
 ghost use Rattle.calculus_specs.specs.State.{node_count_from, speaks_below, has_edge as leads, is_so as says_so};
 ghost use Rattle.step_finders.specs.Giving.{IsGiving, NothingToGive};
 
-use crate::{Given, Rules, State};
+use crate::{Given, Rules, State, StateWithRules};
 use calculus_specs::Fact;
 
 // Whether an edge by this very role leads from one node to another.
@@ -33,14 +33,13 @@ pub fn is_so<S: State>(state: &S, fact: Fact<u32>) -> bool
 }
 
 /// A given fact that is not so; none exactly where each is.
-pub fn find_giving<S: State, R: Rules>(state: &S, rules: &R) -> Option<Given>
-    requires one_first { S.first state.now ≡ (R.context rules.now).first }
-    ensures { let w = R.context rules.now in let fs = S.facts state.now in
+pub fn find_giving<S: State, R: Rules>(search: &StateWithRules<'_, S, R>) -> Option<Given>
+    ensures { let w = R.context search.now.rules.now in let fs = S.facts search.now.state.now in
         MatchOption result (NothingToGive w fs) (IsGiving w fs) }
 {
-    rules.is_ready();
-    for given in rules.given() {
-        if !is_so(state, given.fact) {
+    search.rules.is_ready();
+    for given in search.rules.given() {
+        if !is_so(search.state, given.fact) {
             return Some(*given);
         }
     }

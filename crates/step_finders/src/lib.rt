@@ -21,6 +21,7 @@ mod rows;
 mod state;
 mod step;
 mod unapart;
+mod with_rules;
 
 pub use add::{find_add, find_from};
 pub use choose::{
@@ -45,3 +46,4 @@ pub use rows::{
 pub use shq_nnf::{NoMemory, Shape};
 pub use state::{Given, NamedRow, PlainRow, Rules, State, StateWithBlocks};
 pub use step::{Step, find_step, no_step_is_saturated};
+pub use with_rules::StateWithRules;

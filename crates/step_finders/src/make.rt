@@ -12,7 +12,7 @@ ghost use Rattle.step_finders.specs.Making.{NothingToMake};
 
 use crate::counted::filled_successors;
 use crate::nodes::{count_of, is_clear};
-use crate::{NoMemory, Rules, State, StateWithBlocks};
+use crate::{NoMemory, Rules, State, StateWithBlocks, StateWithRules};
 use shq_nnf::Shape;
 use std::alloc::Global;
 
@@ -32,13 +32,19 @@ pub struct NewNodes {
 }
 
 // Whether a successor by a role below this one has the filler.
-fn has_filler<S: State, R: Rules>(state: &S, rules: &R, node: u32, role: u32, filler: u32) -> bool
-    ensures yes { IsTrue result → HasFiller (R.context rules.now) (S.facts state.now) node role filler }
-    ensures no { let w = R.context rules.now in let fs = S.facts state.now in
+fn has_filler<S: State, R: Rules>(
+    search: &StateWithRules<'_, S, R>,
+    node: u32,
+    role: u32,
+    filler: u32,
+) -> bool
+    ensures yes { IsTrue result → HasFiller (R.context search.now.rules.now) (S.facts search.now.state.now) node role
+        filler }
+    ensures no { let w = R.context search.now.rules.now in let fs = S.facts search.now.state.now in
         result ≡ false → all_filled w.first (below_of w) fs node role filler ≡ [] }
 {
-    for edge in state.edges(node) {
-        if rules.is_below(edge.0, role) && state.has(edge.1, filler) {
+    for edge in search.state.edges(node) {
+        if search.rules.is_below(edge.0, role) && search.state.has(edge.1, filler) {
             return true;
         }
     }
@@ -80,20 +86,19 @@ fn are_all_apart<S: State>(state: &S, first: u32, count: u32) -> bool
 // apart. A node that has been joined to another is one of them where its representative is.
 fn has_run<S: State, R: Rules>(
     alloc: Global,
-    state: &S,
-    rules: &R,
+    search: &StateWithRules<'_, S, R>,
     node: u32,
     count: u32,
     role: u32,
     filler: u32,
 ) -> Result<bool, NoMemory>
-    requires one_first { S.first state.now ≡ (R.context rules.now).first }
     requires some { 0 < count }
     requires few { count < 200 }
-    ensures { IfOk result (λ found. AnswersRun (R.context rules.now) (S.facts state.now) node count role filler found) }
+    ensures { IfOk result (λ found. AnswersRun (R.context search.now.rules.now) (S.facts search.now.state.now) node
+        count role filler found) }
 {
-    let ends = filled_successors(alloc, state, rules, node, role, filler)?;
-    Ok(has_run_among(state, &ends, state.nodes(), count))
+    let ends = filled_successors(alloc, search, node, role, filler)?;
+    Ok(has_run_among(search.state, &ends, search.state.nodes(), count))
 }
 
 // Whether so many nodes in a row below the bound have representatives in the list, and are pairwise apart. The nodes
@@ -117,20 +122,19 @@ fn has_run_among<S: State>(state: &S, ends: &[u32], bound: u32, count: u32) -> b
 
 // What is to be made since the node has an existential restriction.
 fn find_by_some<S: State, R: Rules>(
-    state: &S,
-    rules: &R,
+    search: &StateWithRules<'_, S, R>,
     node: u32,
     concept: u32,
     role: u32,
     filler: u32,
 ) -> Option<NewNodes>
-    requires is_open { IsOpen (R.context rules.now) (S.facts state.now) node }
-    requires holds { holds (S.facts state.now) node concept ≡ true }
-    requires shape { shape_of (R.context rules.now).table concept ≡ some_of role filler }
-    ensures { let w = R.context rules.now in let fs = S.facts state.now in
+    requires is_open { IsOpen (R.context search.now.rules.now) (S.facts search.now.state.now) node }
+    requires holds { holds (S.facts search.now.state.now) node concept ≡ true }
+    requires shape { shape_of (R.context search.now.rules.now).table concept ≡ some_of role filler }
+    ensures { let w = R.context search.now.rules.now in let fs = S.facts search.now.state.now in
         MatchOption result (NoMakingByShape w fs node (some_of role filler)) (IsMaking w fs) }
 {
-    if has_filler(state, rules, node, role, filler) {
+    if has_filler(search, node, role, filler) {
         return None;
     }
     Some(NewNodes {
@@ -149,24 +153,20 @@ fn find_by_some<S: State, R: Rules>(
 /// Want of memory.
 pub fn find_making_by<S: State, R: Rules>(
     alloc: Global,
-    state: &S,
-    rules: &R,
+    search: &StateWithRules<'_, S, R>,
     node: u32,
     concept: u32,
 ) -> Result<Option<NewNodes>, NoMemory>
-    requires one_first { S.first state.now ≡ (R.context rules.now).first }
-    requires is_open { IsOpen (R.context rules.now) (S.facts state.now) node }
-    requires holds { holds (S.facts state.now) node concept ≡ true }
-    ensures { let w = R.context rules.now in let fs = S.facts state.now in
+    requires is_open { IsOpen (R.context search.now.rules.now) (S.facts search.now.state.now) node }
+    requires holds { holds (S.facts search.now.state.now) node concept ≡ true }
+    ensures { let w = R.context search.now.rules.now in let fs = S.facts search.now.state.now in
         IfOk result (λ found. MatchOption found (NoMakingByShape w fs node (shape_of w.table concept))
         (IsMaking w fs)) }
 {
-    match rules.shape(concept) {
-        Shape::SomeOf(role, filler) => {
-            Ok(find_by_some(state, rules, node, concept, role, filler))
-        }
+    match search.rules.shape(concept) {
+        Shape::SomeOf(role, filler) => { Ok(find_by_some(search, node, concept, role, filler)) }
         Shape::Min(count, role, filler) => find_by_least(
-            alloc, state, rules, node, concept, count, role, filler,
+            alloc, search, node, concept, count, role, filler,
         ),
         _ => Ok(None),
     }
@@ -176,24 +176,22 @@ pub fn find_making_by<S: State, R: Rules>(
 #[tactic(auto, using(crate::proofs::Making::least_some, crate::proofs::Making::least_few))]
 fn find_by_least<S: State, R: Rules>(
     alloc: Global,
-    state: &S,
-    rules: &R,
+    search: &StateWithRules<'_, S, R>,
     node: u32,
     concept: u32,
     count: u32,
     role: u32,
     filler: u32,
 ) -> Result<Option<NewNodes>, NoMemory>
-    requires one_first { S.first state.now ≡ (R.context rules.now).first }
-    requires is_open { IsOpen (R.context rules.now) (S.facts state.now) node }
-    requires holds { holds (S.facts state.now) node concept ≡ true }
-    requires shape { shape_of (R.context rules.now).table concept ≡ at_least count role filler }
-    ensures { let w = R.context rules.now in let fs = S.facts state.now in
+    requires is_open { IsOpen (R.context search.now.rules.now) (S.facts search.now.state.now) node }
+    requires holds { holds (S.facts search.now.state.now) node concept ≡ true }
+    requires shape { shape_of (R.context search.now.rules.now).table concept ≡ at_least count role filler }
+    ensures { let w = R.context search.now.rules.now in let fs = S.facts search.now.state.now in
         IfOk result (λ found. MatchOption found (NoMakingByShape w fs node (at_least count role filler))
         (IsMaking w fs)) }
 {
-    rules.is_ready();
-    if has_run(alloc, state, rules, node, count, role, filler)? {
+    search.rules.is_ready();
+    if has_run(alloc, search, node, count, role, filler)? {
         return Ok(None);
     }
     Ok(Some(NewNodes {
@@ -212,17 +210,15 @@ fn find_by_least<S: State, R: Rules>(
 /// Want of memory.
 pub fn find_making_at<S: State, R: Rules>(
     alloc: Global,
-    state: &S,
-    rules: &R,
+    search: &StateWithRules<'_, S, R>,
     node: u32,
 ) -> Result<Option<NewNodes>, NoMemory>
-    requires one_first { S.first state.now ≡ (R.context rules.now).first }
-    requires is_open { IsOpen (R.context rules.now) (S.facts state.now) node }
-    ensures { let w = R.context rules.now in let fs = S.facts state.now in
+    requires is_open { IsOpen (R.context search.now.rules.now) (S.facts search.now.state.now) node }
+    ensures { let w = R.context search.now.rules.now in let fs = S.facts search.now.state.now in
         IfOk result (λ found. MatchOption found (NoMakingAt w fs node) (IsMaking w fs)) }
 {
-    for concept in state.label(node) {
-        match find_making_by(alloc, state, rules, node, *concept)? {
+    for concept in search.state.label(node) {
+        match find_making_by(alloc, search, node, *concept)? {
             Some(new) => return Ok(Some(new)),
             None => {}
         }
@@ -233,22 +229,20 @@ pub fn find_making_at<S: State, R: Rules>(
 // The same, where the node is clear and a representative.
 fn find_at_open<S: StateWithBlocks, R: Rules>(
     alloc: Global,
-    state: &S,
-    rules: &R,
+    search: &StateWithRules<'_, S, R>,
     node: u32,
 ) -> Result<Option<NewNodes>, NoMemory>
-    requires one_first { S.first state.now ≡ (R.context rules.now).first }
-    requires is_node { node < node_count_from (R.context rules.now).first (S.facts state.now) }
-    ensures { let w = R.context rules.now in let fs = S.facts state.now in
+    requires is_node { node < node_count_from (R.context search.now.rules.now).first (S.facts search.now.state.now) }
+    ensures { let w = R.context search.now.rules.now in let fs = S.facts search.now.state.now in
         IfOk result (λ found. MatchOption found (IsOpen w fs node → NoMakingAt w fs node) (IsMaking w fs)) }
 {
-    if state.representative(node) != node {
+    if search.state.representative(node) != node {
         return Ok(None);
     }
-    if !is_clear(state, rules, node) {
+    if !is_clear(search, node) {
         return Ok(None);
     }
-    find_making_at(alloc, state, rules, node)
+    find_making_at(alloc, search, node)
 }
 
 /// What nodes are to be made; none exactly where there are none.
@@ -258,15 +252,13 @@ fn find_at_open<S: StateWithBlocks, R: Rules>(
 /// Want of memory.
 pub fn find_making<S: StateWithBlocks, R: Rules>(
     alloc: Global,
-    state: &S,
-    rules: &R,
+    search: &StateWithRules<'_, S, R>,
 ) -> Result<Option<NewNodes>, NoMemory>
-    requires one_first { S.first state.now ≡ (R.context rules.now).first }
-    ensures { let w = R.context rules.now in let fs = S.facts state.now in
+    ensures { let w = R.context search.now.rules.now in let fs = S.facts search.now.state.now in
         IfOk result (λ found. MatchOption found (NothingToMake w fs) (IsMaking w fs)) }
 {
-    for node in 0..count_of(state, rules) {
-        match find_at_open(alloc, state, rules, node)? {
+    for node in 0..count_of(search) {
+        match find_at_open(alloc, search, node)? {
             Some(new) => return Ok(Some(new)),
             None => {}
         }

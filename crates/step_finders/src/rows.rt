@@ -7,7 +7,7 @@ ghost use Rattle.step_finders.specs.Found.{EdgesHold, HoldsRows};
 ghost use Rattle.step_finders.specs.Reasons.{IsAddition};
 
 use crate::parts::find_part;
-use crate::{Addition, NamedRow, PlainRow, Reason, Rules, State};
+use crate::{Addition, NamedRow, PlainRow, Reason, Rules, State, StateWithRules};
 
 // Whether the node has each of the concepts.
 fn has_all<S: State>(state: &S, node: u32, concepts: &[u32]) -> bool
@@ -56,19 +56,18 @@ fn find_plain<S: State>(state: &S, node: u32, rows: &[PlainRow]) -> Option<Plain
 /// What a row gives the node that waits for one of its concepts, among others; none exactly where they give nothing
 /// new.
 pub fn find_by_name<S: State, R: Rules>(
-    state: &S,
-    rules: &R,
+    search: &StateWithRules<'_, S, R>,
     node: u32,
     concept: u32,
 ) -> Option<Addition>
-    requires is_node { node < node_count_from (R.context rules.now).first (S.facts state.now) }
-    requires holds { holds (S.facts state.now) node concept ≡ true }
-    ensures { let w = R.context rules.now in let fs = S.facts state.now in
-        MatchOption result (All (NamedHold fs node) ((R.files rules.now).named concept))
-        (IsAddition w fs (R.files rules.now)) }
+    requires is_node { node < node_count_from (R.context search.now.rules.now).first (S.facts search.now.state.now) }
+    requires holds { holds (S.facts search.now.state.now) node concept ≡ true }
+    ensures { let w = R.context search.now.rules.now in let fs = S.facts search.now.state.now in
+        MatchOption result (All (NamedHold fs node) ((R.files search.now.rules.now).named concept))
+        (IsAddition w fs (R.files search.now.rules.now)) }
 {
-    rules.is_ready();
-    match find_due(state, node, rules.named(concept)) {
+    search.rules.is_ready();
+    match find_due(search.state, node, search.rules.named(concept)) {
         Some((place, gives)) => Some(Addition {
             node,
             concept: gives,
@@ -79,13 +78,17 @@ pub fn find_by_name<S: State, R: Rules>(
 }
 
 /// What a row gives the node since it has some concepts; none exactly where such rows give nothing new.
-pub fn find_by_names<S: State, R: Rules>(state: &S, rules: &R, node: u32) -> Option<Addition>
-    requires { node < node_count_from (R.context rules.now).first (S.facts state.now) }
-    ensures { let w = R.context rules.now in let fs = S.facts state.now in
-        MatchOption result (NamesHold (R.files rules.now) fs node) (IsAddition w fs (R.files rules.now)) }
+pub fn find_by_names<S: State, R: Rules>(
+    search: &StateWithRules<'_, S, R>,
+    node: u32,
+) -> Option<Addition>
+    requires { node < node_count_from (R.context search.now.rules.now).first (S.facts search.now.state.now) }
+    ensures { let w = R.context search.now.rules.now in let fs = S.facts search.now.state.now in
+        MatchOption result (NamesHold (R.files search.now.rules.now) fs node)
+        (IsAddition w fs (R.files search.now.rules.now)) }
 {
-    for concept in state.label(node) {
-        match find_by_name(state, rules, node, *concept) {
+    for concept in search.state.label(node) {
+        match find_by_name(search, node, *concept) {
             Some(addition) => return Some(addition),
             None => {}
         }
@@ -95,20 +98,19 @@ pub fn find_by_names<S: State, R: Rules>(state: &S, rules: &R, node: u32) -> Opt
 
 /// What a row gives where the edge begins; none exactly where such rows give nothing new.
 pub fn find_at_begin<S: State, R: Rules>(
-    state: &S,
-    rules: &R,
+    search: &StateWithRules<'_, S, R>,
     node: u32,
     role: u32,
     end: u32,
 ) -> Option<Addition>
-    requires is_node { node < node_count_from (R.context rules.now).first (S.facts state.now) }
-    requires next { is_successor (S.facts state.now) (λ r. r == role) node end ≡ true }
-    ensures { let w = R.context rules.now in let fs = S.facts state.now in
-        MatchOption result (All (PlainHolds fs node) ((R.files rules.now).begins role))
-        (IsAddition w fs (R.files rules.now)) }
+    requires is_node { node < node_count_from (R.context search.now.rules.now).first (S.facts search.now.state.now) }
+    requires next { is_successor (S.facts search.now.state.now) (λ r. r == role) node end ≡ true }
+    ensures { let w = R.context search.now.rules.now in let fs = S.facts search.now.state.now in
+        MatchOption result (All (PlainHolds fs node) ((R.files search.now.rules.now).begins role))
+        (IsAddition w fs (R.files search.now.rules.now)) }
 {
-    rules.is_ready();
-    match find_plain(state, node, rules.at_begins(role)) {
+    search.rules.is_ready();
+    match find_plain(search.state, node, search.rules.at_begins(role)) {
         Some(row) => Some(Addition {
             node,
             concept: row.gives,
@@ -120,20 +122,19 @@ pub fn find_at_begin<S: State, R: Rules>(
 
 /// What a row gives where the edge ends; none exactly where such rows give nothing new.
 pub fn find_at_end<S: State, R: Rules>(
-    state: &S,
-    rules: &R,
+    search: &StateWithRules<'_, S, R>,
     node: u32,
     role: u32,
     end: u32,
 ) -> Option<Addition>
-    requires is_node { node < node_count_from (R.context rules.now).first (S.facts state.now) }
-    requires next { is_successor (S.facts state.now) (λ r. r == role) node end ≡ true }
-    ensures { let w = R.context rules.now in let fs = S.facts state.now in
-        MatchOption result (All (PlainHolds fs end) ((R.files rules.now).ends role))
-        (IsAddition w fs (R.files rules.now)) }
+    requires is_node { node < node_count_from (R.context search.now.rules.now).first (S.facts search.now.state.now) }
+    requires next { is_successor (S.facts search.now.state.now) (λ r. r == role) node end ≡ true }
+    ensures { let w = R.context search.now.rules.now in let fs = S.facts search.now.state.now in
+        MatchOption result (All (PlainHolds fs end) ((R.files search.now.rules.now).ends role))
+        (IsAddition w fs (R.files search.now.rules.now)) }
 {
-    rules.is_ready();
-    match find_plain(state, end, rules.at_ends(role)) {
+    search.rules.is_ready();
+    match find_plain(search.state, end, search.rules.at_ends(role)) {
         Some(row) => Some(Addition {
             node: end,
             concept: row.gives,
@@ -149,31 +150,35 @@ pub fn find_at_end<S: State, R: Rules>(
 
 /// What a row gives where the edge begins or ends; none exactly where such rows give nothing new.
 pub fn find_by_edge<S: State, R: Rules>(
-    state: &S,
-    rules: &R,
+    search: &StateWithRules<'_, S, R>,
     node: u32,
     role: u32,
     end: u32,
 ) -> Option<Addition>
-    requires is_node { node < node_count_from (R.context rules.now).first (S.facts state.now) }
-    requires next { is_successor (S.facts state.now) (λ r. r == role) node end ≡ true }
-    ensures { let w = R.context rules.now in let fs = S.facts state.now in
-        MatchOption result (EdgeHolds (R.files rules.now) fs node role end) (IsAddition w fs (R.files rules.now)) }
+    requires is_node { node < node_count_from (R.context search.now.rules.now).first (S.facts search.now.state.now) }
+    requires next { is_successor (S.facts search.now.state.now) (λ r. r == role) node end ≡ true }
+    ensures { let w = R.context search.now.rules.now in let fs = S.facts search.now.state.now in
+        MatchOption result (EdgeHolds (R.files search.now.rules.now) fs node role end)
+        (IsAddition w fs (R.files search.now.rules.now)) }
 {
-    match find_at_begin(state, rules, node, role, end) {
+    match find_at_begin(search, node, role, end) {
         Some(addition) => Some(addition),
-        None => find_at_end(state, rules, node, role, end),
+        None => find_at_end(search, node, role, end),
     }
 }
 
 /// What a row gives where some edge from the node begins or ends; none exactly where such rows give nothing new.
-pub fn find_by_edges<S: State, R: Rules>(state: &S, rules: &R, node: u32) -> Option<Addition>
-    requires { node < node_count_from (R.context rules.now).first (S.facts state.now) }
-    ensures { let w = R.context rules.now in let fs = S.facts state.now in
-        MatchOption result (EdgesHold (R.files rules.now) fs node) (IsAddition w fs (R.files rules.now)) }
+pub fn find_by_edges<S: State, R: Rules>(
+    search: &StateWithRules<'_, S, R>,
+    node: u32,
+) -> Option<Addition>
+    requires { node < node_count_from (R.context search.now.rules.now).first (S.facts search.now.state.now) }
+    ensures { let w = R.context search.now.rules.now in let fs = S.facts search.now.state.now in
+        MatchOption result (EdgesHold (R.files search.now.rules.now) fs node)
+        (IsAddition w fs (R.files search.now.rules.now)) }
 {
-    for edge in state.edges(node) {
-        match find_by_edge(state, rules, node, edge.0, state.representative(edge.1)) {
+    for edge in search.state.edges(node) {
+        match find_by_edge(search, node, edge.0, search.state.representative(edge.1)) {
             Some(addition) => return Some(addition),
             None => {}
         }
@@ -182,14 +187,17 @@ pub fn find_by_edges<S: State, R: Rules>(state: &S, rules: &R, node: u32) -> Opt
 }
 
 /// What a row gives the node that is used at each node; none exactly where such rows give nothing new.
-pub fn find_general<S: State, R: Rules>(state: &S, rules: &R, node: u32) -> Option<Addition>
-    requires { node < node_count_from (R.context rules.now).first (S.facts state.now) }
-    ensures { let w = R.context rules.now in let fs = S.facts state.now in
-        MatchOption result (All (PlainHolds fs node) (R.files rules.now).general)
-        (IsAddition w fs (R.files rules.now)) }
+pub fn find_general<S: State, R: Rules>(
+    search: &StateWithRules<'_, S, R>,
+    node: u32,
+) -> Option<Addition>
+    requires { node < node_count_from (R.context search.now.rules.now).first (S.facts search.now.state.now) }
+    ensures { let w = R.context search.now.rules.now in let fs = S.facts search.now.state.now in
+        MatchOption result (All (PlainHolds fs node) (R.files search.now.rules.now).general)
+        (IsAddition w fs (R.files search.now.rules.now)) }
 {
-    rules.is_ready();
-    match find_plain(state, node, rules.general()) {
+    search.rules.is_ready();
+    match find_plain(search.state, node, search.rules.general()) {
         Some(row) => Some(Addition {
             node,
             concept: row.gives,
@@ -200,16 +208,20 @@ pub fn find_general<S: State, R: Rules>(state: &S, rules: &R, node: u32) -> Opti
 }
 
 /// What a row gives the node, or the end of an edge from it; none exactly where rows give nothing new.
-pub fn find_by_rows<S: State, R: Rules>(state: &S, rules: &R, node: u32) -> Option<Addition>
-    requires { node < node_count_from (R.context rules.now).first (S.facts state.now) }
-    ensures { let w = R.context rules.now in let fs = S.facts state.now in
-        MatchOption result (HoldsRows (R.files rules.now) fs node) (IsAddition w fs (R.files rules.now)) }
+pub fn find_by_rows<S: State, R: Rules>(
+    search: &StateWithRules<'_, S, R>,
+    node: u32,
+) -> Option<Addition>
+    requires { node < node_count_from (R.context search.now.rules.now).first (S.facts search.now.state.now) }
+    ensures { let w = R.context search.now.rules.now in let fs = S.facts search.now.state.now in
+        MatchOption result (HoldsRows (R.files search.now.rules.now) fs node)
+        (IsAddition w fs (R.files search.now.rules.now)) }
 {
-    match find_general(state, rules, node) {
+    match find_general(search, node) {
         Some(addition) => Some(addition),
-        None => match find_by_names(state, rules, node) {
+        None => match find_by_names(search, node) {
             Some(addition) => Some(addition),
-            None => find_by_edges(state, rules, node),
+            None => find_by_edges(search, node),
         },
     }
 }

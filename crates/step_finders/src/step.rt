@@ -9,7 +9,7 @@ use crate::add::find_add;
 use crate::choose::find_choice;
 use crate::give::find_giving;
 use crate::make::{NewNodes, find_making};
-use crate::{Addition, Choosing, Given, NoMemory, Rules, StateWithBlocks};
+use crate::{Addition, Choosing, Given, NoMemory, Rules, StateWithBlocks, StateWithRules};
 use std::alloc::Global;
 
 /// A step that is legal where there is no plain clash.
@@ -32,51 +32,46 @@ pub enum Step {
 /// Want of memory.
 pub fn find_step<S: StateWithBlocks, R: Rules>(
     alloc: Global,
-    state: &S,
-    rules: &R,
+    search: &StateWithRules<'_, S, R>,
 ) -> Result<Option<Step>, NoMemory>
-    requires one_first { S.first state.now ≡ (R.context rules.now).first }
-    ensures { let w = R.context rules.now in let fs = S.facts state.now in
-        IfOk result (λ found. MatchOption found (NoStep w fs) (IsStep w fs (R.files rules.now))) }
+    ensures { let w = R.context search.now.rules.now in let fs = S.facts search.now.state.now in
+        IfOk result (λ found. MatchOption found (NoStep w fs) (IsStep w fs (R.files search.now.rules.now))) }
 {
-    match find_giving(state, rules) {
+    match find_giving(search) {
         Some(given) => Ok(Some(Step::Give(given))),
-        None => find_ungiven(alloc, state, rules),
+        None => find_ungiven(alloc, search),
     }
 }
 
 // A step that puts no given fact: concepts first.
 fn find_ungiven<S: StateWithBlocks, R: Rules>(
     alloc: Global,
-    state: &S,
-    rules: &R,
+    search: &StateWithRules<'_, S, R>,
 ) -> Result<Option<Step>, NoMemory>
-    requires one_first { S.first state.now ≡ (R.context rules.now).first }
-    ensures { let w = R.context rules.now in let fs = S.facts state.now in
+    ensures { let w = R.context search.now.rules.now in let fs = S.facts search.now.state.now in
         IfOk result
         (λ found. MatchOption found (NothingToAdd w fs × (NothingToMake w fs × NothingToChoose w fs))
-        (IsStep w fs (R.files rules.now))) }
+        (IsStep w fs (R.files search.now.rules.now))) }
 {
-    match find_add(state, rules) {
+    match find_add(search) {
         Some(addition) => Ok(Some(Step::Add(addition))),
-        None => find_branching(alloc, state, rules),
+        None => find_branching(alloc, search),
     }
 }
 
 // A step that makes nodes or branches: nodes first, and unions last.
 fn find_branching<S: StateWithBlocks, R: Rules>(
     alloc: Global,
-    state: &S,
-    rules: &R,
+    search: &StateWithRules<'_, S, R>,
 ) -> Result<Option<Step>, NoMemory>
-    requires one_first { S.first state.now ≡ (R.context rules.now).first }
-    ensures { let w = R.context rules.now in let fs = S.facts state.now in
+    ensures { let w = R.context search.now.rules.now in let fs = S.facts search.now.state.now in
         IfOk result
-        (λ found. MatchOption found (NothingToMake w fs × NothingToChoose w fs) (IsStep w fs (R.files rules.now))) }
+        (λ found. MatchOption found (NothingToMake w fs × NothingToChoose w fs)
+        (IsStep w fs (R.files search.now.rules.now))) }
 {
-    match find_making(alloc, state, rules)? {
+    match find_making(alloc, search)? {
         Some(new) => Ok(Some(Step::Generate(new))),
-        None => match find_choice(alloc, state, rules)? {
+        None => match find_choice(alloc, search)? {
             Some(choosing) => Ok(Some(Step::Choose(choosing))),
             None => Ok(None),
         },

@@ -7,7 +7,8 @@ loop-node-preserved g c = below_more _ _ c.loop-node.invariant c.in-None.ensures
 
 pub returns : goal.returns
 returns g c =
-    nothing_to_add (g.R.Rules.context c.args.rules.now) (g.R.Rules.files c.args.rules.now) c.is_ready.ensures.tabled
-    c.is_ready.ensures.filed (g.S.State.facts c.args.state.now)
+    nothing_to_add (g.R.Rules.context c.args.search.now.rules.now) (g.R.Rules.files c.args.search.now.rules.now)
+    c.is_ready.ensures.tabled
+    c.is_ready.ensures.filed (g.S.State.facts c.args.search.now.state.now)
     (λ z lt own. c.loop-node.invariant z (omega (arith, lt, c.loop-node-test.false, c.count_of-node-end.ensures.count))
     own)

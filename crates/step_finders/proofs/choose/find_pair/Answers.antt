@@ -10,14 +10,15 @@ use Rattle.step_finders.proofs.choose.find_pair.Goals as goal
 
 pub returns-then-len-count : goal.returns-then-len-count
 returns-then-len-count g c =
-    no_pair_few (g.R.Rules.context c.args.rules.now) (g.S.State.facts c.args.state.now) c.args.node c.args.count
+    no_pair_few (g.R.Rules.context c.args.search.now.rules.now) (g.S.State.facts c.args.search.now.state.now)
+    c.args.node c.args.count
     c.args.role c.args.filler c.in_ok-nodes.nodes.items c.in_ok-nodes.ensures
     (omega (arith, c.if-len-count.true, c.len.ensures))
 
 pub returns : goal.returns
 returns g c =
-    let w = g.R.Rules.context c.args.rules.now in
-    let fs = g.S.State.facts c.args.state.now in
+    let w = g.R.Rules.context c.args.search.now.rules.now in
+    let fs = g.S.State.facts c.args.search.now.state.now in
     pair_or_none w fs c.args.node c.args.count c.args.role c.args.filler c.in_ok-nodes.nodes.items c.in_ok-nodes.ensures
     c.find_unapart.result (omega (arith, c.if-len-count.false, c.len.ensures))
     (subst (λ (ys : List ℕ). MatchOption c.find_unapart.result (all_apart fs ys ≡ true) (λ p. AreUnapart fs ys p.0 p.1))
@@ -25,7 +26,8 @@ returns g c =
 
 pub find_unapart-requires-clause-within : goal.find_unapart-requires-clause-within
 find_unapart-requires-clause-within g c =
-    let fs = g.S.State.facts c.args.state.now in
-    subst (All (λ y. y < node_count_from (g.S.State.first c.args.state.now) fs)) (sym c.deref.ensures.value)
-    (filled_nodes (g.S.State.first c.args.state.now) (below_of (g.R.Rules.context c.args.rules.now)) fs c.args.node
+    let fs = g.S.State.facts c.args.search.now.state.now in
+    subst (All (λ y. y < node_count_from (g.S.State.first c.args.search.now.state.now) fs)) (sym c.deref.ensures.value)
+    (filled_nodes (g.S.State.first c.args.search.now.state.now)
+    (below_of (g.R.Rules.context c.args.search.now.rules.now)) fs c.args.node
     c.args.role c.args.filler c.in_ok-nodes.nodes.items c.in_ok-nodes.ensures)

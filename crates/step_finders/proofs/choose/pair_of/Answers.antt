@@ -3,7 +3,8 @@ use Rattle.step_finders.proofs.choose.pair_of.Goals as goal
 
 pub returns-in-Some-role_to : goal.returns-in-Some-role_to
 returns-in-Some-role_to g c =
-    may_pair (g.R.Rules.context c.args.rules.now) (g.S.State.facts c.args.state.now) c.args.node c.args.concept
+    may_pair (g.R.Rules.context c.args.search.now.rules.now) (g.S.State.facts c.args.search.now.state.now) c.args.node
+    c.args.concept
     c.requires.is_node c.requires.holds c.args.count c.args.role c.args.filler c.args.first c.args.second
     c.in-Some.first_role c.in-Some-role_to.second_role c.requires.shape c.requires.pair c.in-Some.ensures
     c.in-Some-role_to.ensures
@@ -11,7 +12,8 @@ returns-in-Some-role_to g c =
 pub returns-in-None-role_to : goal.returns-in-None-role_to
 returns-in-None-role_to g c =
     let h =
-    second_is_next (g.R.Rules.context c.args.rules.now) (g.S.State.facts c.args.state.now) c.args.node c.args.concept
+    second_is_next (g.R.Rules.context c.args.search.now.rules.now) (g.S.State.facts c.args.search.now.state.now)
+    c.args.node c.args.concept
     c.requires.is_node c.requires.holds c.args.count c.args.role c.args.filler c.args.first c.args.second
     c.requires.pair in
     (let k = c.in-None-role_to.ensures in cc)
@@ -19,7 +21,8 @@ returns-in-None-role_to g c =
 pub returns-in-None : goal.returns-in-None
 returns-in-None g c =
     let h =
-    first_is_next (g.R.Rules.context c.args.rules.now) (g.S.State.facts c.args.state.now) c.args.node c.args.concept
+    first_is_next (g.R.Rules.context c.args.search.now.rules.now) (g.S.State.facts c.args.search.now.state.now)
+    c.args.node c.args.concept
     c.requires.is_node c.requires.holds c.args.count c.args.role c.args.filler c.args.first c.args.second
     c.requires.pair in
     (let k = c.in-None.ensures in cc)

@@ -8,8 +8,8 @@ use Rattle.step_finders.proofs.clash.find_anywhere_at.Goals as goal
 
 pub returns : goal.returns
 returns g c =
-    let w = g.R.Rules.context c.args.rules.now in
-    let fs = g.S.State.facts c.args.state.now in
+    let w = g.R.Rules.context c.args.search.now.rules.now in
+    let fs = g.S.State.facts c.args.search.now.state.now in
     answers_more c.find_by_label.result
     ((k : ℕ) → has fs c.args.node k ≡ true → NoneByShape w fs c.args.node (shape_of w.table k))
     (NoneAt w fs c.args.node) (IsShown w fs) (IsShown w fs)

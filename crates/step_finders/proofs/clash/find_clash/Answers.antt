@@ -6,8 +6,8 @@ use Rattle.step_finders.proofs.clash.find_clash.Goals as goal
 
 pub returns-in-None : goal.returns-in-None
 returns-in-None g c =
-    let w = (g.R.Rules.context c.args.rules.now) in
-    let fs = (g.S.State.facts c.args.state.now) in
+    let w = (g.R.Rules.context c.args.search.now.rules.now) in
+    let fs = (g.S.State.facts c.args.search.now.state.now) in
     let at =
     none_said (NoneByShape w fs c.args.node (shape_of w.table c.args.concept)) (IsShown w fs) c.find_at_node.result
     c.in-None.is c.find_at_node.ensures in

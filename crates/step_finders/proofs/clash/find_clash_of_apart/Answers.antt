@@ -7,7 +7,8 @@ use Rattle.step_finders.proofs.clash.find_clash_of_apart.Goals as goal
 
 pub returns : goal.returns
 returns g c =
-    no_clash_by_apart (g.R.Rules.context c.args.rules.now) (g.S.State.facts c.args.state.now) c.args.first c.args.second
+    no_clash_by_apart (g.R.Rules.context c.args.search.now.rules.now) (g.S.State.facts c.args.search.now.state.now)
+    c.args.first c.args.second
     c.label-concept-items.result.now
     (λ one. c.if-representative.false (c.representative.ensures ∙ one ∙ sym c.representative-2.ensures))
     c.label-concept-items.ensures
@@ -15,8 +16,8 @@ returns g c =
 
 pub loop-concept-preserved : goal.loop-concept-preserved
 loop-concept-preserved g c =
-    let w = g.R.Rules.context c.args.rules.now in
-    let fs = g.S.State.facts c.args.state.now in
+    let w = g.R.Rules.context c.args.search.now.rules.now in
+    let fs = g.S.State.facts c.args.search.now.state.now in
     each_more (λ (e : ℕ). has fs c.args.second e ≡ true → NoneAbove w fs c.args.first e)
     c.label-concept-items.result.now c.loop-concept.concept-index 0 c.loop-concept.invariant
     (omega (arith, c.loop-concept-test.true))

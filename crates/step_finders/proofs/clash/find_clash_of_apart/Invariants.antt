@@ -5,5 +5,6 @@ use Rattle.step_finders.proofs.clash.find_clash_of_apart.Given as goal
 
 abbrev pub invariant-loop-concept : goal.invariant-loop-concept
 invariant-loop-concept g l = (k d : ℕ) → k < l.concept-index
-    → has (g.S.State.facts l.state) l.second (get_or l.concept-items k d) ≡ true
-    → NoneAbove (g.R.Rules.context l.rules) (g.S.State.facts l.state) l.first (get_or l.concept-items k d)
+    → has (g.S.State.facts l.search.state.now) l.second (get_or l.concept-items k d) ≡ true
+    → NoneAbove (g.R.Rules.context l.search.rules.now) (g.S.State.facts l.search.state.now) l.first
+    (get_or l.concept-items k d)

@@ -5,8 +5,8 @@ use Rattle.step_finders.proofs.clash.find_clash_of_new_nodes.Goals as goal
 
 pub returns : goal.returns
 returns g c =
-    let w = g.R.Rules.context c.args.rules.now in
-    let fs = g.S.State.facts c.args.state.now in
+    let w = g.R.Rules.context c.args.search.now.rules.now in
+    let fs = g.S.State.facts c.args.search.now.state.now in
     answers_more c.find_by_fillers.result
     (NoneOver w fs c.args.parent c.args.role 0 × NoneOver w fs c.args.parent c.args.role c.args.filler)
     (NoClashByNew w fs c.args.parent c.args.role c.args.filler) (IsShown w fs) (IsShown w fs)

@@ -6,8 +6,8 @@ use Rattle.step_finders.proofs.clash.find_counting.Goals as goal
 
 pub returns : goal.returns
 returns g c =
-    let w = g.R.Rules.context c.args.rules.now in
-    let fs = g.S.State.facts c.args.state.now in
+    let w = g.R.Rules.context c.args.search.now.rules.now in
+    let fs = g.S.State.facts c.args.search.now.state.now in
     answers_more c.find_by_mosts.result (All (NotOverrun w fs c.args.node c.args.filler) c.mosts.result.now)
     (NoneOverrun w fs c.args.node c.args.filler) (IsShown w fs) (IsShown w fs)
     (λ all. none_overrun w fs c.args.node c.args.filler c.mosts.result.now c.mosts.ensures all) (λ k h. h)

@@ -7,5 +7,5 @@ loop-node-preserved g c = below_more _ _ c.loop-node.invariant c.in-None.ensures
 
 pub returns : goal.returns
 returns g c =
-    none_anywhere (g.R.Rules.context c.args.rules.now) (g.S.State.facts c.args.state.now)
+    none_anywhere (g.R.Rules.context c.args.search.now.rules.now) (g.S.State.facts c.args.search.now.state.now)
     (λ x lt. c.loop-node.invariant x (omega (arith, lt, c.loop-node-test.false, c.count_of-node-end.ensures.count)))

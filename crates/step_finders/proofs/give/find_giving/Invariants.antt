@@ -5,4 +5,4 @@ use Rattle.step_finders.proofs.give.find_giving.Given as goal
 
 abbrev pub invariant-loop-given : goal.invariant-loop-given
 invariant-loop-given g l = (k : ℕ) (d : Given) → k < l.given-index
-    → is_so (g.S.State.facts l.state) (get_or l.given-items k d).fact ≡ true
+    → is_so (g.S.State.facts l.search.state.now) (get_or l.given-items k d).fact ≡ true

@@ -6,8 +6,9 @@ use Rattle.step_finders.proofs.overrun.is_apart_from_later.Given as goal
 
 abbrev pub invariant-loop-edge : goal.invariant-loop-edge
 invariant-loop-edge g l = (k : ℕ) (d : ℕ × ℕ) → k < l.edge-index
-    → (below_of (g.R.Rules.context l.rules) (get_or l.edge-items k d).0 l.role
-    && has (g.S.State.facts l.state) (get_or l.edge-items k d).1 l.filler)
+    → (below_of (g.R.Rules.context l.search.rules.now) (get_or l.edge-items k d).0 l.role
+    && has (g.S.State.facts l.search.state.now) (get_or l.edge-items k d).1 l.filler)
     ≡ true
-    → l.first < rep (g.S.State.facts l.state) (get_or l.edge-items k d).1
-    → are_apart (g.S.State.facts l.state) l.first (rep (g.S.State.facts l.state) (get_or l.edge-items k d).1) ≡ true
+    → l.first < rep (g.S.State.facts l.search.state.now) (get_or l.edge-items k d).1
+    → are_apart (g.S.State.facts l.search.state.now) l.first
+    (rep (g.S.State.facts l.search.state.now) (get_or l.edge-items k d).1) ≡ true

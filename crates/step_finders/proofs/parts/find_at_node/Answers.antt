@@ -4,6 +4,7 @@ use Rattle.step_finders.proofs.parts.find_at_node.Goals as goal
 
 pub returns : goal.returns
 returns g c =
-    none_by_label (g.R.Rules.context c.args.rules.now) (g.S.State.facts c.args.state.now) c.args.node c.args.node
+    none_by_label (g.R.Rules.context c.args.search.now.rules.now) (g.S.State.facts c.args.search.now.state.now)
+    c.args.node c.args.node
     c.label-concept-items.result.now c.label-concept-items.ensures
     (λ k d lt. c.loop-concept.invariant k d (omega (arith, lt, c.loop-concept-test.false)))

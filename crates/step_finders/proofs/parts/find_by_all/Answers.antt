@@ -7,21 +7,23 @@ use Rattle.step_finders.proofs.parts.find_by_all.Goals as goal
 
 pub find_carried-requires-clause-carries : goal.find_carried-requires-clause-carries
 find_carried-requires-clause-carries g c =
-    the_carries (g.R.Rules.context c.args.rules.now) (g.S.State.facts c.args.state.now) c.args.node c.args.concept
+    the_carries (g.R.Rules.context c.args.search.now.rules.now) (g.S.State.facts c.args.search.now.state.now)
+    c.args.node c.args.concept
     c.args.role c.args.filler c.carries.result.now c.requires.shape c.carries.ensures
 
 pub returns-in-Some : goal.returns-in-Some
 returns-in-Some g c =
-    all_adds (g.R.Rules.context c.args.rules.now) (g.R.Rules.files c.args.rules.now) (g.S.State.facts c.args.state.now)
+    all_adds (g.R.Rules.context c.args.search.now.rules.now) (g.R.Rules.files c.args.search.now.rules.now)
+    (g.S.State.facts c.args.search.now.state.now)
     c.args.node c.args.concept c.args.role c.args.filler c.in-Some.by c.in-Some.end c.requires.is_node
     c.requires.holds c.requires.shape c.in-Some.ensures
 
 pub returns-in-None : goal.returns-in-None
 returns-in-None g c =
-    let w = g.R.Rules.context c.args.rules.now in
-    let fs = g.S.State.facts c.args.state.now in
+    let w = g.R.Rules.context c.args.search.now.rules.now in
+    let fs = g.S.State.facts c.args.search.now.state.now in
     let pairs = c.carries.result.now in
-    let is = IsAddition w fs (g.R.Rules.files c.args.rules.now) in
+    let is = IsAddition w fs (g.R.Rules.files c.args.search.now.rules.now) in
     answers_more c.find_carried.result (AllCarried w fs c.args.node pairs)
     (NoneByShape w fs c.args.node (all_of c.args.role c.args.filler)) is is
     (λ all. (

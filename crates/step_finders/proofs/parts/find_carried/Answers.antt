@@ -8,15 +8,17 @@ use Rattle.step_finders.proofs.parts.find_carried.Goals as goal
 pub loop-carry-preserved : goal.loop-carry-preserved
 loop-carry-preserved g c =
     each_more
-    (λ (p : ℕ × ℕ). AllEndsHave (g.R.Rules.context c.args.rules.now) (g.S.State.facts c.args.state.now) c.args.node p.0
+    (λ (p : ℕ × ℕ). AllEndsHave (g.R.Rules.context c.args.search.now.rules.now)
+    (g.S.State.facts c.args.search.now.state.now) c.args.node p.0
     p.1)
     c.args.carries.now c.loop-carry.carry-index (0, 0)
     c.loop-carry.invariant (omega (arith, c.loop-carry-test.true)) c.in-None.ensures
 
 pub returns-in-Some : goal.returns-in-Some
 returns-in-Some g c =
-    carry_adds (g.R.Rules.context c.args.rules.now) (g.R.Rules.files c.args.rules.now)
-    (g.S.State.facts c.args.state.now) c.args.node c.args.concept c.args.role c.args.filler c.args.carries.now
+    carry_adds (g.R.Rules.context c.args.search.now.rules.now) (g.R.Rules.files c.args.search.now.rules.now)
+    (g.S.State.facts c.args.search.now.state.now) c.args.node c.args.concept c.args.role c.args.filler
+    c.args.carries.now
     (get_or c.args.carries.now c.loop-carry.carry-index (0, 0)) c.in-Some.by c.in-Some.end c.requires.is_node
     c.requires.holds c.requires.shape c.requires.carries (
       c.loop-carry.carry-index,

@@ -5,5 +5,5 @@ use Rattle.step_finders.proofs.parts.find_end.Given as goal
 
 abbrev pub invariant-loop-edge : goal.invariant-loop-edge
 invariant-loop-edge g l = (k : ℕ) (d : ℕ × ℕ) → k < l.edge-index
-    → below_of (g.R.Rules.context l.rules) (get_or l.edge-items k d).0 l.role ≡ true
-    → holds (g.S.State.facts l.state) (get_or l.edge-items k d).1 l.filler ≡ true
+    → below_of (g.R.Rules.context l.search.rules.now) (get_or l.edge-items k d).0 l.role ≡ true
+    → holds (g.S.State.facts l.search.state.now) (get_or l.edge-items k d).1 l.filler ≡ true

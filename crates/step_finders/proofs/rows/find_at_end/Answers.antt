@@ -6,8 +6,9 @@ use Rattle.step_finders.proofs.rows.find_at_end.Goals as goal
 
 pub returns-in-Some : goal.returns-in-Some
 returns-in-Some g c =
-    end_due (g.R.Rules.context c.args.rules.now) (g.R.Rules.files c.args.rules.now) c.is_ready.ensures.tabled
-    c.is_ready.ensures.chosen c.is_ready.ensures.filed (g.S.State.facts c.args.state.now)
+    end_due (g.R.Rules.context c.args.search.now.rules.now) (g.R.Rules.files c.args.search.now.rules.now)
+    c.is_ready.ensures.tabled
+    c.is_ready.ensures.chosen c.is_ready.ensures.filed (g.S.State.facts c.args.search.now.state.now)
     c.args.node c.args.role c.args.end c.in-Some.row c.requires.is_node c.requires.next
-    (subst (λ (us : List PlainRow). PlainDue (g.S.State.facts c.args.state.now) c.args.end us c.in-Some.row)
+    (subst (λ (us : List PlainRow). PlainDue (g.S.State.facts c.args.search.now.state.now) c.args.end us c.in-Some.row)
     c.at_ends.ensures c.in-Some.ensures)

@@ -6,10 +6,13 @@ use Rattle.step_finders.proofs.rows.find_by_name.Goals as goal
 
 pub returns-in-Some : goal.returns-in-Some
 returns-in-Some g c =
-    named_due (g.R.Rules.context c.args.rules.now) (g.R.Rules.files c.args.rules.now) c.is_ready.ensures.tabled
-    c.is_ready.ensures.chosen c.is_ready.ensures.filed (g.S.State.facts c.args.state.now) c.args.node c.args.concept
+    named_due (g.R.Rules.context c.args.search.now.rules.now) (g.R.Rules.files c.args.search.now.rules.now)
+    c.is_ready.ensures.tabled
+    c.is_ready.ensures.chosen c.is_ready.ensures.filed (g.S.State.facts c.args.search.now.state.now) c.args.node
+    c.args.concept
     c.in-Some.place
     c.in-Some.gives c.requires.is_node
     (subst
-    (λ (us : List NamedRow). NamedDue (g.S.State.facts c.args.state.now) c.args.node us c.in-Some.place c.in-Some.gives)
+    (λ (us : List NamedRow). NamedDue (g.S.State.facts c.args.search.now.state.now) c.args.node us c.in-Some.place
+    c.in-Some.gives)
     c.named.ensures c.in-Some.ensures)
