@@ -9,8 +9,8 @@ use blocking::{Item, Tree};
 use calculus_specs::Fact;
 use std::alloc::Allocator;
 use step_finders::{
-    Addition, PlainRow, Reason, Rules, Shape, State, count_of, find_by_concept, find_by_edge,
-    find_by_name, find_from, find_general,
+    Addition, PlainRow, Reason, Rules, Shape, State, StateWithRules, count_of, find_by_concept,
+    find_by_edge, find_by_name, find_from, find_general,
 };
 
 /// Up to where it was looked for a concept that an entry adds.
@@ -26,16 +26,15 @@ pub(crate) struct Reached {
 /// The first concept that an entry adds from here on, and up to where it was looked for then.
 pub(crate) fn first_addition<A: Allocator + Copy, S: State, R: Rules>(
     tree: &Tree<A>,
-    state: &S,
-    rules: &R,
+    search: &StateWithRules<'_, S, R>,
     from: Reached,
 ) -> (Reached, Option<Addition>)
-    requires one_first { S.first state.now ≡ (R.context rules.now).first }
-    ensures { IfSome result.1 (IsAddition (R.context rules.now) (S.facts state.now) (R.files rules.now)) }
+    ensures { IfSome result.1 (IsAddition (R.context search.now.rules.now) (S.facts search.now.state.now)
+        (R.files search.now.rules.now)) }
 {
     let mut rows = from.rows;
     for place in from.place..tree.len() {
-        match addition_at(tree.item(place), state, rules, rows) {
+        match addition_at(tree.item(place), search, rows) {
             Some((rows, addition)) => return (Reached { place, rows }, Some(addition)),
             None => rows = 0,
         }
@@ -50,18 +49,17 @@ pub(crate) fn first_addition<A: Allocator + Copy, S: State, R: Rules>(
 /// The first rank from `from` on and below `to`, in the order of nearness, of a first node to which a row that is used at
 /// each node adds a concept, and what; or `to`.
 pub(crate) fn first_general<S: State, R: Rules>(
-    state: &S,
-    rules: &R,
+    search: &StateWithRules<'_, S, R>,
     nearness: &Nearness,
     from: usize,
     to: usize,
 ) -> (usize, Option<Addition>)
-    requires one_first { S.first state.now ≡ (R.context rules.now).first }
-    ensures { IfSome result.1 (IsAddition (R.context rules.now) (S.facts state.now) (R.files rules.now)) }
+    ensures { IfSome result.1 (IsAddition (R.context search.now.rules.now) (S.facts search.now.state.now)
+        (R.files search.now.rules.now)) }
 {
     for rank in from..to {
         match nearness.node(rank) {
-            Some(node) => match in_general(state, rules, node) {
+            Some(node) => match in_general(search, node) {
                 Some(addition) => return (rank, Some(addition)),
                 None => {}
             },
@@ -75,24 +73,23 @@ pub(crate) fn first_general<S: State, R: Rules>(
 // how many of them were asked then.
 fn addition_at<S: State, R: Rules>(
     item: Item,
-    state: &S,
-    rules: &R,
+    search: &StateWithRules<'_, S, R>,
     rows: usize,
 ) -> Option<(usize, Addition)>
-    requires one_first { S.first state.now ≡ (R.context rules.now).first }
-    ensures { IfSome result (λ p. IsAddition (R.context rules.now) (S.facts state.now) (R.files rules.now) p.1) }
+    ensures { IfSome result (λ p. IsAddition (R.context search.now.rules.now) (S.facts search.now.state.now)
+        (R.files search.now.rules.now) p.1) }
 {
     match item {
         Item::Fact(Fact::Edge(role, from, to)) => {
-            by_edge(state, rules, role, state.representative(from), to, rows)
+            by_edge(search, role, search.state.representative(from), to, rows)
         }
         Item::Fact(Fact::Has(node, concept)) => {
             Some((
                 0,
-                by_concept(state, rules, state.representative(node), concept)?,
+                by_concept(search, search.state.representative(node), concept)?,
             ))
         }
-        Item::Fact(Fact::Same(node, _)) => Some((0, at_node(state, rules, node)?)),
+        Item::Fact(Fact::Same(node, _)) => Some((0, at_node(search, node)?)),
         Item::Fact(Fact::Apart(_, _)) => None,
         Item::Mark(_) => None,
     }
@@ -101,62 +98,59 @@ fn addition_at<S: State, R: Rules>(
 // What an edge adds: by what its beginning has, by rows at either end, and then by rows that are used at each node, one
 // behind the other, where its end is no first node.
 fn by_edge<S: State, R: Rules>(
-    state: &S,
-    rules: &R,
+    search: &StateWithRules<'_, S, R>,
     role: u32,
     from: u32,
     to: u32,
     rows: usize,
 ) -> Option<(usize, Addition)>
-    requires one_first { S.first state.now ≡ (R.context rules.now).first }
-    ensures { IfSome result (λ p. IsAddition (R.context rules.now) (S.facts state.now) (R.files rules.now) p.1) }
+    ensures { IfSome result (λ p. IsAddition (R.context search.now.rules.now) (S.facts search.now.state.now)
+        (R.files search.now.rules.now) p.1) }
 {
     if rows == 0 {
-        match by_edge_alone(state, rules, role, from, to) {
+        match by_edge_alone(search, role, from, to) {
             Some(addition) => return Some((0, addition)),
             None => {}
         }
     }
-    if to < rules.first() {
+    if to < search.rules.first() {
         return None;
     }
-    by_general(state, rules, to, rows)
+    by_general(search, to, rows)
 }
 
 // What an edge adds by what its beginning has, and by rows at either end.
 fn by_edge_alone<S: State, R: Rules>(
-    state: &S,
-    rules: &R,
+    search: &StateWithRules<'_, S, R>,
     role: u32,
     from: u32,
     to: u32,
 ) -> Option<Addition>
-    requires one_first { S.first state.now ≡ (R.context rules.now).first }
-    ensures { IfSome result (IsAddition (R.context rules.now) (S.facts state.now) (R.files rules.now)) }
+    ensures { IfSome result (IsAddition (R.context search.now.rules.now) (S.facts search.now.state.now)
+        (R.files search.now.rules.now)) }
 {
-    match by_universals(state, rules, from, to) {
+    match by_universals(search, from, to) {
         Some(addition) => Some(addition),
-        None => by_ends(state, rules, role, from, to),
+        None => by_ends(search, role, from, to),
     }
 }
 
 // What the rows from this one on that are used at each node add to the node's representative, and how many were asked
 // then.
 fn by_general<S: State, R: Rules>(
-    state: &S,
-    rules: &R,
+    search: &StateWithRules<'_, S, R>,
     node: u32,
     from: usize,
 ) -> Option<(usize, Addition)>
-    requires one_first { S.first state.now ≡ (R.context rules.now).first }
-    ensures { IfSome result (λ p. IsAddition (R.context rules.now) (S.facts state.now) (R.files rules.now) p.1) }
+    ensures { IfSome result (λ p. IsAddition (R.context search.now.rules.now) (S.facts search.now.state.now)
+        (R.files search.now.rules.now) p.1) }
 {
-    let node = state.representative(node);
-    if node >= count_of(state, rules) {
+    let node = search.state.representative(node);
+    if node >= count_of(search) {
         return None;
     }
-    for place in from..rules.general().len() {
-        match by_general_at(state, rules, node, place) {
+    for place in from..search.rules.general().len() {
+        match by_general_at(search, node, place) {
             Some(addition) => return Some((place + 1, addition)),
             None => {}
         }
@@ -166,16 +160,16 @@ fn by_general<S: State, R: Rules>(
 
 // What the row at a place of those that are used at each node adds to the node.
 fn by_general_at<S: State, R: Rules>(
-    state: &S,
-    rules: &R,
+    search: &StateWithRules<'_, S, R>,
     node: u32,
     place: usize,
 ) -> Option<Addition>
-    requires { node < node_count_from (R.context rules.now).first (S.facts state.now) }
-    ensures { IfSome result (IsAddition (R.context rules.now) (S.facts state.now) (R.files rules.now)) }
+    requires { node < node_count_from (R.context search.now.rules.now).first (S.facts search.now.state.now) }
+    ensures { IfSome result (IsAddition (R.context search.now.rules.now) (S.facts search.now.state.now)
+        (R.files search.now.rules.now)) }
 {
-    rules.is_ready();
-    match due_at(state, node, rules.general(), place) {
+    search.rules.is_ready();
+    match due_at(search.state, node, search.rules.general(), place) {
         Some(row) => Some(Addition {
             node,
             concept: row.gives,
@@ -197,13 +191,17 @@ fn due_at<S: State>(state: &S, node: u32, rows: &[PlainRow], place: usize) -> Op
 }
 
 // What a universal restriction of the node adds, where one may say something of this successor.
-fn by_universals<S: State, R: Rules>(state: &S, rules: &R, node: u32, to: u32) -> Option<Addition>
-    requires one_first { S.first state.now ≡ (R.context rules.now).first }
-    ensures { IfSome result (IsAddition (R.context rules.now) (S.facts state.now) (R.files rules.now)) }
+fn by_universals<S: State, R: Rules>(
+    search: &StateWithRules<'_, S, R>,
+    node: u32,
+    to: u32,
+) -> Option<Addition>
+    ensures { IfSome result (IsAddition (R.context search.now.rules.now) (S.facts search.now.state.now)
+        (R.files search.now.rules.now)) }
 {
-    for concept in state.label(node) {
-        if may_reach(state, rules, *concept, to) {
-            match by_concept(state, rules, node, *concept) {
+    for concept in search.state.label(node) {
+        if may_reach(search, *concept, to) {
+            match by_concept(search, node, *concept) {
                 Some(addition) => return Some(addition),
                 None => {}
             }
@@ -213,69 +211,74 @@ fn by_universals<S: State, R: Rules>(state: &S, rules: &R, node: u32, to: u32) -
 }
 
 // Whether the concept is a universal restriction that the node may not meet yet as a successor.
-fn may_reach<S: State, R: Rules>(state: &S, rules: &R, concept: u32, to: u32) -> bool {
-    match rules.shape(concept) {
-        Shape::AllOf(_, filler) => { !state.has(to, filler) || !rules.carries(concept).is_empty() }
+fn may_reach<S: State, R: Rules>(search: &StateWithRules<'_, S, R>, concept: u32, to: u32) -> bool {
+    match search.rules.shape(concept) {
+        Shape::AllOf(_, filler) => {
+            !search.state.has(to, filler) || !search.rules.carries(concept).is_empty()
+        }
         _ => false,
     }
 }
 
 // What rows add at the ends of an edge between these nodes.
 fn by_ends<S: State, R: Rules>(
-    state: &S,
-    rules: &R,
+    search: &StateWithRules<'_, S, R>,
     role: u32,
     from: u32,
     to: u32,
 ) -> Option<Addition>
-    requires one_first { S.first state.now ≡ (R.context rules.now).first }
-    ensures { IfSome result (IsAddition (R.context rules.now) (S.facts state.now) (R.files rules.now)) }
+    ensures { IfSome result (IsAddition (R.context search.now.rules.now) (S.facts search.now.state.now)
+        (R.files search.now.rules.now)) }
 {
-    if from >= count_of(state, rules) {
+    if from >= count_of(search) {
         return None;
     }
-    for edge in state.edges(from) {
+    for edge in search.state.edges(from) {
         if edge.0 == role && edge.1 == to {
-            return find_by_edge(state, rules, from, edge.0, state.representative(edge.1));
+            return find_by_edge(search, from, edge.0, search.state.representative(edge.1));
         }
     }
     None
 }
 
 // What a row that is used at each node adds to the node's representative.
-fn in_general<S: State, R: Rules>(state: &S, rules: &R, node: u32) -> Option<Addition>
-    requires one_first { S.first state.now ≡ (R.context rules.now).first }
-    ensures { IfSome result (IsAddition (R.context rules.now) (S.facts state.now) (R.files rules.now)) }
+fn in_general<S: State, R: Rules>(search: &StateWithRules<'_, S, R>, node: u32) -> Option<Addition>
+    ensures { IfSome result (IsAddition (R.context search.now.rules.now) (S.facts search.now.state.now)
+        (R.files search.now.rules.now)) }
 {
-    let node = state.representative(node);
-    if node >= count_of(state, rules) {
+    let node = search.state.representative(node);
+    if node >= count_of(search) {
         return None;
     }
-    find_general(state, rules, node)
+    find_general(search, node)
 }
 
 // What the node's representative adds.
-fn at_node<S: State, R: Rules>(state: &S, rules: &R, node: u32) -> Option<Addition>
-    requires one_first { S.first state.now ≡ (R.context rules.now).first }
-    ensures { IfSome result (IsAddition (R.context rules.now) (S.facts state.now) (R.files rules.now)) }
+fn at_node<S: State, R: Rules>(search: &StateWithRules<'_, S, R>, node: u32) -> Option<Addition>
+    ensures { IfSome result (IsAddition (R.context search.now.rules.now) (S.facts search.now.state.now)
+        (R.files search.now.rules.now)) }
 {
-    let node = state.representative(node);
-    if node >= count_of(state, rules) {
+    let node = search.state.representative(node);
+    if node >= count_of(search) {
         return None;
     }
-    find_from(state, rules, node)
+    find_from(search, node)
 }
 
 // What a concept of the node adds, by its form or by a row.
-fn by_concept<S: State, R: Rules>(state: &S, rules: &R, node: u32, concept: u32) -> Option<Addition>
-    requires one_first { S.first state.now ≡ (R.context rules.now).first }
-    ensures { IfSome result (IsAddition (R.context rules.now) (S.facts state.now) (R.files rules.now)) }
+fn by_concept<S: State, R: Rules>(
+    search: &StateWithRules<'_, S, R>,
+    node: u32,
+    concept: u32,
+) -> Option<Addition>
+    ensures { IfSome result (IsAddition (R.context search.now.rules.now) (S.facts search.now.state.now)
+        (R.files search.now.rules.now)) }
 {
-    if node >= count_of(state, rules) || !state.has(node, concept) {
+    if node >= count_of(search) || !search.state.has(node, concept) {
         return None;
     }
-    match find_by_concept(state, rules, node, concept) {
+    match find_by_concept(search, node, concept) {
         Some(addition) => Some(addition),
-        None => find_by_name(state, rules, node, concept),
+        None => find_by_name(search, node, concept),
     }
 }

@@ -12,7 +12,7 @@ use crate::nearness::Nearness;
 use crate::watched::UnionIndex;
 use blocking::{Tree, least_changed};
 use std::alloc::{Allocator, Global};
-use step_finders::{Rules, State, StateWithBlocks, Step};
+use step_finders::{Rules, State, StateWithBlocks, StateWithRules, Step};
 
 // Up to which entry of the trail, from 0, a search has looked for each kind of step.
 #[derive(Clone, Copy, Debug, PartialEq, Eq)]
@@ -137,35 +137,34 @@ impl Agenda {
         &mut self,
         heap: Global,
         tree: &Tree<A>,
-        state: &S,
-        rules: &R,
+        search: &StateWithRules<'_, S, R>,
     ) -> Result<Option<Step>, NoMemory>
-        requires one_first { S.first state.now ≡ (R.context rules.now).first }
         ensures { IfOk result
-            (λ found. IfSome found (IsStep (R.context rules.now) (S.facts state.now) (R.files rules.now))) }
+            (λ found. IfSome found (IsStep (R.context search.now.rules.now) (S.facts search.now.state.now)
+            (R.files search.now.rules.now))) }
     {
-        if let Some(step) = self.given(heap, state, rules)? {
+        if let Some(step) = self.given(heap, search)? {
             return Ok(Some(step));
         }
-        if let Some(step) = self.general(state, rules) {
+        if let Some(step) = self.general(search) {
             return Ok(Some(step));
         }
-        if let Some(step) = self.addition(tree, state, rules) {
+        if let Some(step) = self.addition(tree, search) {
             return Ok(Some(step));
         }
-        if let Some(step) = self.forced(tree, state, rules)? {
+        if let Some(step) = self.forced(tree, search)? {
             return Ok(Some(step));
         }
-        if let Some(step) = self.outwards(state, rules) {
+        if let Some(step) = self.outwards(search) {
             return Ok(Some(step));
         }
-        if let Some(step) = self.pair(heap, tree, state, rules)? {
+        if let Some(step) = self.pair(heap, tree, search)? {
             return Ok(Some(step));
         }
-        if let Some(step) = self.below_first(heap, tree, state, rules)? {
+        if let Some(step) = self.below_first(heap, tree, search)? {
             return Ok(Some(step));
         }
-        self.first_union(heap, tree, state, rules)
+        self.first_union(heap, tree, search)
     }
 
     /// A step that can be made where none is seen that can be made whatever is blocked. These are the phases that come
@@ -178,41 +177,39 @@ impl Agenda {
         &mut self,
         heap: Global,
         tree: &Tree<A>,
-        state: &S,
-        rules: &R,
+        search: &StateWithRules<'_, S, R>,
     ) -> Result<Option<Step>, NoMemory>
-        requires one_first { S.first state.now ≡ (R.context rules.now).first }
         ensures { IfOk result
-            (λ found. IfSome found (IsStep (R.context rules.now) (S.facts state.now) (R.files rules.now))) }
+            (λ found. IfSome found (IsStep (R.context search.now.rules.now) (S.facts search.now.state.now)
+            (R.files search.now.rules.now))) }
     {
-        if let Some(step) = self.making(heap, tree, state, rules)? {
+        if let Some(step) = self.making(heap, tree, search)? {
             return Ok(Some(step));
         }
-        if let Some(step) = self.held(heap, tree, state, rules)? {
+        if let Some(step) = self.held(heap, tree, search)? {
             return Ok(Some(step));
         }
-        if let Some(step) = self.union(heap, tree, state, rules)? {
+        if let Some(step) = self.union(heap, tree, search)? {
             return Ok(Some(step));
         }
-        self.most(heap, tree, state, rules)
+        self.most(heap, tree, search)
     }
 
     // A given fact that is not so, of the rings that are open.
     fn given<S: State, R: Rules>(
         &mut self,
         heap: Global,
-        state: &S,
-        rules: &R,
+        search: &StateWithRules<'_, S, R>,
     ) -> Result<Option<Step>, NoMemory>
-        requires one_first { S.first state.now ≡ (R.context rules.now).first }
         ensures { IfOk result
-            (λ found. IfSome found (IsStep (R.context rules.now) (S.facts state.now) (R.files rules.now))) }
+            (λ found. IfSome found (IsStep (R.context search.now.rules.now) (S.facts search.now.state.now)
+            (R.files search.now.rules.now))) }
     {
         if !self.nearness.is_made() {
-            self.nearness = Nearness::around(heap, rules, self.at)?;
+            self.nearness = Nearness::around(heap, search.rules, self.at)?;
         }
         let to = self.nearness.facts_within(self.cursors.ring);
-        let (rank, given) = first_giving(state, rules, &self.nearness, self.cursors.given, to);
+        let (rank, given) = first_giving(search, &self.nearness, self.cursors.given, to);
         self.cursors.given = rank;
         match given {
             Some(given) => Ok(Some(Step::Give(given))),
@@ -221,38 +218,32 @@ impl Agenda {
     }
 
     // A concept that each node has, at a first node of these rings.
-    fn general<S: State, R: Rules>(&mut self, state: &S, rules: &R) -> Option<Step>
-        requires one_first { S.first state.now ≡ (R.context rules.now).first }
-        ensures { IfSome result (IsStep (R.context rules.now) (S.facts state.now) (R.files rules.now)) }
+    fn general<S: State, R: Rules>(&mut self, search: &StateWithRules<'_, S, R>) -> Option<Step>
+        ensures { IfSome result (IsStep (R.context search.now.rules.now) (S.facts search.now.state.now)
+            (R.files search.now.rules.now)) }
     {
         let to = self.nearness.nodes_within(self.cursors.ring);
-        let (rank, addition) = first_general(
-            state,
-            rules,
-            &self.nearness,
-            self.cursors.general,
-            to,
-        );
+        let (rank, addition) = first_general(search, &self.nearness, self.cursors.general, to);
         self.cursors.general = rank;
         Some(Step::Add(addition?))
     }
 
     // The next given fact that is not so, of whichever ring, up to which all are open then. Where there is none, all
     // are, and a concept is looked for that each node has. Where all were open before, nothing is looked for.
-    fn outwards<S: State, R: Rules>(&mut self, state: &S, rules: &R) -> Option<Step>
-        requires one_first { S.first state.now ≡ (R.context rules.now).first }
-        ensures { IfSome result (IsStep (R.context rules.now) (S.facts state.now) (R.files rules.now)) }
+    fn outwards<S: State, R: Rules>(&mut self, search: &StateWithRules<'_, S, R>) -> Option<Step>
+        ensures { IfSome result (IsStep (R.context search.now.rules.now) (S.facts search.now.state.now)
+            (R.files search.now.rules.now)) }
     {
         if self.cursors.ring >= self.nearness.ring_count() {
             return None;
         }
         let to = self.nearness.fact_count();
-        let (rank, given) = first_giving(state, rules, &self.nearness, self.cursors.given, to);
+        let (rank, given) = first_giving(search, &self.nearness, self.cursors.given, to);
         self.cursors.given = rank;
         self.cursors.ring = self.nearness.ring_of(rank, self.cursors.ring);
         match given {
             Some(given) => Some(Step::Give(given)),
-            None => self.general(state, rules),
+            None => self.general(search),
         }
     }
 
@@ -260,14 +251,13 @@ impl Agenda {
     fn addition<A: Allocator + Copy, S: State, R: Rules>(
         &mut self,
         tree: &Tree<A>,
-        state: &S,
-        rules: &R,
+        search: &StateWithRules<'_, S, R>,
     ) -> Option<Step>
-        requires one_first { S.first state.now ≡ (R.context rules.now).first }
-        ensures { IfSome result (IsStep (R.context rules.now) (S.facts state.now) (R.files rules.now)) }
+        ensures { IfSome result (IsStep (R.context search.now.rules.now) (S.facts search.now.state.now)
+            (R.files search.now.rules.now)) }
     {
         let from = self.cursors.additions;
-        let (reached, addition) = first_addition(tree, state, rules, from);
+        let (reached, addition) = first_addition(tree, search, from);
         self.count_looks(from.place, reached.place);
         self.cursors.additions = reached;
         Some(Step::Add(addition?))
@@ -277,15 +267,14 @@ impl Agenda {
     fn forced<A: Allocator + Copy, S: State, R: Rules>(
         &mut self,
         tree: &Tree<A>,
-        state: &S,
-        rules: &R,
+        search: &StateWithRules<'_, S, R>,
     ) -> Result<Option<Step>, NoMemory>
-        requires one_first { S.first state.now ≡ (R.context rules.now).first }
         ensures { IfOk result
-            (λ found. IfSome found (IsStep (R.context rules.now) (S.facts state.now) (R.files rules.now))) }
+            (λ found. IfSome found (IsStep (R.context search.now.rules.now) (S.facts search.now.state.now)
+            (R.files search.now.rules.now))) }
     {
         let from = self.cursors.forced;
-        let (place, forced) = first_forced(tree, state, rules, &mut self.index, from)?;
+        let (place, forced) = first_forced(tree, search, &mut self.index, from)?;
         self.count_looks(from, place);
         self.cursors.forced = place;
         match forced {
@@ -299,15 +288,14 @@ impl Agenda {
         &mut self,
         heap: Global,
         tree: &Tree<A>,
-        state: &S,
-        rules: &R,
+        search: &StateWithRules<'_, S, R>,
     ) -> Result<Option<Step>, NoMemory>
-        requires one_first { S.first state.now ≡ (R.context rules.now).first }
         ensures { IfOk result
-            (λ found. IfSome found (IsStep (R.context rules.now) (S.facts state.now) (R.files rules.now))) }
+            (λ found. IfSome found (IsStep (R.context search.now.rules.now) (S.facts search.now.state.now)
+            (R.files search.now.rules.now))) }
     {
         let from = self.cursors.pairs;
-        let (place, pair) = first_branching(heap, tree, state, rules, Wanted::Pair, from)?;
+        let (place, pair) = first_branching(heap, tree, search, Wanted::Pair, from)?;
         self.count_looks(from, place);
         self.cursors.pairs = place;
         match pair {
@@ -322,18 +310,17 @@ impl Agenda {
         &mut self,
         heap: Global,
         tree: &Tree<A>,
-        state: &S,
-        rules: &R,
+        search: &StateWithRules<'_, S, R>,
     ) -> Result<Option<Step>, NoMemory>
-        requires one_first { S.first state.now ≡ (R.context rules.now).first }
         ensures { IfOk result
-            (λ found. IfSome found (IsStep (R.context rules.now) (S.facts state.now) (R.files rules.now))) }
+            (λ found. IfSome found (IsStep (R.context search.now.rules.now) (S.facts search.now.state.now)
+            (R.files search.now.rules.now))) }
     {
-        if rules.first() == 1 {
+        if search.rules.first() == 1 {
             return Ok(None);
         }
         let from = self.cursors.first_makings;
-        let (place, making) = first_below_first(heap, tree, state, rules, from)?;
+        let (place, making) = first_below_first(heap, tree, search, from)?;
         self.count_looks(from, place);
         self.cursors.first_makings = place;
         match making {
@@ -347,18 +334,17 @@ impl Agenda {
         &mut self,
         heap: Global,
         tree: &Tree<A>,
-        state: &S,
-        rules: &R,
+        search: &StateWithRules<'_, S, R>,
     ) -> Result<Option<Step>, NoMemory>
-        requires one_first { S.first state.now ≡ (R.context rules.now).first }
         ensures { IfOk result
-            (λ found. IfSome found (IsStep (R.context rules.now) (S.facts state.now) (R.files rules.now))) }
+            (λ found. IfSome found (IsStep (R.context search.now.rules.now) (S.facts search.now.state.now)
+            (R.files search.now.rules.now))) }
     {
-        if rules.first() == 1 {
+        if search.rules.first() == 1 {
             return Ok(None);
         }
         let from = self.cursors.first_unions;
-        let (place, union) = first_branching(heap, tree, state, rules, Wanted::FirstPart, from)?;
+        let (place, union) = first_branching(heap, tree, search, Wanted::FirstPart, from)?;
         self.count_looks(from, place);
         self.cursors.first_unions = place;
         match union {
@@ -372,15 +358,14 @@ impl Agenda {
         &mut self,
         heap: Global,
         tree: &Tree<A>,
-        state: &S,
-        rules: &R,
+        search: &StateWithRules<'_, S, R>,
     ) -> Result<Option<Step>, NoMemory>
-        requires one_first { S.first state.now ≡ (R.context rules.now).first }
         ensures { IfOk result
-            (λ found. IfSome found (IsStep (R.context rules.now) (S.facts state.now) (R.files rules.now))) }
+            (λ found. IfSome found (IsStep (R.context search.now.rules.now) (S.facts search.now.state.now)
+            (R.files search.now.rules.now))) }
     {
         let from = self.cursors.makings;
-        let (place, making) = first_making(heap, tree, state, rules, &mut self.held, from)?;
+        let (place, making) = first_making(heap, tree, search, &mut self.held, from)?;
         self.count_looks(from, place);
         self.cursors.makings = place;
         match making {
@@ -394,17 +379,16 @@ impl Agenda {
         &mut self,
         heap: Global,
         tree: &Tree<A>,
-        state: &S,
-        rules: &R,
+        search: &StateWithRules<'_, S, R>,
     ) -> Result<Option<Step>, NoMemory>
-        requires one_first { S.first state.now ≡ (R.context rules.now).first }
         ensures { IfOk result
-            (λ found. IfSome found (IsStep (R.context rules.now) (S.facts state.now) (R.files rules.now))) }
+            (λ found. IfSome found (IsStep (R.context search.now.rules.now) (S.facts search.now.state.now)
+            (R.files search.now.rules.now))) }
     {
         let least = least_changed(tree, self.cursors.seen.min(tree.len()));
         self.cursors.seen = tree.len();
         self.cursors.touched = self.cursors.touched.min(least);
-        match first_held(heap, tree, state, rules, &self.held, self.cursors.touched)? {
+        match first_held(heap, tree, search, &self.held, self.cursors.touched)? {
             Some(new) => Ok(Some(Step::Generate(new))),
             None => {
                 self.cursors.touched = u32::MAX;
@@ -418,15 +402,14 @@ impl Agenda {
         &mut self,
         heap: Global,
         tree: &Tree<A>,
-        state: &S,
-        rules: &R,
+        search: &StateWithRules<'_, S, R>,
     ) -> Result<Option<Step>, NoMemory>
-        requires one_first { S.first state.now ≡ (R.context rules.now).first }
         ensures { IfOk result
-            (λ found. IfSome found (IsStep (R.context rules.now) (S.facts state.now) (R.files rules.now))) }
+            (λ found. IfSome found (IsStep (R.context search.now.rules.now) (S.facts search.now.state.now)
+            (R.files search.now.rules.now))) }
     {
         let from = self.cursors.unions;
-        let (place, union) = first_branching(heap, tree, state, rules, Wanted::Part, from)?;
+        let (place, union) = first_branching(heap, tree, search, Wanted::Part, from)?;
         self.count_looks(from, place);
         self.cursors.unions = place;
         match union {
@@ -440,15 +423,14 @@ impl Agenda {
         &mut self,
         heap: Global,
         tree: &Tree<A>,
-        state: &S,
-        rules: &R,
+        search: &StateWithRules<'_, S, R>,
     ) -> Result<Option<Step>, NoMemory>
-        requires one_first { S.first state.now ≡ (R.context rules.now).first }
         ensures { IfOk result
-            (λ found. IfSome found (IsStep (R.context rules.now) (S.facts state.now) (R.files rules.now))) }
+            (λ found. IfSome found (IsStep (R.context search.now.rules.now) (S.facts search.now.state.now)
+            (R.files search.now.rules.now))) }
     {
         let from = self.cursors.mosts;
-        let (place, most) = first_branching(heap, tree, state, rules, Wanted::Most, from)?;
+        let (place, most) = first_branching(heap, tree, search, Wanted::Most, from)?;
         self.count_looks(from, place);
         self.cursors.mosts = place;
         match most {

@@ -7,7 +7,9 @@ use crate::pairs::pair_by;
 use blocking::{Item, Tree};
 use calculus_specs::Fact;
 use std::alloc::{Allocator, Global};
-use step_finders::{Choosing, Rules, State, count_of, find_most_at, find_most_by, find_union_by};
+use step_finders::{
+    Choosing, Rules, State, StateWithRules, count_of, find_most_at, find_most_by, find_union_by,
+};
 
 /// What is looked for.
 #[derive(Clone, Copy)]
@@ -30,16 +32,15 @@ pub(crate) enum Wanted {
 pub(crate) fn first_branching<A: Allocator + Copy, S: State, R: Rules>(
     heap: Global,
     tree: &Tree<A>,
-    state: &S,
-    rules: &R,
+    search: &StateWithRules<'_, S, R>,
     wanted: Wanted,
     from: u32,
 ) -> Result<(u32, Option<Choosing>), NoMemory>
-    requires one_first { S.first state.now ≡ (R.context rules.now).first }
-    ensures { IfOk result (λ p. IfSome p.1 (IsChoosable (R.context rules.now) (S.facts state.now))) }
+    ensures { IfOk result (λ p. IfSome p.1
+        (IsChoosable (R.context search.now.rules.now) (S.facts search.now.state.now))) }
 {
     for place in from..tree.len() {
-        match branching_by(heap, wanted, tree.item(place), state, rules)? {
+        match branching_by(heap, wanted, tree.item(place), search)? {
             Some(choosing) => return Ok((place, Some(choosing))),
             None => {}
         }
@@ -51,17 +52,16 @@ fn branching_by<S: State, R: Rules>(
     heap: Global,
     wanted: Wanted,
     item: Item,
-    state: &S,
-    rules: &R,
+    search: &StateWithRules<'_, S, R>,
 ) -> Result<Option<Choosing>, NoMemory>
-    requires one_first { S.first state.now ≡ (R.context rules.now).first }
-    ensures { IfOk result (λ found. IfSome found (IsChoosable (R.context rules.now) (S.facts state.now))) }
+    ensures { IfOk result (λ found. IfSome found
+        (IsChoosable (R.context search.now.rules.now) (S.facts search.now.state.now))) }
 {
     match wanted {
-        Wanted::Pair => pair_by(heap, item, state, rules),
-        Wanted::Part => Ok(union_by(item, state, rules, u32::MAX)),
-        Wanted::FirstPart => Ok(union_by(item, state, rules, rules.first())),
-        Wanted::Most => most_by(heap, item, state, rules),
+        Wanted::Pair => pair_by(heap, item, search),
+        Wanted::Part => Ok(union_by(item, search, u32::MAX)),
+        Wanted::FirstPart => Ok(union_by(item, search, search.rules.first())),
+        Wanted::Most => most_by(heap, item, search),
     }
 }
 
@@ -69,21 +69,20 @@ fn branching_by<S: State, R: Rules>(
 fn most_by<S: State, R: Rules>(
     heap: Global,
     item: Item,
-    state: &S,
-    rules: &R,
+    search: &StateWithRules<'_, S, R>,
 ) -> Result<Option<Choosing>, NoMemory>
-    requires one_first { S.first state.now ≡ (R.context rules.now).first }
-    ensures { IfOk result (λ found. IfSome found (IsChoosable (R.context rules.now) (S.facts state.now))) }
+    ensures { IfOk result (λ found. IfSome found
+        (IsChoosable (R.context search.now.rules.now) (S.facts search.now.state.now))) }
 {
     match item {
         Item::Fact(Fact::Has(node, concept)) => {
-            most_of(heap, state, rules, state.representative(node), concept)
+            most_of(heap, search, search.state.representative(node), concept)
         }
         Item::Fact(Fact::Edge(_, from, _)) => {
-            most_at(heap, state, rules, state.representative(from))
+            most_at(heap, search, search.state.representative(from))
         }
         Item::Fact(Fact::Same(node, _)) => {
-            most_at(heap, state, rules, state.representative(node))
+            most_at(heap, search, search.state.representative(node))
         }
         Item::Fact(Fact::Apart(_, _)) => Ok(None),
         Item::Mark(_) => Ok(None),
@@ -92,43 +91,44 @@ fn most_by<S: State, R: Rules>(
 
 fn most_of<S: State, R: Rules>(
     heap: Global,
-    state: &S,
-    rules: &R,
+    search: &StateWithRules<'_, S, R>,
     node: u32,
     concept: u32,
 ) -> Result<Option<Choosing>, NoMemory>
-    requires one_first { S.first state.now ≡ (R.context rules.now).first }
-    ensures { IfOk result (λ found. IfSome found (IsChoosable (R.context rules.now) (S.facts state.now))) }
+    ensures { IfOk result (λ found. IfSome found
+        (IsChoosable (R.context search.now.rules.now) (S.facts search.now.state.now))) }
 {
-    if node >= count_of(state, rules) || !state.has(node, concept) {
+    if node >= count_of(search) || !search.state.has(node, concept) {
         return Ok(None);
     }
-    find_most_by(heap, state, rules, node, concept)
+    find_most_by(heap, search, node, concept)
 }
 
 fn most_at<S: State, R: Rules>(
     heap: Global,
-    state: &S,
-    rules: &R,
+    search: &StateWithRules<'_, S, R>,
     node: u32,
 ) -> Result<Option<Choosing>, NoMemory>
-    requires one_first { S.first state.now ≡ (R.context rules.now).first }
-    ensures { IfOk result (λ found. IfSome found (IsChoosable (R.context rules.now) (S.facts state.now))) }
+    ensures { IfOk result (λ found. IfSome found
+        (IsChoosable (R.context search.now.rules.now) (S.facts search.now.state.now))) }
 {
-    if node >= count_of(state, rules) {
+    if node >= count_of(search) {
         return Ok(None);
     }
-    find_most_at(heap, state, rules, node)
+    find_most_at(heap, search, node)
 }
 
 // The union of the entry, where a part of it is to be chosen, and its node is below this one.
-fn union_by<S: State, R: Rules>(item: Item, state: &S, rules: &R, below: u32) -> Option<Choosing>
-    requires one_first { S.first state.now ≡ (R.context rules.now).first }
-    ensures { IfSome result (IsChoosable (R.context rules.now) (S.facts state.now)) }
+fn union_by<S: State, R: Rules>(
+    item: Item,
+    search: &StateWithRules<'_, S, R>,
+    below: u32,
+) -> Option<Choosing>
+    ensures { IfSome result (IsChoosable (R.context search.now.rules.now) (S.facts search.now.state.now)) }
 {
     match item {
         Item::Fact(Fact::Has(node, concept)) if node < below => {
-            union_of(state, rules, state.representative(node), concept)
+            union_of(search, search.state.representative(node), concept)
         }
         Item::Fact(Fact::Has(_, _)) => None,
         Item::Fact(Fact::Edge(_, _, _)) => None,
@@ -138,12 +138,15 @@ fn union_by<S: State, R: Rules>(item: Item, state: &S, rules: &R, below: u32) ->
     }
 }
 
-fn union_of<S: State, R: Rules>(state: &S, rules: &R, node: u32, concept: u32) -> Option<Choosing>
-    requires one_first { S.first state.now ≡ (R.context rules.now).first }
-    ensures { IfSome result (IsChoosable (R.context rules.now) (S.facts state.now)) }
+fn union_of<S: State, R: Rules>(
+    search: &StateWithRules<'_, S, R>,
+    node: u32,
+    concept: u32,
+) -> Option<Choosing>
+    ensures { IfSome result (IsChoosable (R.context search.now.rules.now) (S.facts search.now.state.now)) }
 {
-    if node >= count_of(state, rules) || !state.has(node, concept) {
+    if node >= count_of(search) || !search.state.has(node, concept) {
         return None;
     }
-    find_union_by(state, rules, node, concept)
+    find_union_by(search, node, concept)
 }

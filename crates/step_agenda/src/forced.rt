@@ -8,7 +8,7 @@ use crate::watched::{Closes, UnionIndex, Watch};
 use blocking::{Item, Tree};
 use calculus_specs::Fact;
 use std::alloc::Allocator;
-use step_finders::{Choosing, Rules, Shape, State, count_of, find_union_by};
+use step_finders::{Choosing, Rules, Shape, State, StateWithRules, count_of, find_union_by};
 
 // Top, which is what closes that there is no successor.
 const TOP: u32 = 0;
@@ -21,16 +21,15 @@ const TOP: u32 = 0;
 /// Want of memory.
 pub(crate) fn first_forced<A: Allocator + Copy, S: State, R: Rules>(
     tree: &Tree<A>,
-    state: &S,
-    rules: &R,
+    search: &StateWithRules<'_, S, R>,
     index: &mut UnionIndex,
     from: u32,
 ) -> Result<(u32, Option<Choosing>), NoMemory>
-    requires one_first { S.first state.now ≡ (R.context rules.now).first }
-    ensures { IfOk result (λ p. IfSome p.1 (IsChoosable (R.context rules.now) (S.facts state.now))) }
+    ensures { IfOk result (λ p. IfSome p.1
+        (IsChoosable (R.context search.now.rules.now) (S.facts search.now.state.now))) }
 {
     for place in from..tree.len() {
-        match forced_by(tree.item(place), state, rules, index)? {
+        match forced_by(tree.item(place), search, index)? {
             Some(choosing) => return Ok((place, Some(choosing))),
             None => {}
         }
@@ -41,22 +40,21 @@ pub(crate) fn first_forced<A: Allocator + Copy, S: State, R: Rules>(
 // A union that is forced by the entry.
 fn forced_by<S: State, R: Rules>(
     item: Item,
-    state: &S,
-    rules: &R,
+    search: &StateWithRules<'_, S, R>,
     index: &mut UnionIndex,
 ) -> Result<Option<Choosing>, NoMemory>
-    requires one_first { S.first state.now ≡ (R.context rules.now).first }
-    ensures { IfOk result (λ found. IfSome found (IsChoosable (R.context rules.now) (S.facts state.now))) }
+    ensures { IfOk result (λ found. IfSome found
+        (IsChoosable (R.context search.now.rules.now) (S.facts search.now.state.now))) }
 {
     match item {
         Item::Fact(Fact::Has(node, concept)) => {
-            forced_by_concept(state, rules, index, state.representative(node), concept)
+            forced_by_concept(search, index, search.state.representative(node), concept)
         }
         Item::Fact(Fact::Edge(_, from, to)) => {
-            Ok(forced_by_edge(state, rules, index, state.representative(from), to))
+            Ok(forced_by_edge(search, index, search.state.representative(from), to))
         }
         Item::Fact(Fact::Same(node, _)) => {
-            forced_by_label(state, rules, index, state.representative(node))
+            forced_by_label(search, index, search.state.representative(node))
         }
         Item::Fact(Fact::Apart(_, _)) => Ok(None),
         Item::Mark(_) => Ok(None),
@@ -66,20 +64,18 @@ fn forced_by<S: State, R: Rules>(
 // A union of the beginning of an edge that is forced by what the end has: by top alone where the end is no first node,
 // since then what else it has came after the edge.
 fn forced_by_edge<S: State, R: Rules>(
-    state: &S,
-    rules: &R,
+    search: &StateWithRules<'_, S, R>,
     index: &UnionIndex,
     from: u32,
     to: u32,
 ) -> Option<Choosing>
-    requires one_first { S.first state.now ≡ (R.context rules.now).first }
-    ensures { IfSome result (IsChoosable (R.context rules.now) (S.facts state.now)) }
+    ensures { IfSome result (IsChoosable (R.context search.now.rules.now) (S.facts search.now.state.now)) }
 {
-    if to >= rules.first() {
-        return forced_by_successor(state, rules, index, from, TOP);
+    if to >= search.rules.first() {
+        return forced_by_successor(search, index, from, TOP);
     }
-    for concept in state.label(to) {
-        match forced_by_successor(state, rules, index, from, *concept) {
+    for concept in search.state.label(to) {
+        match forced_by_successor(search, index, from, *concept) {
             Some(choosing) => return Some(choosing),
             None => {}
         }
@@ -89,19 +85,17 @@ fn forced_by_edge<S: State, R: Rules>(
 
 // A union of the node that is forced since a successor has the concept, which closes a part of it.
 fn forced_by_successor<S: State, R: Rules>(
-    state: &S,
-    rules: &R,
+    search: &StateWithRules<'_, S, R>,
     index: &UnionIndex,
     node: u32,
     concept: u32,
 ) -> Option<Choosing>
-    requires one_first { S.first state.now ≡ (R.context rules.now).first }
-    ensures { IfSome result (IsChoosable (R.context rules.now) (S.facts state.now)) }
+    ensures { IfSome result (IsChoosable (R.context search.now.rules.now) (S.facts search.now.state.now)) }
 {
     let mut place = index.latest(concept);
     for _ in 0..index.len() {
         let watch = index.watch(place)?;
-        match forced_by_end(state, rules, node, watch) {
+        match forced_by_end(search, node, watch) {
             Some(choosing) => return Some(choosing),
             None => {}
         }
@@ -111,32 +105,29 @@ fn forced_by_successor<S: State, R: Rules>(
 }
 
 fn forced_by_end<S: State, R: Rules>(
-    state: &S,
-    rules: &R,
+    search: &StateWithRules<'_, S, R>,
     node: u32,
     watch: Watch,
 ) -> Option<Choosing>
-    requires one_first { S.first state.now ≡ (R.context rules.now).first }
-    ensures { IfSome result (IsChoosable (R.context rules.now) (S.facts state.now)) }
+    ensures { IfSome result (IsChoosable (R.context search.now.rules.now) (S.facts search.now.state.now)) }
 {
     match watch.closes {
         Closes::Here => None,
-        Closes::Above => forced_at(state, rules, node, watch.union),
+        Closes::Above => forced_at(search, node, watch.union),
     }
 }
 
 // A union that is forced by one of the concepts of a node.
 fn forced_by_label<S: State, R: Rules>(
-    state: &S,
-    rules: &R,
+    search: &StateWithRules<'_, S, R>,
     index: &mut UnionIndex,
     node: u32,
 ) -> Result<Option<Choosing>, NoMemory>
-    requires one_first { S.first state.now ≡ (R.context rules.now).first }
-    ensures { IfOk result (λ found. IfSome found (IsChoosable (R.context rules.now) (S.facts state.now))) }
+    ensures { IfOk result (λ found. IfSome found
+        (IsChoosable (R.context search.now.rules.now) (S.facts search.now.state.now))) }
 {
-    for concept in state.label(node) {
-        match forced_by_concept(state, rules, index, node, *concept)? {
+    for concept in search.state.label(node) {
+        match forced_by_concept(search, index, node, *concept)? {
             Some(choosing) => return Ok(Some(choosing)),
             None => {}
         }
@@ -146,21 +137,20 @@ fn forced_by_label<S: State, R: Rules>(
 
 // A union that is forced since the node has the concept: the concept itself, one of the node, or one of a node above.
 fn forced_by_concept<S: State, R: Rules>(
-    state: &S,
-    rules: &R,
+    search: &StateWithRules<'_, S, R>,
     index: &mut UnionIndex,
     node: u32,
     concept: u32,
 ) -> Result<Option<Choosing>, NoMemory>
-    requires one_first { S.first state.now ≡ (R.context rules.now).first }
-    ensures { IfOk result (λ found. IfSome found (IsChoosable (R.context rules.now) (S.facts state.now))) }
+    ensures { IfOk result (λ found. IfSome found
+        (IsChoosable (R.context search.now.rules.now) (S.facts search.now.state.now))) }
 {
-    match rules.shape(concept) {
+    match search.rules.shape(concept) {
         Shape::Or(parts) => {
-            index.meet(rules, concept, parts)?;
-            match forced_at(state, rules, node, concept) {
+            index.meet(search.rules, concept, parts)?;
+            match forced_at(search, node, concept) {
                 Some(choosing) => Ok(Some(choosing)),
-                None => Ok(forced_by_watches(state, rules, index, node, concept)),
+                None => Ok(forced_by_watches(search, index, node, concept)),
             }
         }
         Shape::Top
@@ -171,25 +161,23 @@ fn forced_by_concept<S: State, R: Rules>(
         | Shape::SomeOf(_, _)
         | Shape::AllOf(_, _)
         | Shape::Min(_, _, _)
-        | Shape::Max(_, _, _) => Ok(forced_by_watches(state, rules, index, node, concept)),
+        | Shape::Max(_, _, _) => Ok(forced_by_watches(search, index, node, concept)),
     }
 }
 
 // A union that is forced since the concept of the node closes a part of it.
 fn forced_by_watches<S: State, R: Rules>(
-    state: &S,
-    rules: &R,
+    search: &StateWithRules<'_, S, R>,
     index: &UnionIndex,
     node: u32,
     concept: u32,
 ) -> Option<Choosing>
-    requires one_first { S.first state.now ≡ (R.context rules.now).first }
-    ensures { IfSome result (IsChoosable (R.context rules.now) (S.facts state.now)) }
+    ensures { IfSome result (IsChoosable (R.context search.now.rules.now) (S.facts search.now.state.now)) }
 {
     let mut place = index.latest(concept);
     for _ in 0..index.len() {
         let watch = index.watch(place)?;
-        match forced_by_watch(state, rules, node, watch) {
+        match forced_by_watch(search, node, watch) {
             Some(choosing) => return Some(choosing),
             None => {}
         }
@@ -199,31 +187,32 @@ fn forced_by_watches<S: State, R: Rules>(
 }
 
 fn forced_by_watch<S: State, R: Rules>(
-    state: &S,
-    rules: &R,
+    search: &StateWithRules<'_, S, R>,
     node: u32,
     watch: Watch,
 ) -> Option<Choosing>
-    requires one_first { S.first state.now ≡ (R.context rules.now).first }
-    ensures { IfSome result (IsChoosable (R.context rules.now) (S.facts state.now)) }
+    ensures { IfSome result (IsChoosable (R.context search.now.rules.now) (S.facts search.now.state.now)) }
 {
     match watch.closes {
-        Closes::Here => forced_at(state, rules, node, watch.union),
-        Closes::Above => forced_above(state, rules, node, watch.union),
+        Closes::Here => forced_at(search, node, watch.union),
+        Closes::Above => forced_above(search, node, watch.union),
     }
 }
 
 // The union, where a node from which an edge leads to this one has it, and it is forced there.
-fn forced_above<S: State, R: Rules>(state: &S, rules: &R, node: u32, union: u32) -> Option<Choosing>
-    requires one_first { S.first state.now ≡ (R.context rules.now).first }
-    ensures { IfSome result (IsChoosable (R.context rules.now) (S.facts state.now)) }
+fn forced_above<S: State, R: Rules>(
+    search: &StateWithRules<'_, S, R>,
+    node: u32,
+    union: u32,
+) -> Option<Choosing>
+    ensures { IfSome result (IsChoosable (R.context search.now.rules.now) (S.facts search.now.state.now)) }
 {
-    match above(state, node) {
-        Some(above) => return forced_at(state, rules, above, union),
+    match above(search.state, node) {
+        Some(above) => return forced_at(search, above, union),
         None => {}
     }
-    for member in members_at(state, node) {
-        match forced_into(state, rules, *member, union) {
+    for member in members_at(search.state, node) {
+        match forced_into(search, *member, union) {
             Some(choosing) => return Some(choosing),
             None => {}
         }
@@ -232,12 +221,15 @@ fn forced_above<S: State, R: Rules>(state: &S, rules: &R, node: u32, union: u32)
 }
 
 // The union, where a node from which an edge to this one is given has it, and it is forced there.
-fn forced_into<S: State, R: Rules>(state: &S, rules: &R, node: u32, union: u32) -> Option<Choosing>
-    requires one_first { S.first state.now ≡ (R.context rules.now).first }
-    ensures { IfSome result (IsChoosable (R.context rules.now) (S.facts state.now)) }
+fn forced_into<S: State, R: Rules>(
+    search: &StateWithRules<'_, S, R>,
+    node: u32,
+    union: u32,
+) -> Option<Choosing>
+    ensures { IfSome result (IsChoosable (R.context search.now.rules.now) (S.facts search.now.state.now)) }
 {
-    for edge in rules.given_into(node) {
-        match forced_at(state, rules, state.representative(edge.1), union) {
+    for edge in search.rules.given_into(node) {
+        match forced_at(search, search.state.representative(edge.1), union) {
             Some(choosing) => return Some(choosing),
             None => {}
         }
@@ -246,15 +238,18 @@ fn forced_into<S: State, R: Rules>(state: &S, rules: &R, node: u32, union: u32) 
 }
 
 // The union, where the node has it, a part of it is to be chosen, and it is forced.
-fn forced_at<S: State, R: Rules>(state: &S, rules: &R, node: u32, union: u32) -> Option<Choosing>
-    requires one_first { S.first state.now ≡ (R.context rules.now).first }
-    ensures { IfSome result (IsChoosable (R.context rules.now) (S.facts state.now)) }
+fn forced_at<S: State, R: Rules>(
+    search: &StateWithRules<'_, S, R>,
+    node: u32,
+    union: u32,
+) -> Option<Choosing>
+    ensures { IfSome result (IsChoosable (R.context search.now.rules.now) (S.facts search.now.state.now)) }
 {
-    if node >= count_of(state, rules) || !state.has(node, union) {
+    if node >= count_of(search) || !search.state.has(node, union) {
         return None;
     }
-    let choosing = find_union_by(state, rules, node, union)?;
-    if is_forced(state, rules, node, union) {
+    let choosing = find_union_by(search, node, union)?;
+    if is_forced(search, node, union) {
         Some(choosing)
     } else {
         None
@@ -262,9 +257,9 @@ fn forced_at<S: State, R: Rules>(state: &S, rules: &R, node: u32, union: u32) ->
 }
 
 // Whether at most one part of the union does not clash at once.
-fn is_forced<S: State, R: Rules>(state: &S, rules: &R, node: u32, union: u32) -> bool {
-    match rules.shape(union) {
-        Shape::Or(parts) => !are_two_open(state, rules, node, parts),
+fn is_forced<S: State, R: Rules>(search: &StateWithRules<'_, S, R>, node: u32, union: u32) -> bool {
+    match search.rules.shape(union) {
+        Shape::Or(parts) => !are_two_open(search, node, parts),
         Shape::Top
         | Shape::Bottom
         | Shape::Name(_)
@@ -278,10 +273,14 @@ fn is_forced<S: State, R: Rules>(state: &S, rules: &R, node: u32, union: u32) ->
 }
 
 // Whether two of the concepts do not clash at once.
-fn are_two_open<S: State, R: Rules>(state: &S, rules: &R, node: u32, parts: &[u32]) -> bool {
+fn are_two_open<S: State, R: Rules>(
+    search: &StateWithRules<'_, S, R>,
+    node: u32,
+    parts: &[u32],
+) -> bool {
     let mut is_one_open = false;
     for part in parts {
-        if !clashes_at_once(state, rules, node, *part) {
+        if !clashes_at_once(search, node, *part) {
             if is_one_open {
                 return true;
             }
@@ -293,14 +292,18 @@ fn are_two_open<S: State, R: Rules>(state: &S, rules: &R, node: u32, parts: &[u3
 
 // Whether the concept would clash at the node or at a successor that is there. The complement of a restriction counts
 // for nothing: what it says of successors may still be met by one that is to be made.
-fn clashes_at_once<S: State, R: Rules>(state: &S, rules: &R, node: u32, concept: u32) -> bool {
-    match rules.shape(concept) {
+fn clashes_at_once<S: State, R: Rules>(
+    search: &StateWithRules<'_, S, R>,
+    node: u32,
+    concept: u32,
+) -> bool {
+    match search.rules.shape(concept) {
         Shape::Bottom => true,
         Shape::Name(_) | Shape::NotName(_) | Shape::And(_) | Shape::Or(_) => {
-            has_complement(state, rules, node, concept)
+            has_complement(search, node, concept)
         }
         Shape::AllOf(role, filler) => {
-            is_plain(rules, filler) && has_end_without(state, rules, node, role, filler)
+            is_plain(search.rules, filler) && has_end_without(search, node, role, filler)
         }
         Shape::Top | Shape::SomeOf(_, _) | Shape::Min(_, _, _) | Shape::Max(_, _, _) => false,
     }
@@ -320,23 +323,26 @@ fn is_plain<R: Rules>(rules: &R, concept: u32) -> bool {
     }
 }
 
-fn has_complement<S: State, R: Rules>(state: &S, rules: &R, node: u32, concept: u32) -> bool {
-    match rules.complement(concept) {
-        Some(complement) => state.has(node, complement),
+fn has_complement<S: State, R: Rules>(
+    search: &StateWithRules<'_, S, R>,
+    node: u32,
+    concept: u32,
+) -> bool {
+    match search.rules.complement(concept) {
+        Some(complement) => search.state.has(node, complement),
         None => false,
     }
 }
 
 // Whether an edge by a role below this one leads to a node with the complement of the filler.
 fn has_end_without<S: State, R: Rules>(
-    state: &S,
-    rules: &R,
+    search: &StateWithRules<'_, S, R>,
     node: u32,
     role: u32,
     filler: u32,
 ) -> bool {
-    for edge in state.edges(node) {
-        if rules.is_below(edge.0, role) && has_complement(state, rules, edge.1, filler) {
+    for edge in search.state.edges(node) {
+        if search.rules.is_below(edge.0, role) && has_complement(search, edge.1, filler) {
             return true;
         }
     }

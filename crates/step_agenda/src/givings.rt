@@ -3,23 +3,21 @@ ghost use Rattle.std.specs.Prelude.{◌≡◌, IfSome};
 ghost use Rattle.step_finders.specs.Giving.{IsGiving};
 
 use crate::nearness::Nearness;
-use step_finders::{Given, Rules, State, is_so};
+use step_finders::{Given, Rules, State, StateWithRules, is_so};
 
 /// The first rank from `from` on and below `to`, in the order of nearness, of a given fact that is not so, and the fact;
 /// or `to`.
 pub(crate) fn first_giving<S: State, R: Rules>(
-    state: &S,
-    rules: &R,
+    search: &StateWithRules<'_, S, R>,
     nearness: &Nearness,
     from: usize,
     to: usize,
 ) -> (usize, Option<Given>)
-    requires one_first { S.first state.now ≡ (R.context rules.now).first }
-    ensures { IfSome result.1 (IsGiving (R.context rules.now) (S.facts state.now)) }
+    ensures { IfSome result.1 (IsGiving (R.context search.now.rules.now) (S.facts search.now.state.now)) }
 {
     for rank in from..to {
         match nearness.fact(rank) {
-            Some(place) => match unless_so(state, rules, place) {
+            Some(place) => match unless_so(search, place) {
                 Some(given) => return (rank, Some(given)),
                 None => {}
             },
@@ -30,12 +28,11 @@ pub(crate) fn first_giving<S: State, R: Rules>(
 }
 
 // The given fact at a place, if it is not so.
-fn unless_so<S: State, R: Rules>(state: &S, rules: &R, place: usize) -> Option<Given>
-    requires one_first { S.first state.now ≡ (R.context rules.now).first }
-    ensures { IfSome result (IsGiving (R.context rules.now) (S.facts state.now)) }
+fn unless_so<S: State, R: Rules>(search: &StateWithRules<'_, S, R>, place: usize) -> Option<Given>
+    ensures { IfSome result (IsGiving (R.context search.now.rules.now) (S.facts search.now.state.now)) }
 {
-    let given = rules.given();
-    if place >= given.len() || is_so(state, given[place].fact) {
+    let given = search.rules.given();
+    if place >= given.len() || is_so(search.state, given[place].fact) {
         None
     } else {
         Some(given[place])

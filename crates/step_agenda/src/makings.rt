@@ -8,7 +8,9 @@ use crate::NoMemory;
 use blocking::{Item, Tree};
 use calculus_specs::Fact;
 use std::alloc::{Allocator, Global};
-use step_finders::{NewNodes, Rules, Shape, State, StateWithBlocks, count_of, find_making_by};
+use step_finders::{
+    NewNodes, Rules, Shape, State, StateWithBlocks, StateWithRules, count_of, find_making_by,
+};
 
 /// An entry that asks for nodes, as far as its node was not clear.
 #[derive(Clone, Copy, Debug, PartialEq, Eq)]
@@ -28,19 +30,17 @@ pub(crate) struct Held {
 pub(crate) fn first_making<A: Allocator + Copy, S: StateWithBlocks, R: Rules>(
     heap: Global,
     tree: &Tree<A>,
-    state: &S,
-    rules: &R,
+    search: &StateWithRules<'_, S, R>,
     held: &mut Vec<Held>,
     from: u32,
 ) -> Result<(u32, Option<NewNodes>), NoMemory>
-    requires one_first { S.first state.now ≡ (R.context rules.now).first }
-    ensures { IfOk result (λ p. IfSome p.1 (IsMaking (R.context rules.now) (S.facts state.now))) }
+    ensures { IfOk result (λ p. IfSome p.1 (IsMaking (R.context search.now.rules.now) (S.facts search.now.state.now))) }
 {
     for place in from..tree.len() {
         let item = tree.item(place);
-        match making_by(heap, item, state, rules)? {
+        match making_by(heap, item, search)? {
             Some(making) => return Ok((place, Some(making))),
-            None => hold(held, item, place, state, rules)?,
+            None => hold(held, item, place, search)?,
         }
     }
     Ok((tree.len(), None))
@@ -51,12 +51,13 @@ fn hold<S: StateWithBlocks, R: Rules>(
     held: &mut Vec<Held>,
     item: Item,
     place: u32,
-    state: &S,
-    rules: &R,
+    search: &StateWithRules<'_, S, R>,
 ) -> Result<(), NoMemory> {
     match item {
         Item::Fact(Fact::Has(node, concept)) => {
-            if asks(rules, concept) && !state.is_clear(state.representative(node)) {
+            if asks(search.rules, concept)
+                && !search.state.is_clear(search.state.representative(node))
+            {
                 held.push(Held { place, node })?;
             }
             Ok(())
@@ -77,17 +78,16 @@ fn hold<S: StateWithBlocks, R: Rules>(
 pub(crate) fn first_held<A: Allocator + Copy, S: StateWithBlocks, R: Rules>(
     heap: Global,
     tree: &Tree<A>,
-    state: &S,
-    rules: &R,
+    search: &StateWithRules<'_, S, R>,
     held: &[Held],
     from: u32,
 ) -> Result<Option<NewNodes>, NoMemory>
-    requires one_first { S.first state.now ≡ (R.context rules.now).first }
-    ensures { IfOk result (λ found. IfSome found (IsMaking (R.context rules.now) (S.facts state.now))) }
+    ensures { IfOk result (λ found. IfSome found
+        (IsMaking (R.context search.now.rules.now) (S.facts search.now.state.now))) }
 {
     for entry in held {
         if entry.node >= from && entry.place < tree.len() {
-            match making_by(heap, tree.item(entry.place), state, rules)? {
+            match making_by(heap, tree.item(entry.place), search)? {
                 Some(making) => return Ok(Some(making)),
                 None => {}
             }
@@ -100,15 +100,14 @@ pub(crate) fn first_held<A: Allocator + Copy, S: StateWithBlocks, R: Rules>(
 fn making_by<S: StateWithBlocks, R: Rules>(
     heap: Global,
     item: Item,
-    state: &S,
-    rules: &R,
+    search: &StateWithRules<'_, S, R>,
 ) -> Result<Option<NewNodes>, NoMemory>
-    requires one_first { S.first state.now ≡ (R.context rules.now).first }
-    ensures { IfOk result (λ found. IfSome found (IsMaking (R.context rules.now) (S.facts state.now))) }
+    ensures { IfOk result (λ found. IfSome found
+        (IsMaking (R.context search.now.rules.now) (S.facts search.now.state.now))) }
 {
     match item {
         Item::Fact(Fact::Has(node, concept)) => {
-            making_at(heap, state, rules, state.representative(node), concept)
+            making_at(heap, search, search.state.representative(node), concept)
         }
         Item::Fact(Fact::Edge(_, _, _)) => Ok(None),
         Item::Fact(Fact::Apart(_, _)) => Ok(None),
@@ -120,18 +119,20 @@ fn making_by<S: StateWithBlocks, R: Rules>(
 // What nodes are to be made since the node has the concept, where it is a representative and clear.
 fn making_at<S: StateWithBlocks, R: Rules>(
     heap: Global,
-    state: &S,
-    rules: &R,
+    search: &StateWithRules<'_, S, R>,
     node: u32,
     concept: u32,
 ) -> Result<Option<NewNodes>, NoMemory>
-    requires one_first { S.first state.now ≡ (R.context rules.now).first }
-    ensures { IfOk result (λ found. IfSome found (IsMaking (R.context rules.now) (S.facts state.now))) }
+    ensures { IfOk result (λ found. IfSome found
+        (IsMaking (R.context search.now.rules.now) (S.facts search.now.state.now))) }
 {
-    if !asks(rules, concept) || !state.is_clear(node) || !is_there(state, rules, node, concept) {
+    if !asks(search.rules, concept)
+        || !search.state.is_clear(node)
+        || !is_there(search, node, concept)
+    {
         return Ok(None);
     }
-    find_making_by(heap, state, rules, node, concept)
+    find_making_by(heap, search, node, concept)
 }
 
 /// Looks from this entry on for new nodes below a first node. Answers the entry for which they are to be made, or the
@@ -143,15 +144,13 @@ fn making_at<S: StateWithBlocks, R: Rules>(
 pub(crate) fn first_below_first<A: Allocator + Copy, S: State, R: Rules>(
     heap: Global,
     tree: &Tree<A>,
-    state: &S,
-    rules: &R,
+    search: &StateWithRules<'_, S, R>,
     from: u32,
 ) -> Result<(u32, Option<NewNodes>), NoMemory>
-    requires one_first { S.first state.now ≡ (R.context rules.now).first }
-    ensures { IfOk result (λ p. IfSome p.1 (IsMaking (R.context rules.now) (S.facts state.now))) }
+    ensures { IfOk result (λ p. IfSome p.1 (IsMaking (R.context search.now.rules.now) (S.facts search.now.state.now))) }
 {
     for place in from..tree.len() {
-        match below_first_by(heap, tree.item(place), state, rules)? {
+        match below_first_by(heap, tree.item(place), search)? {
             Some(making) => return Ok((place, Some(making))),
             None => {}
         }
@@ -163,15 +162,14 @@ pub(crate) fn first_below_first<A: Allocator + Copy, S: State, R: Rules>(
 fn below_first_by<S: State, R: Rules>(
     heap: Global,
     item: Item,
-    state: &S,
-    rules: &R,
+    search: &StateWithRules<'_, S, R>,
 ) -> Result<Option<NewNodes>, NoMemory>
-    requires one_first { S.first state.now ≡ (R.context rules.now).first }
-    ensures { IfOk result (λ found. IfSome found (IsMaking (R.context rules.now) (S.facts state.now))) }
+    ensures { IfOk result (λ found. IfSome found
+        (IsMaking (R.context search.now.rules.now) (S.facts search.now.state.now))) }
 {
     match item {
         Item::Fact(Fact::Has(node, concept)) => {
-            below_first(heap, state, rules, state.representative(node), concept)
+            below_first(heap, search, search.state.representative(node), concept)
         }
         Item::Fact(Fact::Edge(_, _, _)) => Ok(None),
         Item::Fact(Fact::Apart(_, _)) => Ok(None),
@@ -184,28 +182,32 @@ fn below_first_by<S: State, R: Rules>(
 #[tactic(auto, using(blocking::proofs::BlockLists::first_is_clear))]
 fn below_first<S: State, R: Rules>(
     heap: Global,
-    state: &S,
-    rules: &R,
+    search: &StateWithRules<'_, S, R>,
     node: u32,
     concept: u32,
 ) -> Result<Option<NewNodes>, NoMemory>
-    requires one_first { S.first state.now ≡ (R.context rules.now).first }
-    ensures { IfOk result (λ found. IfSome found (IsMaking (R.context rules.now) (S.facts state.now))) }
+    ensures { IfOk result (λ found. IfSome found
+        (IsMaking (R.context search.now.rules.now) (S.facts search.now.state.now))) }
 {
-    if node >= rules.first() || !asks(rules, concept) || !is_there(state, rules, node, concept) {
+    if node >= search.rules.first()
+        || !asks(search.rules, concept)
+        || !is_there(search, node, concept)
+    {
         return Ok(None);
     }
-    find_making_by(heap, state, rules, node, concept)
+    find_making_by(heap, search, node, concept)
 }
 
 // Whether the node is a representative and has the concept.
-fn is_there<S: State, R: Rules>(state: &S, rules: &R, node: u32, concept: u32) -> bool
-    requires one_first { S.first state.now ≡ (R.context rules.now).first }
-    ensures node { IsTrue result → node < node_count_from (R.context rules.now).first (S.facts state.now) }
-    ensures representative { IsTrue result → rep (S.facts state.now) node ≡ node }
-    ensures holds { IsTrue result → holds (S.facts state.now) node concept ≡ true }
+fn is_there<S: State, R: Rules>(search: &StateWithRules<'_, S, R>, node: u32, concept: u32) -> bool
+    ensures node { IsTrue result → node < node_count_from (R.context search.now.rules.now).first
+        (S.facts search.now.state.now) }
+    ensures representative { IsTrue result → rep (S.facts search.now.state.now) node ≡ node }
+    ensures holds { IsTrue result → holds (S.facts search.now.state.now) node concept ≡ true }
 {
-    node < count_of(state, rules) && state.representative(node) == node && state.has(node, concept)
+    node < count_of(search)
+        && search.state.representative(node) == node
+        && search.state.has(node, concept)
 }
 
 // Whether the concept asks for successors.

@@ -7,7 +7,7 @@ use crate::above::{above, members_at};
 use blocking::Item;
 use calculus_specs::Fact;
 use std::alloc::Global;
-use step_finders::{Choosing, Rules, Shape, State, count_of, find_pair_by};
+use step_finders::{Choosing, Rules, Shape, State, StateWithRules, count_of, find_pair_by};
 
 // Top, the filler that each node has.
 const TOP: u32 = 0;
@@ -29,21 +29,20 @@ enum Asked<'a> {
 pub(crate) fn pair_by<S: State, R: Rules>(
     heap: Global,
     item: Item,
-    state: &S,
-    rules: &R,
+    search: &StateWithRules<'_, S, R>,
 ) -> Result<Option<Choosing>, NoMemory>
-    requires one_first { S.first state.now ≡ (R.context rules.now).first }
-    ensures { IfOk result (λ found. IfSome found (IsChoosable (R.context rules.now) (S.facts state.now))) }
+    ensures { IfOk result (λ found. IfSome found
+        (IsChoosable (R.context search.now.rules.now) (S.facts search.now.state.now))) }
 {
     match item {
         Item::Fact(Fact::Has(node, concept)) => {
-            pair_by_concept(heap, state, rules, state.representative(node), concept)
+            pair_by_concept(heap, search, search.state.representative(node), concept)
         }
         Item::Fact(Fact::Edge(role, from, to)) => {
-            pair_by_edge(heap, state, rules, role, state.representative(from), to)
+            pair_by_edge(heap, search, role, search.state.representative(from), to)
         }
         Item::Fact(Fact::Same(node, _)) => {
-            pair_by_join(heap, state, rules, state.representative(node))
+            pair_by_join(heap, search, search.state.representative(node))
         }
         Item::Fact(Fact::Apart(_, _)) => Ok(None),
         Item::Mark(_) => Ok(None),
@@ -53,54 +52,51 @@ pub(crate) fn pair_by<S: State, R: Rules>(
 // A pair by the concept, where it is an 'at most', or by an 'at most' above of which it is the filler.
 fn pair_by_concept<S: State, R: Rules>(
     heap: Global,
-    state: &S,
-    rules: &R,
+    search: &StateWithRules<'_, S, R>,
     node: u32,
     concept: u32,
 ) -> Result<Option<Choosing>, NoMemory>
-    requires one_first { S.first state.now ≡ (R.context rules.now).first }
-    ensures { IfOk result (λ found. IfSome found (IsChoosable (R.context rules.now) (S.facts state.now))) }
+    ensures { IfOk result (λ found. IfSome found
+        (IsChoosable (R.context search.now.rules.now) (S.facts search.now.state.now))) }
 {
-    match pair_of(heap, state, rules, node, concept)? {
+    match pair_of(heap, search, node, concept)? {
         Some(choosing) => Ok(Some(choosing)),
-        None => pair_by_mosts_above(heap, state, rules, node, rules.mosts(concept)),
+        None => pair_by_mosts_above(heap, search, node, search.rules.mosts(concept)),
     }
 }
 
 // A pair by one of these, all of them an 'at most', where a node above has it.
 fn pair_by_mosts_above<S: State, R: Rules>(
     heap: Global,
-    state: &S,
-    rules: &R,
+    search: &StateWithRules<'_, S, R>,
     node: u32,
     mosts: &[u32],
 ) -> Result<Option<Choosing>, NoMemory>
-    requires one_first { S.first state.now ≡ (R.context rules.now).first }
-    ensures { IfOk result (λ found. IfSome found (IsChoosable (R.context rules.now) (S.facts state.now))) }
+    ensures { IfOk result (λ found. IfSome found
+        (IsChoosable (R.context search.now.rules.now) (S.facts search.now.state.now))) }
 {
     if mosts.is_empty() {
         return Ok(None);
     }
-    pair_above(heap, state, rules, node, Asked::These(mosts))
+    pair_above(heap, search, node, Asked::These(mosts))
 }
 
 // A pair by a concept that is asked of a node from which an edge leads to this one.
 fn pair_above<S: State, R: Rules>(
     heap: Global,
-    state: &S,
-    rules: &R,
+    search: &StateWithRules<'_, S, R>,
     node: u32,
     asked: Asked<'_>,
 ) -> Result<Option<Choosing>, NoMemory>
-    requires one_first { S.first state.now ≡ (R.context rules.now).first }
-    ensures { IfOk result (λ found. IfSome found (IsChoosable (R.context rules.now) (S.facts state.now))) }
+    ensures { IfOk result (λ found. IfSome found
+        (IsChoosable (R.context search.now.rules.now) (S.facts search.now.state.now))) }
 {
-    match above(state, node) {
-        Some(above) => return pair_of_asked(heap, state, rules, above, asked),
+    match above(search.state, node) {
+        Some(above) => return pair_of_asked(heap, search, above, asked),
         None => {}
     }
-    for member in members_at(state, node) {
-        match pair_into(heap, state, rules, *member, asked)? {
+    for member in members_at(search.state, node) {
+        match pair_into(heap, search, *member, asked)? {
             Some(choosing) => return Ok(Some(choosing)),
             None => {}
         }
@@ -111,16 +107,15 @@ fn pair_above<S: State, R: Rules>(
 // A pair by a concept that is asked of a node from which an edge to this one is given.
 fn pair_into<S: State, R: Rules>(
     heap: Global,
-    state: &S,
-    rules: &R,
+    search: &StateWithRules<'_, S, R>,
     node: u32,
     asked: Asked<'_>,
 ) -> Result<Option<Choosing>, NoMemory>
-    requires one_first { S.first state.now ≡ (R.context rules.now).first }
-    ensures { IfOk result (λ found. IfSome found (IsChoosable (R.context rules.now) (S.facts state.now))) }
+    ensures { IfOk result (λ found. IfSome found
+        (IsChoosable (R.context search.now.rules.now) (S.facts search.now.state.now))) }
 {
-    for edge in rules.given_into(node) {
-        match pair_of_asked(heap, state, rules, state.representative(edge.1), asked)? {
+    for edge in search.rules.given_into(node) {
+        match pair_of_asked(heap, search, search.state.representative(edge.1), asked)? {
             Some(choosing) => return Ok(Some(choosing)),
             None => {}
         }
@@ -131,33 +126,31 @@ fn pair_into<S: State, R: Rules>(
 // A pair by a concept of the node that is asked.
 fn pair_of_asked<S: State, R: Rules>(
     heap: Global,
-    state: &S,
-    rules: &R,
+    search: &StateWithRules<'_, S, R>,
     node: u32,
     asked: Asked<'_>,
 ) -> Result<Option<Choosing>, NoMemory>
-    requires one_first { S.first state.now ≡ (R.context rules.now).first }
-    ensures { IfOk result (λ found. IfSome found (IsChoosable (R.context rules.now) (S.facts state.now))) }
+    ensures { IfOk result (λ found. IfSome found
+        (IsChoosable (R.context search.now.rules.now) (S.facts search.now.state.now))) }
 {
     match asked {
-        Asked::These(concepts) => pair_of_any(heap, state, rules, node, concepts),
-        Asked::Own => pair_of_any(heap, state, rules, node, state.label(node)),
+        Asked::These(concepts) => pair_of_any(heap, search, node, concepts),
+        Asked::Own => pair_of_any(heap, search, node, search.state.label(node)),
     }
 }
 
 // A pair by one of these concepts, where the node has it.
 fn pair_of_any<S: State, R: Rules>(
     heap: Global,
-    state: &S,
-    rules: &R,
+    search: &StateWithRules<'_, S, R>,
     node: u32,
     concepts: &[u32],
 ) -> Result<Option<Choosing>, NoMemory>
-    requires one_first { S.first state.now ≡ (R.context rules.now).first }
-    ensures { IfOk result (λ found. IfSome found (IsChoosable (R.context rules.now) (S.facts state.now))) }
+    ensures { IfOk result (λ found. IfSome found
+        (IsChoosable (R.context search.now.rules.now) (S.facts search.now.state.now))) }
 {
     for concept in concepts {
-        match pair_of(heap, state, rules, node, *concept)? {
+        match pair_of(heap, search, node, *concept)? {
             Some(choosing) => return Ok(Some(choosing)),
             None => {}
         }
@@ -169,20 +162,19 @@ fn pair_of_any<S: State, R: Rules>(
 // successors, since what else the end has came after the edge.
 fn pair_by_edge<S: State, R: Rules>(
     heap: Global,
-    state: &S,
-    rules: &R,
+    search: &StateWithRules<'_, S, R>,
     role: u32,
     from: u32,
     to: u32,
 ) -> Result<Option<Choosing>, NoMemory>
-    requires one_first { S.first state.now ≡ (R.context rules.now).first }
-    ensures { IfOk result (λ found. IfSome found (IsChoosable (R.context rules.now) (S.facts state.now))) }
+    ensures { IfOk result (λ found. IfSome found
+        (IsChoosable (R.context search.now.rules.now) (S.facts search.now.state.now))) }
 {
-    if to >= rules.first() {
-        return pair_by_filler(heap, state, rules, role, from, TOP);
+    if to >= search.rules.first() {
+        return pair_by_filler(heap, search, role, from, TOP);
     }
-    for concept in state.label(to) {
-        match pair_by_filler(heap, state, rules, role, from, *concept)? {
+    for concept in search.state.label(to) {
+        match pair_by_filler(heap, search, role, from, *concept)? {
             Some(choosing) => return Ok(Some(choosing)),
             None => {}
         }
@@ -193,18 +185,17 @@ fn pair_by_edge<S: State, R: Rules>(
 // A pair by an 'at most' of the node with this filler, of a role above this one.
 fn pair_by_filler<S: State, R: Rules>(
     heap: Global,
-    state: &S,
-    rules: &R,
+    search: &StateWithRules<'_, S, R>,
     role: u32,
     node: u32,
     filler: u32,
 ) -> Result<Option<Choosing>, NoMemory>
-    requires one_first { S.first state.now ≡ (R.context rules.now).first }
-    ensures { IfOk result (λ found. IfSome found (IsChoosable (R.context rules.now) (S.facts state.now))) }
+    ensures { IfOk result (λ found. IfSome found
+        (IsChoosable (R.context search.now.rules.now) (S.facts search.now.state.now))) }
 {
-    for concept in rules.mosts(filler) {
-        if counts(rules, *concept, role) {
-            match pair_of(heap, state, rules, node, *concept)? {
+    for concept in search.rules.mosts(filler) {
+        if counts(search.rules, *concept, role) {
+            match pair_of(heap, search, node, *concept)? {
                 Some(choosing) => return Ok(Some(choosing)),
                 None => {}
             }
@@ -232,32 +223,30 @@ fn counts<R: Rules>(rules: &R, concept: u32, role: u32) -> bool {
 // A pair by what a node has that was joined, or a node above.
 fn pair_by_join<S: State, R: Rules>(
     heap: Global,
-    state: &S,
-    rules: &R,
+    search: &StateWithRules<'_, S, R>,
     node: u32,
 ) -> Result<Option<Choosing>, NoMemory>
-    requires one_first { S.first state.now ≡ (R.context rules.now).first }
-    ensures { IfOk result (λ found. IfSome found (IsChoosable (R.context rules.now) (S.facts state.now))) }
+    ensures { IfOk result (λ found. IfSome found
+        (IsChoosable (R.context search.now.rules.now) (S.facts search.now.state.now))) }
 {
-    match pair_of_any(heap, state, rules, node, state.label(node))? {
+    match pair_of_any(heap, search, node, search.state.label(node))? {
         Some(choosing) => Ok(Some(choosing)),
-        None => pair_above(heap, state, rules, node, Asked::Own),
+        None => pair_above(heap, search, node, Asked::Own),
     }
 }
 
 // A pair by the concept, where the node has it.
 fn pair_of<S: State, R: Rules>(
     heap: Global,
-    state: &S,
-    rules: &R,
+    search: &StateWithRules<'_, S, R>,
     node: u32,
     concept: u32,
 ) -> Result<Option<Choosing>, NoMemory>
-    requires one_first { S.first state.now ≡ (R.context rules.now).first }
-    ensures { IfOk result (λ found. IfSome found (IsChoosable (R.context rules.now) (S.facts state.now))) }
+    ensures { IfOk result (λ found. IfSome found
+        (IsChoosable (R.context search.now.rules.now) (S.facts search.now.state.now))) }
 {
-    if node >= count_of(state, rules) || !state.has(node, concept) {
+    if node >= count_of(search) || !search.state.has(node, concept) {
         return Ok(None);
     }
-    find_pair_by(heap, state, rules, node, concept)
+    find_pair_by(heap, search, node, concept)
 }
