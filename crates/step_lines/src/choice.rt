@@ -11,22 +11,22 @@ use crate::{GroundedLine, NoMemory};
 use calculus_specs::Fact;
 use search_trace::Line;
 use std::alloc::Global;
-use step_finders::{Choosing, Rules, State};
+use step_finders::{Choosing, Rules, State, StateWithRules};
 
 // The line of a union.
 fn line_of_union<S: State, R: Rules>(
     alloc: Global,
-    state: &S,
-    rules: &R,
+    search: &StateWithRules<'_, S, R>,
     node: u32,
     concept: u32,
 ) -> Result<GroundedLine, NoMemory>
-    requires { IsByUnion (R.context rules.now) (S.facts state.now) node concept }
+    requires { IsByUnion (R.context search.now.rules.now) (S.facts search.now.state.now) node concept }
     ensures { IfOk result
-        (λ g. ServesChoice (R.context rules.now) (S.facts state.now) (or_branch node concept) (line_of g.line)
+        (λ g. ServesChoice (R.context search.now.rules.now) (S.facts search.now.state.now) (or_branch node concept)
+        (line_of g.line)
         g.grounds.items) }
 {
-    rules.is_ready();
+    search.rules.is_ready();
     let grounds = one_ground(alloc, Fact::Has(node, concept))?;
     Ok(GroundedLine {
         line: Line::Or(node, concept),
@@ -37,20 +37,21 @@ fn line_of_union<S: State, R: Rules>(
 // The line of a filler.
 fn line_of_filler<S: State, R: Rules>(
     alloc: Global,
-    state: &S,
-    rules: &R,
+    search: &StateWithRules<'_, S, R>,
     node: u32,
     filler: u32,
     from: u32,
     role: u32,
     concept: u32,
 ) -> Result<GroundedLine, NoMemory>
-    requires { IsByFiller (R.context rules.now) (S.facts state.now) node filler from role concept }
+    requires { IsByFiller (R.context search.now.rules.now) (S.facts search.now.state.now) node filler from role
+        concept }
     ensures { IfOk result
-        (λ g. ServesChoice (R.context rules.now) (S.facts state.now) (choose_branch node filler) (line_of g.line)
+        (λ g. ServesChoice (R.context search.now.rules.now) (S.facts search.now.state.now) (choose_branch node filler)
+        (line_of g.line)
         g.grounds.items) }
 {
-    rules.is_ready();
+    search.rules.is_ready();
     let grounds = one_ground(alloc, Fact::Edge(role, from, node))?;
     Ok(GroundedLine {
         line: Line::Choose(node, filler),
@@ -61,8 +62,7 @@ fn line_of_filler<S: State, R: Rules>(
 // The line of two successors.
 fn line_of_pair<S: State, R: Rules>(
     alloc: Global,
-    state: &S,
-    rules: &R,
+    search: &StateWithRules<'_, S, R>,
     first: u32,
     second: u32,
     from: u32,
@@ -70,12 +70,14 @@ fn line_of_pair<S: State, R: Rules>(
     second_role: u32,
     concept: u32,
 ) -> Result<GroundedLine, NoMemory>
-    requires { IsByPair (R.context rules.now) (S.facts state.now) first second from first_role second_role concept }
+    requires { IsByPair (R.context search.now.rules.now) (S.facts search.now.state.now) first second from first_role
+        second_role concept }
     ensures { IfOk result
-        (λ g. ServesChoice (R.context rules.now) (S.facts state.now) (pair_branch first second) (line_of g.line)
+        (λ g. ServesChoice (R.context search.now.rules.now) (S.facts search.now.state.now) (pair_branch first second)
+        (line_of g.line)
         g.grounds.items) }
 {
-    rules.is_ready();
+    search.rules.is_ready();
     let grounds = two_grounds(
         alloc,
         Fact::Edge(first_role, from, first),
@@ -94,24 +96,24 @@ fn line_of_pair<S: State, R: Rules>(
 /// Want of memory.
 pub fn line_of_choice<S: State, R: Rules>(
     alloc: Global,
-    state: &S,
-    rules: &R,
+    search: &StateWithRules<'_, S, R>,
     choosing: &Choosing,
 ) -> Result<GroundedLine, NoMemory>
-    requires { HasGround (R.context rules.now) (S.facts state.now) choosing.now }
+    requires { HasGround (R.context search.now.rules.now) (S.facts search.now.state.now) choosing.now }
     ensures { IfOk result
-        (λ g. ServesChoice (R.context rules.now) (S.facts state.now) (branch_of choosing.now) (line_of g.line)
+        (λ g. ServesChoice (R.context search.now.rules.now) (S.facts search.now.state.now) (branch_of choosing.now)
+        (line_of g.line)
         g.grounds.items) }
 {
     match choosing {
-        Choosing::Union { node, concept } => line_of_union(alloc, state, rules, *node, *concept),
+        Choosing::Union { node, concept } => line_of_union(alloc, search, *node, *concept),
         Choosing::Filler {
             node,
             filler,
             from,
             role,
             concept,
-        } => line_of_filler(alloc, state, rules, *node, *filler, *from, *role, *concept),
+        } => line_of_filler(alloc, search, *node, *filler, *from, *role, *concept),
         Choosing::Pair {
             first,
             second,
@@ -121,8 +123,7 @@ pub fn line_of_choice<S: State, R: Rules>(
             concept,
         } => line_of_pair(
             alloc,
-            state,
-            rules,
+            search,
             *first,
             *second,
             *from,

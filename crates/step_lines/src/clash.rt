@@ -11,22 +11,22 @@ use crate::{GroundedLine, NoMemory};
 use calculus_specs::Fact;
 use search_trace::Line;
 use std::alloc::Global;
-use step_finders::{Clash, Rules, State};
+use step_finders::{Clash, Rules, State, StateWithRules};
 
 // The line of bottom.
 fn line_of_bottom<S: State, R: Rules>(
     alloc: Global,
-    state: &S,
-    rules: &R,
+    search: &StateWithRules<'_, S, R>,
     node: u32,
     concept: u32,
 ) -> Result<GroundedLine, NoMemory>
-    requires { HasBottom (R.context rules.now) (S.facts state.now) node concept }
+    requires { HasBottom (R.context search.now.rules.now) (S.facts search.now.state.now) node concept }
     ensures serves { IfOk result
-        (λ g. ServesClash (R.context rules.now) (S.facts state.now) (line_of g.line) g.grounds.items) }
+        (λ g. ServesClash (R.context search.now.rules.now) (S.facts search.now.state.now) (line_of g.line)
+        g.grounds.items) }
     ensures line { IfOk result (λ g. line_of g.line ≡ bottom_line node) }
 {
-    rules.is_ready();
+    search.rules.is_ready();
     let grounds = one_ground(alloc, Fact::Has(node, concept))?;
     Ok(GroundedLine {
         line: Line::Bottom(node),
@@ -37,18 +37,18 @@ fn line_of_bottom<S: State, R: Rules>(
 // The line of a class and its complement.
 fn line_of_both<S: State, R: Rules>(
     alloc: Global,
-    state: &S,
-    rules: &R,
+    search: &StateWithRules<'_, S, R>,
     node: u32,
     class: u32,
     complement: u32,
 ) -> Result<GroundedLine, NoMemory>
-    requires { HasBoth (R.context rules.now) (S.facts state.now) node class complement }
+    requires { HasBoth (R.context search.now.rules.now) (S.facts search.now.state.now) node class complement }
     ensures serves { IfOk result
-        (λ g. ServesClash (R.context rules.now) (S.facts state.now) (line_of g.line) g.grounds.items) }
+        (λ g. ServesClash (R.context search.now.rules.now) (S.facts search.now.state.now) (line_of g.line)
+        g.grounds.items) }
     ensures line { IfOk result (λ g. line_of g.line ≡ clash_line node class) }
 {
-    rules.is_ready();
+    search.rules.is_ready();
     let grounds = two_grounds(alloc, Fact::Has(node, class), Fact::Has(node, complement))?;
     Ok(GroundedLine {
         line: Line::Clash(node, class),
@@ -59,17 +59,17 @@ fn line_of_both<S: State, R: Rules>(
 // The line of two nodes that are one, and are apart.
 fn line_of_differ<S: State, R: Rules>(
     alloc: Global,
-    state: &S,
-    rules: &R,
+    search: &StateWithRules<'_, S, R>,
     first: u32,
     second: u32,
 ) -> Result<GroundedLine, NoMemory>
-    requires { HasDiffer (R.context rules.now) (S.facts state.now) first second }
+    requires { HasDiffer (R.context search.now.rules.now) (S.facts search.now.state.now) first second }
     ensures serves { IfOk result
-        (λ g. ServesClash (R.context rules.now) (S.facts state.now) (line_of g.line) g.grounds.items) }
+        (λ g. ServesClash (R.context search.now.rules.now) (S.facts search.now.state.now) (line_of g.line)
+        g.grounds.items) }
     ensures line { IfOk result (λ g. line_of g.line ≡ differ_line first second) }
 {
-    rules.is_ready();
+    search.rules.is_ready();
     let grounds = two_grounds(alloc, Fact::Apart(first, second), Fact::Same(first, second))?;
     Ok(GroundedLine {
         line: Line::Differ(first, second),
@@ -84,24 +84,24 @@ fn line_of_differ<S: State, R: Rules>(
 /// Want of memory.
 pub fn line_of_clash<S: State, R: Rules>(
     alloc: Global,
-    state: &S,
-    rules: &R,
+    search: &StateWithRules<'_, S, R>,
     clash: &Clash,
 ) -> Result<GroundedLine, NoMemory>
-    requires { IsShown (R.context rules.now) (S.facts state.now) clash.now }
+    requires { IsShown (R.context search.now.rules.now) (S.facts search.now.state.now) clash.now }
     ensures serves { IfOk result
-        (λ g. ServesClash (R.context rules.now) (S.facts state.now) (line_of g.line) g.grounds.items) }
+        (λ g. ServesClash (R.context search.now.rules.now) (S.facts search.now.state.now) (line_of g.line)
+        g.grounds.items) }
     ensures line { IfOk result
-        (λ g. IsLineOf (R.context rules.now) (S.facts state.now) clash.now (line_of g.line)) }
+        (λ g. IsLineOf (R.context search.now.rules.now) (S.facts search.now.state.now) clash.now (line_of g.line)) }
 {
     match clash {
-        Clash::Bottom { node, concept } => line_of_bottom(alloc, state, rules, *node, *concept),
+        Clash::Bottom { node, concept } => line_of_bottom(alloc, search, *node, *concept),
         Clash::Both {
             node,
             class,
             complement,
-        } => line_of_both(alloc, state, rules, *node, *class, *complement),
-        Clash::Differ(first, second) => line_of_differ(alloc, state, rules, *first, *second),
-        Clash::Most { node, concept } => line_of_most(alloc, state, rules, *node, *concept),
+        } => line_of_both(alloc, search, *node, *class, *complement),
+        Clash::Differ(first, second) => line_of_differ(alloc, search, *first, *second),
+        Clash::Most { node, concept } => line_of_most(alloc, search, *node, *concept),
     }
 }

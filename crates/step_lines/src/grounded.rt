@@ -9,7 +9,7 @@ use calculus_specs::Fact;
 use search_trace::Line;
 use shq_terms::NumberList;
 use std::alloc::Global;
-use step_finders::{Rules, State};
+use step_finders::{Rules, State, StateWithRules};
 
 /// A rule line, and facts that its premises follow from.
 #[derive(Drop)]
@@ -57,15 +57,14 @@ pub fn list_of(alloc: Global, numbers: &[u32]) -> Result<NumberList, NoMemory>
 /// Facts by which the node is known: the first edge into it, and nothing for a first node, which each branch has.
 pub fn node_grounds<S: State, R: Rules>(
     alloc: Global,
-    state: &S,
-    rules: &R,
+    search: &StateWithRules<'_, S, R>,
     node: u32,
 ) -> Result<Vec<Fact<u32>>, NoMemory>
-    requires one_first { S.first state.now ≡ (R.context rules.now).first }
-    requires is_node { node < node_count_from (R.context rules.now).first (S.facts state.now) }
-    ensures { IfOk result (λ v. GroundsNode (R.context rules.now).first (S.facts state.now) node v.items) }
+    requires is_node { node < node_count_from (R.context search.now.rules.now).first (S.facts search.now.state.now) }
+    ensures { IfOk result (λ v. GroundsNode (R.context search.now.rules.now).first (S.facts search.now.state.now) node
+        v.items) }
 {
-    match state.origin(node) {
+    match search.state.origin(node) {
         Some((role, from)) => one_ground(alloc, Fact::Edge(role, from, node)),
         None => Ok(Vec::new(alloc)),
     }

@@ -21,7 +21,7 @@ use crate::{GroundedLine, NoMemory};
 use calculus_specs::Fact;
 use search_trace::Line;
 use std::alloc::Global;
-use step_finders::{Rules, Shape, State, filled_successors, role_to};
+use step_finders::{Rules, Shape, State, StateWithRules, filled_successors, role_to};
 
 // The less of two numbers, of which the second counts where it is not below `from`.
 fn lesser(least: Option<u32>, from: usize, number: u32) -> Option<u32>
@@ -51,17 +51,16 @@ fn least_from(numbers: &[u32], from: usize) -> Option<u32>
 // there are no more.
 fn first_filled<S: State, R: Rules>(
     alloc: Global,
-    state: &S,
-    rules: &R,
+    search: &StateWithRules<'_, S, R>,
     node: u32,
     role: u32,
     filler: u32,
     most: usize,
 ) -> Result<Vec<u32>, NoMemory>
-    ensures { let w = R.context rules.now in let fs = S.facts state.now in
+    ensures { let w = R.context search.now.rules.now in let fs = S.facts search.now.state.now in
         IfOk result (λ v. v.items ≡ take most (all_filled w.first (below_of w) fs node role filler)) }
 {
-    let ends = filled_successors(alloc, state, rules, node, role, filler)?;
+    let ends = filled_successors(alloc, search, node, role, filler)?;
     let mut first = Vec::new(alloc);
     let mut from = 0;
     for _place in 0..most {
@@ -77,29 +76,34 @@ fn first_filled<S: State, R: Rules>(
 // The first successors with the filler, as many as are one too many. They are pairwise apart.
 fn many_ends<S: State, R: Rules>(
     alloc: Global,
-    state: &S,
-    rules: &R,
+    search: &StateWithRules<'_, S, R>,
     node: u32,
     concept: u32,
     count: u32,
     role: u32,
     filler: u32,
 ) -> Result<Vec<u32>, NoMemory>
-    requires { let w = R.context rules.now in
-        IsOverrun w.first (below_of w) w.table (S.facts state.now) node concept count role filler }
-    ensures { IfOk result (λ v. AreMany (R.context rules.now) (S.facts state.now) node count role filler v.items) }
+    requires { let w = R.context search.now.rules.now in
+        IsOverrun w.first (below_of w) w.table (S.facts search.now.state.now) node concept count role filler }
+    ensures { IfOk result (λ v. AreMany (R.context search.now.rules.now) (S.facts search.now.state.now) node count role
+        filler v.items) }
 {
-    let ends = first_filled(alloc, state, rules, node, role, filler, count as usize + 1)?;
+    let ends = first_filled(alloc, search, node, role, filler, count as usize + 1)?;
     Ok(ends)
 }
 
 // The role of an edge to the successor, below this one.
-fn role_of<S: State, R: Rules>(state: &S, rules: &R, node: u32, role: u32, end: u32) -> u32
-    requires { let w = R.context rules.now in
-        is_successor (S.facts state.now) (λ r. below_of w r role) node end ≡ true }
-    ensures { IsRoleTo (R.context rules.now) (S.facts state.now) node role end result }
+fn role_of<S: State, R: Rules>(
+    search: &StateWithRules<'_, S, R>,
+    node: u32,
+    role: u32,
+    end: u32,
+) -> u32
+    requires { let w = R.context search.now.rules.now in
+        is_successor (S.facts search.now.state.now) (λ r. below_of w r role) node end ≡ true }
+    ensures { IsRoleTo (R.context search.now.rules.now) (S.facts search.now.state.now) node role end result }
 {
-    match role_to(state, rules, node, role, end) {
+    match role_to(search, node, role, end) {
         Some(by) => by,
         None => role,
     }
@@ -108,19 +112,20 @@ fn role_of<S: State, R: Rules>(state: &S, rules: &R, node: u32, role: u32, end: 
 // The edges to these successors, each as its role and its end.
 fn links_to<S: State, R: Rules>(
     alloc: Global,
-    state: &S,
-    rules: &R,
+    search: &StateWithRules<'_, S, R>,
     node: u32,
     role: u32,
     filler: u32,
     ends: &[u32],
 ) -> Result<Vec<(u32, u32)>, NoMemory>
-    requires { All (IsFilledEnd (R.context rules.now) (S.facts state.now) node role filler) ends.now }
-    ensures { IfOk result (λ v. AreLinks (R.context rules.now) (S.facts state.now) node role filler ends.now v.items) }
+    requires { All (IsFilledEnd (R.context search.now.rules.now) (S.facts search.now.state.now) node role filler)
+        ends.now }
+    ensures { IfOk result (λ v. AreLinks (R.context search.now.rules.now) (S.facts search.now.state.now) node role
+        filler ends.now v.items) }
 {
     let mut links = Vec::new(alloc);
     for end in ends {
-        links.push((role_of(state, rules, node, role, *end), *end))?;
+        links.push((role_of(search, node, role, *end), *end))?;
     }
     Ok(links)
 }
@@ -183,8 +188,7 @@ fn most_grounds(
 // The line of these successors.
 fn line_of_ends<S: State, R: Rules>(
     alloc: Global,
-    state: &S,
-    rules: &R,
+    search: &StateWithRules<'_, S, R>,
     node: u32,
     concept: u32,
     count: u32,
@@ -192,16 +196,18 @@ fn line_of_ends<S: State, R: Rules>(
     filler: u32,
     ends: &[u32],
 ) -> Result<GroundedLine, NoMemory>
-    requires is_node { node < node_count_from (R.context rules.now).first (S.facts state.now) }
-    requires overrun { let w = R.context rules.now in
-        IsOverrun w.first (below_of w) w.table (S.facts state.now) node concept count role filler }
-    requires many { AreMany (R.context rules.now) (S.facts state.now) node count role filler ends.now }
+    requires is_node { node < node_count_from (R.context search.now.rules.now).first (S.facts search.now.state.now) }
+    requires overrun { let w = R.context search.now.rules.now in
+        IsOverrun w.first (below_of w) w.table (S.facts search.now.state.now) node concept count role filler }
+    requires many { AreMany (R.context search.now.rules.now) (S.facts search.now.state.now) node count role filler
+        ends.now }
     ensures serves { IfOk result
-        (λ g. ServesClash (R.context rules.now) (S.facts state.now) (line_of g.line) g.grounds.items) }
+        (λ g. ServesClash (R.context search.now.rules.now) (S.facts search.now.state.now) (line_of g.line)
+        g.grounds.items) }
     ensures line { IfOk result (λ g. line_of g.line ≡ most_line node concept ends.now) }
 {
-    rules.is_ready();
-    let links = links_to(alloc, state, rules, node, role, filler, ends)?;
+    search.rules.is_ready();
+    let links = links_to(alloc, search, node, role, filler, ends)?;
     let grounds = most_grounds(alloc, node, concept, filler, &links, ends)?;
     let nodes = list_of(alloc, ends)?;
     Ok(GroundedLine {
@@ -213,46 +219,44 @@ fn line_of_ends<S: State, R: Rules>(
 // The line of an 'at most' of this count, role and filler.
 fn line_of_overrun<S: State, R: Rules>(
     alloc: Global,
-    state: &S,
-    rules: &R,
+    search: &StateWithRules<'_, S, R>,
     node: u32,
     concept: u32,
     count: u32,
     role: u32,
     filler: u32,
 ) -> Result<GroundedLine, NoMemory>
-    requires is_node { node < node_count_from (R.context rules.now).first (S.facts state.now) }
-    requires overrun { let w = R.context rules.now in
-        IsOverrun w.first (below_of w) w.table (S.facts state.now) node concept count role filler }
+    requires is_node { node < node_count_from (R.context search.now.rules.now).first (S.facts search.now.state.now) }
+    requires overrun { let w = R.context search.now.rules.now in
+        IsOverrun w.first (below_of w) w.table (S.facts search.now.state.now) node concept count role filler }
     ensures serves { IfOk result
-        (λ g. ServesClash (R.context rules.now) (S.facts state.now) (line_of g.line) g.grounds.items) }
-    ensures line { let w = R.context rules.now in IfOk result (λ g. line_of g.line
+        (λ g. ServesClash (R.context search.now.rules.now) (S.facts search.now.state.now) (line_of g.line)
+        g.grounds.items) }
+    ensures line { let w = R.context search.now.rules.now in IfOk result (λ g. line_of g.line
         ≡ most_line node concept (take (count + 1)
-        (all_filled w.first (below_of w) (S.facts state.now) node role filler))) }
+        (all_filled w.first (below_of w) (S.facts search.now.state.now) node role filler))) }
 {
-    let ends = many_ends(alloc, state, rules, node, concept, count, role, filler)?;
-    line_of_ends(
-        alloc, state, rules, node, concept, count, role, filler, &ends,
-    )
+    let ends = many_ends(alloc, search, node, concept, count, role, filler)?;
+    line_of_ends(alloc, search, node, concept, count, role, filler, &ends)
 }
 
 /// The line of a node's 'at most' of too many successors. It names the first of them, one more than are allowed.
 pub fn line_of_most<S: State, R: Rules>(
     alloc: Global,
-    state: &S,
-    rules: &R,
+    search: &StateWithRules<'_, S, R>,
     node: u32,
     concept: u32,
 ) -> Result<GroundedLine, NoMemory>
-    requires { HasMost (R.context rules.now) (S.facts state.now) node concept }
+    requires { HasMost (R.context search.now.rules.now) (S.facts search.now.state.now) node concept }
     ensures serves { IfOk result
-        (λ g. ServesClash (R.context rules.now) (S.facts state.now) (line_of g.line) g.grounds.items) }
-    ensures line { let w = R.context rules.now in IfOk result
-        (λ g. NamesFirst w (S.facts state.now) (shape_of w.table concept) node concept (line_of g.line)) }
+        (λ g. ServesClash (R.context search.now.rules.now) (S.facts search.now.state.now) (line_of g.line)
+        g.grounds.items) }
+    ensures line { let w = R.context search.now.rules.now in IfOk result
+        (λ g. NamesFirst w (S.facts search.now.state.now) (shape_of w.table concept) node concept (line_of g.line)) }
 {
-    match rules.shape(concept) {
+    match search.rules.shape(concept) {
         Shape::Max(count, role, filler) => line_of_overrun(
-            alloc, state, rules, node, concept, count, role, filler,
+            alloc, search, node, concept, count, role, filler,
         ),
         Shape::Top
         | Shape::Bottom

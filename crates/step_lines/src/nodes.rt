@@ -10,7 +10,7 @@ use crate::{GroundedLine, NoMemory};
 use calculus_specs::Fact;
 use search_trace::Line;
 use std::alloc::Global;
-use step_finders::{NewNodes, Rules, Shape, State, count_of};
+use step_finders::{NewNodes, Rules, Shape, State, StateWithRules, count_of};
 
 // The line by which the concept makes nodes.
 fn making_line<R: Rules>(rules: &R, parent: u32, first: u32, concept: u32) -> Line
@@ -29,17 +29,16 @@ fn making_line<R: Rules>(rules: &R, parent: u32, first: u32, concept: u32) -> Li
 /// Want of memory.
 pub fn line_of_new_nodes<S: State, R: Rules>(
     alloc: Global,
-    state: &S,
-    rules: &R,
+    search: &StateWithRules<'_, S, R>,
     new: &NewNodes,
 ) -> Result<GroundedLine, NoMemory>
-    requires one_first { S.first state.now ≡ (R.context rules.now).first }
-    requires making { IsMaking (R.context rules.now) (S.facts state.now) new.now }
+    requires making { IsMaking (R.context search.now.rules.now) (S.facts search.now.state.now) new.now }
     ensures { IfOk result
-        (λ g. ServesNewNodes (R.context rules.now) (S.facts state.now) new.now (line_of g.line) g.grounds.items) }
+        (λ g. ServesNewNodes (R.context search.now.rules.now) (S.facts search.now.state.now) new.now (line_of g.line)
+        g.grounds.items) }
 {
-    rules.is_ready();
+    search.rules.is_ready();
     let grounds = one_ground(alloc, Fact::Has(new.parent, new.concept))?;
-    let line = making_line(rules, new.parent, count_of(state, rules), new.concept);
+    let line = making_line(search.rules, new.parent, count_of(search), new.concept);
     Ok(GroundedLine { line, grounds })
 }

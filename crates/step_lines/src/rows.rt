@@ -15,24 +15,23 @@ use calculus_specs::Fact;
 use search_trace::Line;
 use shq_terms::NumberList;
 use std::alloc::Global;
-use step_finders::{NamedRow, PlainRow, Rules, State};
+use step_finders::{NamedRow, PlainRow, Rules, State, StateWithRules};
 
 /// The line of a row that is used at each node.
 pub fn line_of_general<S: State, R: Rules>(
     alloc: Global,
-    state: &S,
-    rules: &R,
+    search: &StateWithRules<'_, S, R>,
     row: PlainRow,
     node: u32,
     given: u32,
 ) -> Result<GroundedLine, NoMemory>
-    requires one_first { S.first state.now ≡ (R.context rules.now).first }
-    requires by_row { IsByGeneral (R.context rules.now) (S.facts state.now) row node given }
+    requires by_row { IsByGeneral (R.context search.now.rules.now) (S.facts search.now.state.now) row node given }
     ensures { IfOk result
-        (λ g. ServesAddition (R.context rules.now) (S.facts state.now) node given (line_of g.line) g.grounds.items) }
+        (λ g. ServesAddition (R.context search.now.rules.now) (S.facts search.now.state.now) node given (line_of g.line)
+        g.grounds.items) }
 {
-    rules.is_ready();
-    let grounds = node_grounds(alloc, state, rules, node)?;
+    search.rules.is_ready();
+    let grounds = node_grounds(alloc, search, node)?;
     Ok(GroundedLine {
         line: Line::Row(node, row.axiom, row.part, NumberList::new(alloc)),
         grounds,
@@ -42,19 +41,19 @@ pub fn line_of_general<S: State, R: Rules>(
 /// The line of a row that is used where an edge begins.
 pub fn line_of_begin<S: State, R: Rules>(
     alloc: Global,
-    state: &S,
-    rules: &R,
+    search: &StateWithRules<'_, S, R>,
     role: u32,
     end: u32,
     row: PlainRow,
     node: u32,
     given: u32,
 ) -> Result<GroundedLine, NoMemory>
-    requires { IsByBegin (R.context rules.now) (S.facts state.now) role end row node given }
+    requires { IsByBegin (R.context search.now.rules.now) (S.facts search.now.state.now) role end row node given }
     ensures { IfOk result
-        (λ g. ServesAddition (R.context rules.now) (S.facts state.now) node given (line_of g.line) g.grounds.items) }
+        (λ g. ServesAddition (R.context search.now.rules.now) (S.facts search.now.state.now) node given (line_of g.line)
+        g.grounds.items) }
 {
-    rules.is_ready();
+    search.rules.is_ready();
     let grounds = one_ground(alloc, Fact::Edge(role, node, end))?;
     Ok(GroundedLine {
         line: Line::Row(node, row.axiom, row.part, NumberList::new(alloc)),
@@ -65,19 +64,19 @@ pub fn line_of_begin<S: State, R: Rules>(
 /// The line of a row that is used where an edge ends.
 pub fn line_of_end<S: State, R: Rules>(
     alloc: Global,
-    state: &S,
-    rules: &R,
+    search: &StateWithRules<'_, S, R>,
     from: u32,
     role: u32,
     row: PlainRow,
     node: u32,
     given: u32,
 ) -> Result<GroundedLine, NoMemory>
-    requires { IsByEnd (R.context rules.now) (S.facts state.now) from role row node given }
+    requires { IsByEnd (R.context search.now.rules.now) (S.facts search.now.state.now) from role row node given }
     ensures { IfOk result
-        (λ g. ServesAddition (R.context rules.now) (S.facts state.now) node given (line_of g.line) g.grounds.items) }
+        (λ g. ServesAddition (R.context search.now.rules.now) (S.facts search.now.state.now) node given (line_of g.line)
+        g.grounds.items) }
 {
-    rules.is_ready();
+    search.rules.is_ready();
     let grounds = one_ground(alloc, Fact::Edge(role, from, node))?;
     Ok(GroundedLine {
         line: Line::Range(from, node, row.axiom),
@@ -88,17 +87,16 @@ pub fn line_of_end<S: State, R: Rules>(
 // Facts by which the node is known, where there are no concepts by which it is.
 fn first_grounds<S: State, R: Rules>(
     alloc: Global,
-    state: &S,
-    rules: &R,
+    search: &StateWithRules<'_, S, R>,
     node: u32,
     concepts: &[u32],
 ) -> Result<Vec<Fact<u32>>, NoMemory>
-    requires one_first { S.first state.now ≡ (R.context rules.now).first }
-    requires is_node { node < node_count_from (R.context rules.now).first (S.facts state.now) }
-    ensures { IfOk result (λ v. IsFirst (R.context rules.now).first (S.facts state.now) node concepts.now v.items) }
+    requires is_node { node < node_count_from (R.context search.now.rules.now).first (S.facts search.now.state.now) }
+    ensures { IfOk result (λ v. IsFirst (R.context search.now.rules.now).first (S.facts search.now.state.now) node
+        concepts.now v.items) }
 {
     if concepts.is_empty() {
-        node_grounds(alloc, state, rules, node)
+        node_grounds(alloc, search, node)
     } else {
         Ok(Vec::new(alloc))
     }
@@ -117,22 +115,21 @@ fn push_concepts(grounds: &mut Vec<Fact<u32>>, node: u32, concepts: &[u32]) -> R
 // The line of a row that waits for names, all of which the node has.
 fn line_of_row<S: State, R: Rules>(
     alloc: Global,
-    state: &S,
-    rules: &R,
+    search: &StateWithRules<'_, S, R>,
     row: &NamedRow,
     node: u32,
     given: u32,
 ) -> Result<GroundedLine, NoMemory>
-    requires one_first { S.first state.now ≡ (R.context rules.now).first }
-    requires is_node { node < node_count_from (R.context rules.now).first (S.facts state.now) }
-    requires named { IsNamed (R.context rules.now) row.now }
-    requires waits { list_all (holds (S.facts state.now) node) row.now.waits ≡ true }
+    requires is_node { node < node_count_from (R.context search.now.rules.now).first (S.facts search.now.state.now) }
+    requires named { IsNamed (R.context search.now.rules.now) row.now }
+    requires waits { list_all (holds (S.facts search.now.state.now) node) row.now.waits ≡ true }
     requires gives { row.now.gives ≡ given }
     ensures { IfOk result
-        (λ g. ServesAddition (R.context rules.now) (S.facts state.now) node given (line_of g.line) g.grounds.items) }
+        (λ g. ServesAddition (R.context search.now.rules.now) (S.facts search.now.state.now) node given (line_of g.line)
+        g.grounds.items) }
 {
-    rules.is_ready();
-    let mut grounds = first_grounds(alloc, state, rules, node, row.waits.items())?;
+    search.rules.is_ready();
+    let mut grounds = first_grounds(alloc, search, node, row.waits.items())?;
     push_concepts(&mut grounds, node, row.waits.items())?;
     let positions = list_of(alloc, row.positions.items())?;
     Ok(GroundedLine {
@@ -144,18 +141,18 @@ fn line_of_row<S: State, R: Rules>(
 /// The line of the row at this place among those that wait for the concept.
 pub fn line_of_named<S: State, R: Rules>(
     alloc: Global,
-    state: &S,
-    rules: &R,
+    search: &StateWithRules<'_, S, R>,
     concept: u32,
     place: usize,
     node: u32,
     given: u32,
 ) -> Result<GroundedLine, NoMemory>
-    requires one_first { S.first state.now ≡ (R.context rules.now).first }
-    requires by_row { IsByNamed (R.context rules.now) (S.facts state.now) (R.files rules.now) concept place node given }
+    requires by_row { IsByNamed (R.context search.now.rules.now) (S.facts search.now.state.now)
+        (R.files search.now.rules.now) concept place node given }
     ensures { IfOk result
-        (λ g. ServesAddition (R.context rules.now) (S.facts state.now) node given (line_of g.line) g.grounds.items) }
+        (λ g. ServesAddition (R.context search.now.rules.now) (S.facts search.now.state.now) node given (line_of g.line)
+        g.grounds.items) }
 {
-    let rows = rules.named(concept);
-    line_of_row(alloc, state, rules, &rows[place], node, given)
+    let rows = search.rules.named(concept);
+    line_of_row(alloc, search, &rows[place], node, given)
 }

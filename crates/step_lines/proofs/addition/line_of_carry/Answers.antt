@@ -3,6 +3,7 @@ use Rattle.step_lines.proofs.addition.line_of_carry.Goals as goal
 
 pub returns : goal.returns
 returns g c =
-    carry_serves (g.R.Rules.context c.args.rules.now) (g.S.State.facts c.args.state.now) c.is_ready.ensures.tabled
+    carry_serves (g.R.Rules.context c.args.search.now.rules.now) (g.S.State.facts c.args.search.now.state.now)
+    c.is_ready.ensures.tabled
     c.args.from c.args.role c.args.over c.args.concept c.args.node c.args.carried c.requires
     c.in_ok-grounds.grounds.items c.in_ok-grounds.ensures

@@ -8,8 +8,8 @@ use Rattle.step_lines.proofs.grounded.node_grounds.Goals as goal
 
 pub returns-in-Some : goal.returns-in-Some
 returns-in-Some g c =
-    let w = g.R.Rules.context c.args.rules.now in
-    let fs = g.S.State.facts c.args.state.now in
+    let w = g.R.Rules.context c.args.search.now.rules.now in
+    let fs = g.S.State.facts c.args.search.now.state.now in
     IfOk-weaker c.one_ground.result (λ v. v.items ≡ Edge c.in-Some.role c.in-Some.from c.args.node ∷ [])
     (λ v. GroundsNode w.first fs c.args.node v.items)
     (λ v e. grounds_origin w.first fs c.in-Some.role c.in-Some.from c.args.node c.in-Some.ensures.some.0 v.items e)
@@ -17,10 +17,11 @@ returns-in-Some g c =
 
 pub returns-in-None : goal.returns-in-None
 returns-in-None g c =
-    grounds_first (g.R.Rules.context c.args.rules.now).first (g.S.State.facts c.args.state.now) c.args.node
-    (omega (arith, c.in-None.ensures.none refl, c.requires.one_first)) c.new.result.items c.new.ensures.items
+    grounds_first (g.R.Rules.context c.args.search.now.rules.now).first (g.S.State.facts c.args.search.now.state.now)
+    c.args.node
+    (omega (arith, c.in-None.ensures.none refl, c.args.search.now.one_first)) c.new.result.items c.new.ensures.items
 
 pub origin-requires : goal.origin-requires
 origin-requires g c =
-    subst (λ (first : ℕ). c.args.node < node_count_from first (g.S.State.facts c.args.state.now))
-    (sym c.requires.one_first) c.requires.is_node
+    subst (λ (first : ℕ). c.args.node < node_count_from first (g.S.State.facts c.args.search.now.state.now))
+    (sym c.args.search.now.one_first) c.requires.is_node

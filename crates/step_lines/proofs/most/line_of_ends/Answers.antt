@@ -6,7 +6,8 @@ use Rattle.step_lines.proofs.most.line_of_ends.Goals as goal
 
 pub returns-clause-serves : goal.returns-clause-serves
 returns-clause-serves g c =
-    most_serves (g.R.Rules.context c.args.rules.now) (g.S.State.facts c.args.state.now) c.is_ready.ensures.tabled
+    most_serves (g.R.Rules.context c.args.search.now.rules.now) (g.S.State.facts c.args.search.now.state.now)
+    c.is_ready.ensures.tabled
     c.args.node c.args.concept c.args.count c.args.role c.args.filler c.requires.overrun c.args.ends.now c.requires.many
     c.in_ok-links.links.items c.in_ok-links.ensures c.in_ok-grounds.grounds.items
     (subst (λ (ls : List (ℕ × ℕ)). c.in_ok-grounds.grounds.items

@@ -8,8 +8,8 @@ use Rattle.step_lines.proofs.nodes.line_of_new_nodes.Goals as goal
 
 pub returns : goal.returns
 returns g c =
-    let w = g.R.Rules.context c.args.rules.now in
-    let fs = g.S.State.facts c.args.state.now in
+    let w = g.R.Rules.context c.args.search.now.rules.now in
+    let fs = g.S.State.facts c.args.search.now.state.now in
     let good = c.is_ready.ensures.tabled in
     let m = c.args.new.now in
     let few = made_few w fs good m (shape_of w.table m.concept) refl c.requires.making.asks in
