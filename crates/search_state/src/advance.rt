@@ -27,7 +27,8 @@ use search_trace::Back;
 use std::alloc::Allocator;
 use step_agenda::{Deps, TreeState, TreeWithBlocks};
 use step_finders::{
-    Addition, Choosing, Clash, Given, NewNodes, Rules, Step, find_step, no_step_is_saturated,
+    Addition, Choosing, Clash, Given, NewNodes, Rules, StateWithRules, Step, find_step,
+    no_step_is_saturated,
 };
 
 impl<'b, A: Allocator + Copy> Progress<'b, A> {
@@ -138,9 +139,11 @@ impl<'b, A: Allocator + Copy> Progress<'b, A> {
         ensures same { self.new ≡ self.old }
     {
         let state = TreeState::new(&self.tree);
-        let found = self
-            .agenda
-            .next_at_any(self.heap, &self.tree, &state, rules)?;
+        let search = StateWithRules {
+            state: &state,
+            rules,
+        };
+        let found = self.agenda.next_at_any(self.heap, &self.tree, &search)?;
         Ok(found)
     }
 
@@ -153,9 +156,13 @@ impl<'b, A: Allocator + Copy> Progress<'b, A> {
         ensures same { self.new ≡ self.old }
     {
         let state = TreeWithBlocks::new(&self.tree, &self.found_blocks);
+        let search = StateWithRules {
+            state: &state,
+            rules,
+        };
         let found = self
             .agenda
-            .next_with_blocks(self.heap, &self.tree, &state, rules)?;
+            .next_with_blocks(self.heap, &self.tree, &search)?;
         if found.is_none() {
             self.effort = self.effort.with_scan();
         }
@@ -170,7 +177,11 @@ impl<'b, A: Allocator + Copy> Progress<'b, A> {
             IfOk result (λ found. MatchOption found (NoStep w fs) (IsStep w fs (R.files rules.now))) }
     {
         let state = TreeWithBlocks::new(&self.tree, &self.found_blocks);
-        let found = find_step(self.heap, &state, rules)?;
+        let search = StateWithRules {
+            state: &state,
+            rules,
+        };
+        let found = find_step(self.heap, &search)?;
         Ok(found)
     }
 

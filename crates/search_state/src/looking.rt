@@ -8,7 +8,7 @@ use calculus_specs::Fact;
 use std::alloc::Allocator;
 use step_agenda::{Tree, TreeState};
 use step_finders::{
-    Clash, NewNodes, Rules, find_clash, find_clash_of_apart, find_clash_of_edge,
+    Clash, NewNodes, Rules, StateWithRules, find_clash, find_clash_of_apart, find_clash_of_edge,
     find_clash_of_join, find_clash_of_new_nodes,
 };
 
@@ -24,11 +24,15 @@ pub(crate) fn find_clash_by<A: Allocator + Copy, R: Rules>(
         MatchOption result (NoClashByFact w fs fact) (IsShown w fs) }
 {
     let state = TreeState::new(tree);
+    let search = StateWithRules {
+        state: &state,
+        rules,
+    };
     match fact {
-        Fact::Has(node, concept) => find_clash(&state, rules, node, concept),
-        Fact::Edge(role, begin, end) => find_clash_of_edge(&state, rules, role, begin, end),
-        Fact::Apart(first, second) => find_clash_of_apart(&state, rules, first, second),
-        Fact::Same(first, _) => find_clash_of_join(&state, rules, first),
+        Fact::Has(node, concept) => find_clash(&search, node, concept),
+        Fact::Edge(role, begin, end) => find_clash_of_edge(&search, role, begin, end),
+        Fact::Apart(first, second) => find_clash_of_apart(&search, first, second),
+        Fact::Same(first, _) => find_clash_of_join(&search, first),
     }
 }
 
@@ -45,5 +49,9 @@ pub(crate) fn find_clash_by_new<A: Allocator + Copy, R: Rules>(
         MatchOption result (NoClashByNew w fs new.now.parent new.now.role new.now.filler) (IsShown w fs) }
 {
     let state = TreeState::new(tree);
-    find_clash_of_new_nodes(&state, rules, new.parent, new.role, new.filler, first)
+    let search = StateWithRules {
+        state: &state,
+        rules,
+    };
+    find_clash_of_new_nodes(&search, new.parent, new.role, new.filler, first)
 }

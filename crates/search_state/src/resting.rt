@@ -22,7 +22,7 @@ use calculus_specs::Fact;
 use search_trace::Line;
 use std::alloc::{Allocator, Global};
 use step_agenda::{Deps, Tree, TreeState};
-use step_finders::{Addition, Choosing, Clash, Given, NewNodes, Rules};
+use step_finders::{Addition, Choosing, Clash, Given, NewNodes, Rules, StateWithRules};
 use step_lines::{
     line_of_addition, line_of_choice, line_of_clash, line_of_given, line_of_new_nodes,
 };
@@ -80,7 +80,12 @@ pub(crate) fn rest_addition<A: Allocator + Copy, R: Rules>(
         (λ l. RestsAddition (R.context rules.now) tree.now.entries addition.now.node addition.now.concept
         (line_of l.line) l.marks) }
 {
-    let line = line_of_addition(alloc, &TreeState::new(tree), rules, addition)?;
+    let state = TreeState::new(tree);
+    let search = StateWithRules {
+        state: &state,
+        rules,
+    };
+    let line = line_of_addition(alloc, &search, addition)?;
     let marks = marks_of_all(alloc, tree, &line.grounds)?;
     Ok(RestingLine {
         line: line.line,
@@ -119,7 +124,12 @@ pub(crate) fn rest_new_nodes<A: Allocator + Copy, R: Rules>(
     requires making { IsMaking (R.context rules.now) (facts_in tree.now.entries) new.now }
     ensures { IfOk result (λ l. RestsNewNodes (R.context rules.now) tree.now.entries new.now (line_of l.line) l.marks) }
 {
-    let line = line_of_new_nodes(alloc, &TreeState::new(tree), rules, new)?;
+    let state = TreeState::new(tree);
+    let search = StateWithRules {
+        state: &state,
+        rules,
+    };
+    let line = line_of_new_nodes(alloc, &search, new)?;
     let marks = marks_of_all(alloc, tree, &line.grounds)?;
     Ok(RestingLine {
         line: line.line,
@@ -141,7 +151,12 @@ pub(crate) fn rest_choice<A: Allocator + Copy, R: Rules>(
     ensures { IfOk result
         (λ l. RestsChoice (R.context rules.now) tree.now.entries (branch_of choosing.now) (line_of l.line) l.marks) }
 {
-    let line = line_of_choice(alloc, &TreeState::new(tree), rules, choosing)?;
+    let state = TreeState::new(tree);
+    let search = StateWithRules {
+        state: &state,
+        rules,
+    };
+    let line = line_of_choice(alloc, &search, choosing)?;
     let marks = marks_of_all(alloc, tree, &line.grounds)?;
     Ok(RestingLine {
         line: line.line,
@@ -161,7 +176,12 @@ pub(crate) fn rest_clash<A: Allocator + Copy, R: Rules>(
     requires shown { IsShown (R.context rules.now) (facts_in tree.now.entries) clash.now }
     ensures { IfOk result (λ l. RestsClash (R.context rules.now) tree.now.entries (line_of l.line) l.marks) }
 {
-    let line = line_of_clash(alloc, &TreeState::new(tree), rules, clash)?;
+    let state = TreeState::new(tree);
+    let search = StateWithRules {
+        state: &state,
+        rules,
+    };
+    let line = line_of_clash(alloc, &search, clash)?;
     let marks = marks_of_all(alloc, tree, &line.grounds)?;
     Ok(RestingLine {
         line: line.line,

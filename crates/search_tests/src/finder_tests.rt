@@ -15,7 +15,9 @@ use shq_terms::{AddFault, Axiom, Ontology};
 use std::alloc::Global;
 use std::test::Fail;
 use step_agenda::{Agenda, TreeState};
-use step_finders::{Clash, Given, Rules, Step, find_clash_of_edge, find_giving, find_plain_clash};
+use step_finders::{
+    Clash, Given, Rules, StateWithRules, Step, find_clash_of_edge, find_giving, find_plain_clash,
+};
 use step_lines::line_of_given;
 
 // ---- the axioms
@@ -74,7 +76,12 @@ fn next(
     if tree.first() != rules.first() {
         return Err(NoMemory);
     }
-    match agenda.next_at_any(heap, tree, &TreeState::new(tree), rules)? {
+    let state = TreeState::new(tree);
+    let search = StateWithRules {
+        state: &state,
+        rules,
+    };
+    match agenda.next_at_any(heap, tree, &search)? {
         Some(Step::Give(given)) => {
             let line = line_of_given(heap, rules, &given)?;
             Ok(Some((Step::Give(given), named(&line.line))))
@@ -107,7 +114,15 @@ fn put(tree: &mut Tree<Global>, fact: Fact<u32>) -> Result<(), NoMemory> {
 
 // Whether the full look finds the fact too.
 fn is_first(tree: &Tree<Global>, rules: &SearchRules<'_>, given: Given) -> bool {
-    tree.first() == rules.first() && find_giving(&TreeState::new(tree), rules) == Some(given)
+    if tree.first() != rules.first() {
+        return false;
+    }
+    let state = TreeState::new(tree);
+    let search = StateWithRules {
+        state: &state,
+        rules,
+    };
+    find_giving(&search) == Some(given)
 }
 
 // The clash that a full look finds, and that by an edge from node 0 to node 3.
@@ -116,9 +131,13 @@ fn clashes(tree: &Tree<Global>, rules: &SearchRules<'_>) -> (Option<Clash>, Opti
         return (None, None);
     }
     let state = TreeState::new(tree);
+    let search = StateWithRules {
+        state: &state,
+        rules,
+    };
     (
-        find_plain_clash(&state, rules),
-        find_clash_of_edge(&state, rules, 0, 0, 3),
+        find_plain_clash(&search),
+        find_clash_of_edge(&search, 0, 0, 3),
     )
 }
 

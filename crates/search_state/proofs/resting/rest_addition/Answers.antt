@@ -18,4 +18,4 @@ returns g c =
     c.in_ok-marks.marks c.requires.grounded hold _ _
     (subst (λ (t : TreeEntries). ServesAddition w (facts_in t.entries) c.args.addition.now.node
     c.args.addition.now.concept (line_of c.in_ok-line.line.line) c.in_ok-line.line.grounds.items)
-    c.new.ensures.tree c.in_ok-line.ensures)
+    c.new-state.ensures.tree c.in_ok-line.ensures)

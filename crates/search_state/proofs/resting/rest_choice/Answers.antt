@@ -19,4 +19,4 @@ returns g c =
     c.in_ok-marks.marks c.requires.grounded hold c.args.choosing.now c.requires.closed c.requires.choosable
     (subst (λ (t : TreeEntries). ServesChoice w (facts_in t.entries) (branch_of c.args.choosing.now)
     (line_of c.in_ok-line.line.line) c.in_ok-line.line.grounds.items)
-    c.new.ensures.tree c.in_ok-line.ensures)
+    c.new-state.ensures.tree c.in_ok-line.ensures)

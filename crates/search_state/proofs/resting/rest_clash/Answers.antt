@@ -18,4 +18,4 @@ returns g c =
     c.in_ok-marks.marks c.requires.grounded hold
     (subst (λ (t : TreeEntries). ServesClash w (facts_in t.entries) (line_of c.in_ok-line.line.line)
     c.in_ok-line.line.grounds.items)
-    c.new.ensures.tree c.in_ok-line.ensures.serves)
+    c.new-state.ensures.tree c.in_ok-line.ensures.serves)
