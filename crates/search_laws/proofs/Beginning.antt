@@ -1,6 +1,6 @@
 -- A whole run as the beginning of another search.
-use Rattle.std.proofs.Common.{◌≡◌, ℕ, suc, ◌<◌, eqb, true, List, [], ◌∷◌, ◌++◌, length, refl, ◌∙◌, subst}
-use Rattle.std.proofs.Common.{inl, inr, ap, Some, Bool}
+use Rattle.std.proofs.Common.{◌≡◌, ℕ, suc, ◌<◌, ◌||◌, eqb, true, false, List, [], ◌∷◌, ◌++◌, length, refl, ◌∙◌, subst}
+use Rattle.std.proofs.Common.{inl, inr, ap, sym, Some, Bool}
 use Rattle.std.specs.List.{list_any, All}
 use Rattle.std.proofs.lemmas.List.Elements.{All-head, All-tail}
 use Rattle.std.proofs.lemmas.Bool.{or_cases, or_right, eqb-true}
@@ -8,7 +8,7 @@ use Rattle.calculus_specs.specs.Shape.{Shape, shape_of, IsTable}
 use Rattle.calculus_specs.specs.Rows.{Row, IsChoice}
 use Rattle.calculus_specs.specs.Rules.{Question}
 use Rattle.calculus_specs.specs.declared.facts.Fact.{Fact}
-use Rattle.calculus_specs.specs.declared.facts.Fact.TheVariants.{Edge}
+use Rattle.calculus_specs.specs.declared.facts.Fact.TheVariants.{Has, Edge}
 use Rattle.calculus_specs.specs.Joins.{rep}
 use Rattle.calculus_specs.specs.State.{parent_from, gives_concept, has, has_edge}
 use Rattle.tableau_specs.specs.declared.Item.{Item}
@@ -22,7 +22,8 @@ use Rattle.tableau_specs.proofs.Reached.{reached_built, successor_is_child, pare
 use Rattle.tableau_specs.proofs.TreeShaped.{built_speak}
 use Rattle.search_laws.specs.Runs.{IsRun, was_ever, puts_at}
 use Rattle.search_laws.specs.ReuseLaws.{IsUnnamed}
-use Rattle.search_laws.specs.BeginningLaws.{ParentsHaveMore, IsBeginning, OneBeginningServesMany, asks_for_nodes}
+use Rattle.search_laws.specs.BeginningLaws.{ParentsHaveMore, IsBeginning, OneBeginningServesMany, OneBeginningRunsOn}
+use Rattle.search_laws.specs.BeginningLaws.{asks_for_nodes}
 use Rattle.search_laws.proofs.Root.{Avoids, IsRooted, built_rooted, end_is_other}
 use Rattle.search_laws.proofs.LongerGiven.{given_avoids, facts_up}
 use Rattle.search_laws.proofs.ReuseSetting.{short, long}
@@ -32,6 +33,27 @@ use Rattle.search_laws.proofs.FullerStart.{bare_facts}
 use Rattle.search_laws.proofs.FullerSteps.{IsBare, goes_on}
 use Rattle.search_laws.proofs.KeptSteps.{keeping}
 use Rattle.search_laws.proofs.ParentsAsk.{asked}
+
+-- ---- what was ever put behind the other start
+
+-- in the first trail
+first_puts : (x y : Bool) → ((x || (y || false)) || false) ≡ (x || (y || (false || false)))
+first_puts true y = refl
+first_puts false true = refl
+first_puts false false = refl
+
+-- in one trail more
+further_puts : (x y r e : Bool) → ((x || (y || r)) || (x || (y || e))) ≡ (x || (y || (r || e)))
+further_puts true y r e = refl
+further_puts false true r e = refl
+further_puts false false r e = refl
+
+-- a trail behind the start with top alone says nothing of a test that top does not pass but what its rest says
+rest_says : (p : Fact ℕ → Bool) (at : ℕ) (trail rest : List Item) → trail ≡ start at 0 0 ++ rest → p (Has at 0) ≡ false
+    → list_any p (facts_of trail) ≡ list_any p (facts_of rest)
+rest_says p at trail rest splits none =
+    ap (λ (is : List Item). list_any p (facts_of is)) splits
+    ∙ ap (λ (t : Bool). t || (t || list_any p (facts_of rest))) none
 
 module _ (q : Question) (table more : List Shape) (rows : List Row) (good : IsTable table)
     (fits : IsChoice q.theory table rows) (is_first : q.at < q.first) (unnamed : IsUnnamed q) (a b : ℕ) where
@@ -124,16 +146,23 @@ module _ (q : Question) (table more : List Shape) (rows : List Row) (good : IsTa
       start_is_clear = h.start_is_clear;
     }
 
-  -- the trail goes on from the start with top alone, and the other search follows with the same rest
-  record IsFollowed (k : ℕ) (trail : List Item) : Type 0 where
+  -- the trail goes on from the start with top alone, and the other search follows with the same rest; its run has the
+  -- same trails behind its own start
+  record IsFollowed (earlier : List (List Item)) (trail : List Item) : Type 0 where
     rest : List Item
     splits : trail ≡ start q.at 0 0 ++ rest
-    follows : Follows (long q table more rows) (start q.at a b) k (start q.at a b ++ rest)
+    follows : Follows (long q table more rows) (start q.at a b) (length earlier) (start q.at a b ++ rest)
+    before : List (List Item)
+    is_run : IsRun (long q table more rows) (start q.at a b) ((start q.at a b ++ rest) ∷ before)
+    counted : length before ≡ length earlier
+    puts_same : (p : Fact ℕ → Bool) → p (Has q.at 0) ≡ false
+        → was_ever p ((start q.at a b ++ rest) ∷ before)
+        ≡ (p (Has q.at a) || (p (Has q.at b) || was_ever p (trail ∷ earlier)))
 
-  one_more : (k : ℕ) (before trail : List Item) (earlier : List (List Item)) → IsFollowed k before
+  one_more : (before trail : List Item) (earlier : List (List Item)) → IsFollowed earlier before
       → IsRun (short q table more rows) (start q.at 0 0) (trail ∷ before ∷ earlier)
-      → IsBegun (trail ∷ before ∷ earlier) → IsFollowed (suc k) trail
-  one_more k before trail earlier f run h =
+      → IsBegun (trail ∷ before ∷ earlier) → IsFollowed (before ∷ earlier) trail
+  one_more before trail earlier f run h =
       let again : IsRun (short q table more rows) (start q.at 0 0) ((start q.at 0 0 ++ f.rest) ∷ earlier) =
       subst (λ (is : List Item). IsRun (short q table more rows) (start q.at 0 0) (is ∷ earlier)) f.splits run.1 in
       let begun : IsBegun ((start q.at 0 0 ++ f.rest) ∷ earlier) =
@@ -145,15 +174,40 @@ module _ (q : Question) (table more : List Shape) (rows : List Row) (good : IsTa
       (λ c there. h.says_nothing_there c (ever_now (puts_at q.at c) trail (before ∷ earlier) there))
       (All-head (λ is. ParentsHaveMore q.first a b (facts_of is)) trail (before ∷ earlier) h.parents_have_more)
       legal in
-      record { rest = t.further; splits = t.splits; follows = (start q.at a b ++ f.rest, f.follows, t.is_legal) }
+      record {
+        rest = t.further;
+        splits = t.splits;
+        follows = (start q.at a b ++ f.rest, f.follows, t.is_legal);
+        before = (start q.at a b ++ f.rest) ∷ f.before;
+        is_run = (t.is_legal, f.is_run);
+        counted = ap suc f.counted;
+        puts_same = λ p none.
+            let x = p (Has q.at a) in
+            let y = p (Has q.at b) in
+            let r = list_any p (facts_of t.further) in
+            let e = was_ever p (before ∷ earlier) in
+            ap (λ (w : Bool). (x || (y || r)) || w) (f.puts_same p none)
+            ∙ further_puts x y r e
+            ∙ ap (λ (w : Bool). x || (y || (w || e))) (sym (rest_says p q.at trail t.further t.splits none));
+      }
 
   followed : (trail : List Item) (earlier : List (List Item))
       → IsRun (short q table more rows) (start q.at 0 0) (trail ∷ earlier) → IsBegun (trail ∷ earlier)
-      → IsFollowed (length earlier) trail
-  followed trail [] run h = record { rest = []; splits = run; follows = refl }
+      → IsFollowed earlier trail
+  followed trail [] run h = record {
+    rest = [];
+    splits = run;
+    follows = refl;
+    before = [];
+    is_run = refl;
+    counted = refl;
+    puts_same = λ p none.
+        let x = p (Has q.at a) in
+        let y = p (Has q.at b) in
+        first_puts x y ∙ ap (λ (w : Bool). x || (y || (w || false))) (sym (rest_says p q.at trail [] run none));
+  }
   followed trail (before ∷ earlier) run h =
-      one_more (length earlier) before trail earlier
-      (followed before earlier run.1 (begun_before trail (before ∷ earlier) h)) run h
+      one_more before trail earlier (followed before earlier run.1 (begun_before trail (before ∷ earlier) h)) run h
 
 pub one_beginning_serves_many : OneBeginningServesMany
 one_beginning_serves_many q table more rows a b trail earlier good longer fits have is_first unnamed lt reads mt means
@@ -175,4 +229,16 @@ one_beginning_serves_many q table more rows a b trail earlier good longer fits h
         not_sup_reads = means;
         follows = f.follows;
       };
+    }
+
+pub one_beginning_runs_on : OneBeginningRunsOn
+one_beginning_runs_on q table more rows a b trail earlier good fits is_first unnamed run h =
+    let f = followed q table more rows good fits is_first unnamed a b trail earlier run h in
+    record {
+      rest = f.rest;
+      splits = f.splits;
+      before = f.before;
+      is_run = f.is_run;
+      counted = f.counted;
+      puts_same = f.puts_same;
     }

@@ -8,6 +8,7 @@ use Rattle.calculus_specs.specs.Tree.{tree_of}
 use Rattle.calculus_specs.specs.Rows.{Row, IsChoice}
 use Rattle.calculus_specs.specs.Rules.{Question}
 use Rattle.calculus_specs.specs.declared.facts.Fact.{Fact}
+use Rattle.calculus_specs.specs.declared.facts.Fact.TheVariants.{Has}
 use Rattle.calculus_specs.specs.Joins.{rep}
 use Rattle.calculus_specs.specs.State.{parent_from, label}
 use Rattle.tableau_specs.specs.declared.Item.{Item}
@@ -55,6 +56,31 @@ OneBeginningServesMany =
     → IsRun (context_of q table rows) (start q.at 0 0) (trail ∷ earlier)
     → IsBeginning (context_of q (table ++ more) rows) q.at a b (trail ∷ earlier)
     → GoesOn q (table ++ more) rows a b (length earlier) trail
+
+-- The trail is the start with top alone and some rest, and a run of as many trails goes from the other start to this
+-- rest. What its trails ever put is what those of the beginning did, and the two facts of its own start. So what was
+-- noted of the beginning need not be noted again.
+pub record RunsOn (q : Question) (table : List Shape) (rows : List Row) (a b : ℕ) (trail : List Item)
+    (earlier : List (List Item)) : Type 0 where
+  pub rest : List Item
+  pub splits : trail ≡ start q.at 0 0 ++ rest
+  pub before : List (List Item)
+  pub is_run : IsRun (context_of q table rows) (start q.at a b) ((start q.at a b ++ rest) ∷ before)
+  pub counted : length before ≡ length earlier
+  pub puts_same : (p : Fact ℕ → Bool) → p (Has q.at 0) ≡ false
+      → was_ever p ((start q.at a b ++ rest) ∷ before)
+      ≡ (p (Has q.at a) || (p (Has q.at b) || was_ever p (trail ∷ earlier)))
+
+-- Where no axiom speaks of the node in question, and a run is a beginning for another start, the trails of the run,
+-- each behind this start, are a run too, over the same table or one that has grown since.
+abbrev pub OneBeginningRunsOn : Type 0
+OneBeginningRunsOn =
+    (q : Question) (table more : List Shape) (rows : List Row) (a b : ℕ) (trail : List Item)
+    (earlier : List (List Item))
+    → IsTable table → IsChoice q.theory table rows → q.at < q.first → IsUnnamed q
+    → IsRun (context_of q table rows) (start q.at 0 0) (trail ∷ earlier)
+    → IsBeginning (context_of q (table ++ more) rows) q.at a b (trail ∷ earlier)
+    → RunsOn q (table ++ more) rows a b trail earlier
 
 -- whether a concept of this shape asks for nodes below its node
 abbrev pub asks_for_nodes : Shape → Bool

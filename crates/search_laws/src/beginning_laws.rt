@@ -18,12 +18,18 @@
 //! Tableau reasoners keep the completed graph of the assertions, and begin other tests with it (Sirin, Cuenca Grau and
 //! Parsia, "From Wine to Water: Optimizing Description Logic Reasoning for Nominals", 2006). Here such a beginning
 //! saves work, and no step of the count.
-ghost use Rattle.search_laws.specs.BeginningLaws.{OneBeginningServesMany, ParentsHaveAsked};
+ghost use Rattle.search_laws.specs.BeginningLaws.{OneBeginningServesMany, OneBeginningRunsOn, ParentsHaveAsked};
 
 /// A run that says nothing of the node in question begins the search for each query on any element whose start has no
 /// clash, if no node with a label inside this start has a node below it.
 pub fn one_beginning_serves_many()
     ensures { OneBeginningServesMany }
+{}
+
+/// The trails of such a beginning, each behind the other start, are a run of that search. It puts what the beginning
+/// did, and the two facts of its start, so that what was noted of the beginning serves it too.
+pub fn one_beginning_runs_on()
+    ensures { OneBeginningRunsOn }
 {}
 
 /// No node with a label inside a start has a node below it where no concept of the start asks for nodes.

@@ -15,7 +15,9 @@ mod counter_model_laws;
 mod reuse_laws;
 mod trail_laws;
 
-pub use beginning_laws::{one_beginning_serves_many, parents_have_what_asked_for_nodes};
+pub use beginning_laws::{
+    one_beginning_runs_on, one_beginning_serves_many, parents_have_what_asked_for_nodes,
+};
 pub use bound_laws::{
     concepts_are_in_the_closure, few_children, few_marks, few_nodes, few_of_each_kind, few_steps,
     few_steps_without_going_back, legal_runs_are_bounded, paths_are_short, the_closure_is_computed,
