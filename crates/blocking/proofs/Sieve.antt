@@ -13,7 +13,7 @@ use Rattle.tableau_specs.specs.declared.Block.TheVariants.{Clear, By, Under}
 use Rattle.tableau_specs.specs.Blocked.{is_clear, is_parent_clear, may_block, blocked_from, blocks_to, block_of}
 use Rattle.calculus_specs.specs.Listed.{IsLabel}
 use Rattle.blocking.specs.Hinted.{KnownNode, nothing_known, known_at, AreShown, IsHint}
-use Rattle.blocking.specs.Followed.{Printed, IsPrintWithin, IsFollowed, blocked_among}
+use Rattle.blocking.specs.Followed.{Printed, IsPrintWithin, IsSound, AreSound, IsFollowed, blocked_among}
 use Rattle.blocking.proofs.Labels.{all_shown}
 use Rattle.blocking.proofs.Hinted.{IsKnown, none_blocks, least_blocks, from_none, from_least, hint_is}
 use Rattle.blocking.proofs.BlockLists.{length-blocks_to, get-blocks_to}
@@ -148,29 +148,38 @@ block_kind first fs x blocks all some block is =
 
 -- ---- what is known of the nodes before x
 
-pub known_so : (first : ℕ) (fs : List (Fact ℕ)) (x : ℕ) (p : Printed) (blocks : List Block) (ks : List KnownNode)
-    → IsFollowed first fs x p → blocks ≡ p.blocks → take (length blocks) ks ≡ p.known → (z : ℕ) → z < x
-    → IsKnown fs blocks z (known_at ks z)
-known_so first fs x p blocks ks followed same taken z lt =
+pub known_so : (first : ℕ) (fs : List (Fact ℕ)) (x : ℕ) (blocks : List Block) (ks : List KnownNode)
+    → blocks ≡ blocks_to first fs x → AreSound first fs x ks → (z : ℕ) → z < x → IsKnown fs blocks z (known_at ks z)
+known_so first fs x blocks ks all sound z lt =
+    let s = sound.each z lt in
+    let at : get_or blocks z Under ≡ block_of first fs z =
+    ap (λ (bs : List Block). get_or bs z Under) all ∙ get-blocks_to first fs x z Under lt in
+    (s.labelled, s.may_block ∙ (λ i. eqb (rep fs z) z && is_clear (sym at i)))
+
+-- also where more is known than is told
+pub sound_inside : (first : ℕ) (fs : List (Fact ℕ)) (x : ℕ) (p : Printed) (blocks : List Block) (ks : List KnownNode)
+    → IsFollowed first fs x p → blocks ≡ p.blocks → take (length blocks) ks ≡ p.known → x ≤ length ks
+    → AreSound first fs x ks
+sound_inside first fs x p blocks ks followed same taken enough =
     let long : length blocks ≡ x =
     ap length (same ∙ followed.all_blocks) ∙ length-blocks_to first fs x in
-    let s = followed.sound.each z lt in
-    let at : get_or blocks z Under ≡ block_of first fs z =
-    ap (λ (bs : List Block). get_or bs z Under) (same ∙ followed.all_blocks) ∙ get-blocks_to first fs x z Under lt in
-    let k : known_at p.known z ≡ known_at ks z =
-    sym (ap (λ (ls : List KnownNode). known_at ls z) taken)
-    ∙ get_or-take (length blocks) ks z nothing_known (omega (arith, long, lt)) in
-    subst (IsKnown fs blocks z) k (s.labelled, s.may_block ∙ (λ i. eqb (rep fs z) z && is_clear (sym at i)))
+    record {
+      enough = enough;
+      each = λ z lt.
+          let k : known_at p.known z ≡ known_at ks z =
+          sym (ap (λ (ls : List KnownNode). known_at ls z) taken)
+          ∙ get_or-take (length blocks) ks z nothing_known (omega (arith, long, lt)) in
+          subst (IsSound first fs z) k (followed.sound.each z lt);
+    }
 
 -- the block of x says of nodes before it what a hint says, where x is no first node
-pub hint_found : (first : ℕ) (fs : List (Fact ℕ)) (x : ℕ) (p : Printed) (blocks : List Block) (ks : List KnownNode)
-    (cs : List ℕ) (block hint : Block) → IsFollowed first fs x p → blocks ≡ p.blocks
-    → take (length blocks) ks ≡ p.known → IsLabel fs x cs → block ≡ block_of first fs x → (x < first → hint ≡ Under)
-    → (first ≤ x → hint ≡ block) → IsHint ks [] x cs hint
-hint_found first fs x p blocks ks cs block hint followed same taken labelled is under other = elim (cases_lt x first) [
+pub hint_found : (first : ℕ) (fs : List (Fact ℕ)) (x : ℕ) (blocks : List Block) (ks : List KnownNode)
+    (cs : List ℕ) (block hint : Block) → blocks ≡ blocks_to first fs x → AreSound first fs x ks → IsLabel fs x cs
+    → block ≡ block_of first fs x → (x < first → hint ≡ Under) → (first ≤ x → hint ≡ block) → IsHint ks [] x cs hint
+hint_found first fs x blocks ks cs block hint all sound labelled is under other = elim (cases_lt x first) [
   | inl lt ↦ subst (λ (b : Block). IsHint ks [] x cs b) (sym (under lt)) tt
   | inr le ↦
       subst (λ (b : Block). IsHint ks [] x cs b) (sym (other le))
-      (hint_is fs blocks x ks cs labelled (known_so first fs x p blocks ks followed same taken) block
-      (block_kind first fs x blocks (same ∙ followed.all_blocks) le block is))
+      (hint_is fs blocks x ks cs labelled (known_so first fs x blocks ks all sound) block
+      (block_kind first fs x blocks all le block is))
 ]

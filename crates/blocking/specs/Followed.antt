@@ -56,6 +56,10 @@ pub record AreSound (first : ℕ) (fs : List (Fact ℕ)) (n : ℕ) (ks : List Kn
   pub enough : n ≤ length ks
   pub each : (z : ℕ) → z < n → IsSound first fs z (known_at ks z)
 
+-- what is known of node x has its label
+abbrev pub IsLabelKnown : List (Fact ℕ) → ℕ → List KnownNode → Type 0
+IsLabelKnown fs x ks = (x < length ks) × IsLabel fs x (known_at ks x).label
+
 -- the blocks of the nodes below n, and no others, are those of the facts
 pub record IsFollowed (first : ℕ) (fs : List (Fact ℕ)) (n : ℕ) (p : Printed) : Type 0 where
   pub all_blocks : p.blocks ≡ blocks_to first fs n

@@ -8,11 +8,11 @@ ghost use Rattle.calculus_specs.specs.Joins.{rep};
 ghost use Rattle.calculus_specs.specs.State.{node_count_from, has as has_concept, label as label_of, is_label_part};
 ghost use Rattle.calculus_specs.specs.State.{parent_from};
 ghost use Rattle.tableau_specs.specs.declared.Block.TheVariants.{Clear, By, Under};
-ghost use Rattle.tableau_specs.specs.Blocked.{is_parent_clear, may_block, is_clear as is_clear_of, block_of, blocked_from};
+ghost use Rattle.tableau_specs.specs.Blocked.{is_parent_clear, may_block, is_clear as is_clear_of, blocks_to, block_of, blocked_from};
 ghost use Rattle.completion_tree.specs.Trail.{facts_in};
 ghost use Rattle.blocking.specs.Followed.{no_prints, printed_first, IsPrintWithin, IsBound, blocked_among};
-ghost use Rattle.blocking.specs.Followed.{IsFollowed, AreBlocksBelow, AreFirstBlocks, IsCurrent};
-ghost use Rattle.blocking.specs.Hinted.{known_of, known_with, is_among, IsHint, IsHintBound, IsShown};
+ghost use Rattle.blocking.specs.Followed.{AreSound, IsLabelKnown, IsFollowed, AreBlocksBelow, AreFirstBlocks, IsCurrent};
+ghost use Rattle.blocking.specs.Hinted.{known_at, known_of, known_with, is_among, IsHint, IsHintBound, IsShown};
 
 use crate::hints::{Hints, Known};
 use crate::print::{full_print, print_of};
@@ -138,7 +138,7 @@ impl Blocks {
         self.hints.settle(len);
     }
 
-    // Finds the block of one node more.
+    // Finds the block of one node more, and knows it. Whether the node has the label that is known of it is asked once.
     fn follow_node<A: Allocator + Copy>(
         &mut self,
         tree: &Tree<A>,
@@ -149,75 +149,17 @@ impl Blocks {
         ensures followed { OnOk result (IsFollowed tree.now.first (facts_in tree.now.entries) (node + 1) self.new) }
         ensures unchanged { OnErr result (self.new ≡ self.old) }
     {
-        let block = self.find(tree, node);
-        self.put_block(tree, node, block)
-    }
-
-    // The block of the node behind those that are there.
-    fn find<A: Allocator + Copy>(&mut self, tree: &Tree<A>, node: u32) -> Block
-        requires node { node < node_count_from tree.now.first (facts_in tree.now.entries) }
-        requires followed { IsFollowed tree.now.first (facts_in tree.now.entries) node self.old }
-        ensures block { result ≡ block_of tree.now.first (facts_in tree.now.entries) node }
-        ensures unchanged { self.new ≡ self.old }
-    {
-        self.effort = self.effort.with_block();
-        if node < tree.first() {
-            return Block::Clear;
-        }
-        if !has_clear_parent(tree, self.blocks.as_slice(), node) {
-            return Block::Under;
-        }
-        self.find_behind(tree, node)
-    }
-
-    // The same, of a node that is no first one and whose parent is clear.
-    fn find_behind<A: Allocator + Copy>(&mut self, tree: &Tree<A>, node: u32) -> Block
-        requires node { node < node_count_from tree.now.first (facts_in tree.now.entries) }
-        requires followed { IsFollowed tree.now.first (facts_in tree.now.entries) node self.old }
-        ensures block { result ≡ blocked_from (facts_in tree.now.entries) self.old.blocks node 0 node }
-        ensures unchanged { self.new ≡ self.old }
-    {
-        match bound_of(&self.hints, tree.label(node), node) {
-            Some(bound) => {
-                let blocks = self.blocks.as_slice();
-                lowered(tree, blocks, self.hints.changed(), node, bound)
-            }
-            None => self.find_anywhere(tree, node, print_to_ask(tree, node)),
-        }
-    }
-
-    // The same, by a look through the prints of all nodes: the node has what this print shows.
-    fn find_anywhere<A: Allocator + Copy>(
-        &mut self,
-        tree: &Tree<A>,
-        node: u32,
-        print: [u64; 4],
-    ) -> Block
-        requires node { node < node_count_from tree.now.first (facts_in tree.now.entries) }
-        requires followed { IsFollowed tree.now.first (facts_in tree.now.entries) node self.old }
-        requires print { IsPrintWithin (label_of (facts_in tree.now.entries) node) print }
-        requires words { length print ≡ 4 }
-        ensures block { result ≡ blocked_from (facts_in tree.now.entries) self.old.blocks node 0 node }
-        ensures unchanged { self.new ≡ self.old }
-    {
-        self.effort = self.effort.with_sieve();
-        let count = self.hints.sift(&print, &mut self.found);
-        first_blocking(tree, self.blocks.as_slice(), &self.found[..count], node)
-    }
-
-    // Puts the block of one node more, and what is known of the node.
-    fn put_block<A: Allocator + Copy>(
-        &mut self,
-        tree: &Tree<A>,
-        node: u32,
-        block: Block,
-    ) -> Result<(), NoMemory>
-        requires node { node < node_count_from tree.now.first (facts_in tree.now.entries) }
-        requires followed { IsFollowed tree.now.first (facts_in tree.now.entries) node self.old }
-        requires block { block ≡ block_of tree.now.first (facts_in tree.now.entries) node }
-        ensures followed { OnOk result (IsFollowed tree.now.first (facts_in tree.now.entries) (node + 1) self.new) }
-        ensures unchanged { OnErr result (self.new ≡ self.old) }
-    {
+        let label = tree.label(node);
+        let is_known = self.hints.has_label(node, label);
+        let block = find(
+            tree,
+            self.blocks.as_slice(),
+            &self.hints,
+            &mut self.found,
+            &mut self.effort,
+            node,
+            is_known,
+        );
         let may_block = can_block(tree, node, block);
         let hint = hint_of(tree, node, block);
         make_room(&mut self.found, node)?;
@@ -225,8 +167,9 @@ impl Blocks {
         match put_known(
             self.heap,
             &mut self.hints,
-            tree.label(node),
+            label,
             node,
+            is_known,
             may_block,
             hint,
         ) {
@@ -237,6 +180,62 @@ impl Blocks {
             }
         }
     }
+}
+
+// The block of the node behind those that are there. Its label is known where it is the one that was known of it.
+fn find<A: Allocator + Copy>(
+    tree: &Tree<A>,
+    blocks: &[Block],
+    hints: &Hints,
+    found: &mut Vec<u32>,
+    effort: &mut BlockEffort,
+    node: u32,
+    is_known: bool,
+) -> Block
+    requires node { node < node_count_from tree.now.first (facts_in tree.now.entries) }
+    requires blocks { blocks.now ≡ blocks_to tree.now.first (facts_in tree.now.entries) node }
+    requires sound { AreSound tree.now.first (facts_in tree.now.entries) node hints.now.known }
+    requires known { IsTrue is_known → IsLabelKnown (facts_in tree.now.entries) node hints.now.known }
+    requires room { length hints.now.known ≤ length found.old.items }
+    ensures block { result ≡ block_of tree.now.first (facts_in tree.now.entries) node }
+    ensures room { length found.new.items ≡ length found.old.items }
+{
+    *effort = effort.with_block();
+    if node < tree.first() {
+        return Block::Clear;
+    }
+    if !has_clear_parent(tree, blocks, node) {
+        return Block::Under;
+    }
+    match bound_of(hints, node, is_known) {
+        Some(bound) => lowered(tree, blocks, hints.changed(), node, bound),
+        None => {
+            *effort = effort.with_sieve();
+            find_anywhere(tree, blocks, hints, found, node, print_to_ask(tree, node))
+        }
+    }
+}
+
+// The block of a node that is no first one and whose parent is clear, by a look through the prints of all nodes: the
+// node has what this print shows.
+fn find_anywhere<A: Allocator + Copy>(
+    tree: &Tree<A>,
+    blocks: &[Block],
+    hints: &Hints,
+    found: &mut Vec<u32>,
+    node: u32,
+    print: [u64; 4],
+) -> Block
+    requires blocks { blocks.now ≡ blocks_to tree.now.first (facts_in tree.now.entries) node }
+    requires sound { AreSound tree.now.first (facts_in tree.now.entries) node hints.now.known }
+    requires room { length hints.now.known ≤ length found.old.items }
+    requires print { IsPrintWithin (label_of (facts_in tree.now.entries) node) print }
+    requires words { length print ≡ 4 }
+    ensures block { result ≡ blocked_from (facts_in tree.now.entries) blocks.now node 0 node }
+    ensures room { length found.new.items ≡ length found.old.items }
+{
+    let count = hints.sift(&print, found);
+    first_blocking(tree, blocks, &found[..count], node)
 }
 
 // Has room for one place more than so many.
@@ -250,21 +249,24 @@ fn make_room(found: &mut Vec<u32>, count: u32) -> Result<(), NoMemory>
     Ok(())
 }
 
-// Knows this of a node.
+// Knows this of a node, whose label may be the one that is known of it.
 fn put_known(
     heap: Global,
     hints: &mut Hints,
     label: &[u32],
     node: u32,
+    is_known: bool,
     may_block: bool,
     hint: Block,
 ) -> Result<(), NoMemory>
     requires there { node ≤ length hints.old.known }
+    requires known { IsTrue is_known → node < length hints.old.known }
+    requires label { IsTrue is_known → (known_at hints.old.known node).label ≡ label.now }
     requires hint { IsHint hints.old.known [] node label.now hint }
     ensures put { OnOk result (hints.new.known ≡ known_with hints.old.known node (known_of label.now may_block hint)) }
     ensures unchanged { OnErr result (hints.new.known ≡ hints.old.known) }
 {
-    if hints.has_label(node, label) && hints.may_block(node) == may_block {
+    if is_known && hints.may_block(node) == may_block {
         hints.renew(node, hint);
         return Ok(());
     }
@@ -292,11 +294,15 @@ fn hint_of<A: Allocator + Copy>(tree: &Tree<A>, node: u32, block: Block) -> Bloc
 }
 
 // A number below which no node blocks this one but maybe one that has changed: the node that blocked it before, or its
-// own number. There is none where its label or the node that blocked it has changed, or where its parent was not clear.
-fn bound_of(hints: &Hints, label: &[u32], node: u32) -> Option<u32>
-    ensures { IfSome result (IsHintBound hints.now.known hints.now.changed node label.now) }
+// own number. There is none where its label has changed, where the node that blocked it has, or where its parent was not
+// clear.
+fn bound_of(hints: &Hints, node: u32, is_known: bool) -> Option<u32>
+    requires { IsTrue is_known → node < length hints.now.known }
+    ensures known { IfSome result (λ b. IsTrue is_known) }
+    ensures bound { IfSome result
+        (IsHintBound hints.now.known hints.now.changed node (known_at hints.now.known node).label) }
 {
-    if !hints.has_label(node, label) {
+    if !is_known {
         return None;
     }
     match hints.hint(node) {
