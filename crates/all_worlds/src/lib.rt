@@ -24,4 +24,4 @@ pub use laws::{
     class_expressions_are_stable, refutations_hold_by_all_everywhere, refutations_hold_everywhere,
     refutations_on_any_hold_everywhere,
 };
-pub use worlds::{Numbers, World};
+pub use worlds::{EndlessChain, World};

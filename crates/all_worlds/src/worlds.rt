@@ -12,9 +12,9 @@ pub trait World {
 }
 
 /// A world without end: over the natural numbers, of which each role leads from each to the next.
-pub struct Numbers;
+pub struct EndlessChain;
 
-impl World for Numbers {
+impl World for EndlessChain {
     ghost Domain = { ℕ };
 
     ghost world = { chain };
