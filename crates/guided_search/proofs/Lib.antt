@@ -1,3 +1,7 @@
 pub mod Places
-pub mod Guided
+pub mod Alternatives
+pub mod Closing
+pub mod Unclosed
+pub mod Sound
 pub mod Everywhere
+pub mod WorkedTableau

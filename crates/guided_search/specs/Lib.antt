@@ -1,1 +1,3 @@
+pub mod ClosedTableau
+pub mod TableauExamples
 pub mod Laws
