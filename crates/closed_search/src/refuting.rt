@@ -54,7 +54,7 @@ pub fn refutation_of(
 {
     let lines = trace.into_lines(alloc)?;
     let whole = whole(alloc, copies(alloc, &lines)?, ontology, set, concepts)?;
-    let found = shorter(alloc, &lines, ontology, set, query, concepts, roles, &whole)?;
+    let found = shorter(alloc, lines, ontology, set, query, concepts, roles, &whole)?;
     match found {
         Some(found) => Ok(found),
         None => Ok(whole),

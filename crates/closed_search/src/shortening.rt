@@ -23,7 +23,7 @@ use std::alloc::Global;
 const MOST_LINES: usize = 4294967293;
 
 /// The refutation of those lines of the whole one on which the ends of its branches rest, if it is valid. So what is
-/// left out is needed by none of the lines that stay.
+/// left out is needed by none of the lines that stay. The lines are let go before those that stay are numbered.
 ///
 /// # Errors
 ///
@@ -31,7 +31,7 @@ const MOST_LINES: usize = 4294967293;
 #[tactic(auto, using(refutation_check::proofs::Checkable::in_limit_checkable))]
 pub(crate) fn shorter(
     alloc: Global,
-    lines: &[Line],
+    lines: Vec<Line>,
     ontology: &Ontology,
     set: &AxiomSet,
     query: &Query,
@@ -41,16 +41,17 @@ pub(crate) fn shorter(
 ) -> Result<Option<Refutation>, NoMemory>
     requires set { set.now.limit ≡ length ontology.now.axioms }
     requires in_limit { IsInLimit ontology.now query.now }
-    requires over { are_over (length concepts.now) (map line_of lines.now) ≡ true }
-    requires listed { list_all (uses_names ontology.now concepts.now) (map line_of lines.now) ≡ true }
+    requires over { are_over (length concepts.now) (map line_of lines.items) ≡ true }
+    requires listed { list_all (uses_names ontology.now concepts.now) (map line_of lines.items) ≡ true }
     ensures valid { IfOk result (λ found. IfSome found (IsShorter ontology.now set.now query.now)) }
-    ensures lines { IfOk result (λ found. IfSome found (HasSomeOf concepts.now (map line_of lines.now))) }
+    ensures lines { IfOk result (λ found. IfSome found (HasSomeOf concepts.now (map line_of lines.items))) }
 {
     if whole.lines().len() > MOST_LINES {
         return Ok(None);
     }
     let keep = needed_lines(alloc, ontology, set, query, whole)?;
-    let kept = kept_lines(alloc, lines, &keep)?;
+    let kept = kept_lines(alloc, &lines, &keep)?;
+    drop(lines);
     if !have_nodes(&kept) {
         return Ok(None);
     }
