@@ -9,10 +9,6 @@ use Rattle.axiom_sets.specs.Sets.{Limited, member_list}
 use Rattle.shq_terms.specs.declared.axioms.Query.{Query}
 use Rattle.model_builder.specs.Limits.{IsInLimit}
 use Rattle.tableau.proofs.Entailed.{entailed}
-use Rattle.calculus_specs.specs.Line.{Line}
-use Rattle.calculus_specs.specs.Shape.{Shape}
-use Rattle.calculus_specs.specs.Valid.{IsRefutation}
-use Rattle.run_log.specs.Theory.{theory_of, question_of}
 use Rattle.shq_terms.specs.Listed.{Listed}
 use Rattle.tableau.specs.RefutationLists.{RefutationLists}
 use Rattle.tableau.proofs.CounterModelLaws.{saturated_does_not_entail}
@@ -160,24 +156,26 @@ left_out s k e (Some classes) h = record {
       (sym e) honest;
 }
 
--- ---- for the rules and the query of the search
+-- ---- for the set and the query that were asked
 
-pub moved : (s : SearchState) (r : RuleLists) (q : Query) (fuel : ℕ) → s.rules ≡ r → s.query ≡ q
-    → (found : Result Found NoMemory) → IfOk found (IsFoundBy s fuel) → IfOk found (IsFound r.ontology r.set q fuel)
-moved s r q fuel er eq (Ok f) h =
-    let m : IsFound r.ontology r.set s.query fuel f =
-    subst (λ (v : RuleLists). IsFound v.ontology v.set s.query fuel f) er h in
-    subst (λ (v : Query). IsFound r.ontology r.set v fuel f) eq m
-moved s r q fuel er eq (Err e) h = tt
+pub moved : (s : SearchState) (o : Listed) (set : Limited) (q : Query) (fuel : ℕ) → s.rules.ontology ≡ o
+    → s.rules.set ≡ set → s.query ≡ q
+    → (found : Result Found NoMemory) → IfOk found (IsFoundBy s fuel) → IfOk found (IsFound o set q fuel)
+moved s o set q fuel eo es eq (Ok f) h =
+    subst (λ (v : Query). IsFound o set v fuel f) eq
+    (subst (λ (v : Limited). IsFound o v s.query fuel f) es
+    (subst (λ (v : Listed). IsFound v s.rules.set s.query fuel f) eo h))
+moved s o set q fuel eo es eq (Err e) h = tt
 
-pub tested_moved : (s : SearchState) (r : RuleLists) (q : Query) (fuel : ℕ) (wanted : Bool) → s.rules ≡ r
-    → s.query ≡ q → (tested : Result Tested NoMemory) → IfOk tested (IsTestedBy s fuel wanted)
-    → IfOk tested (IsTested r.ontology r.set q fuel wanted)
-tested_moved s r q fuel wanted er eq (Ok t) h =
-    let m : IsTested r.ontology r.set s.query fuel wanted t =
-    subst (λ (v : RuleLists). IsTested v.ontology v.set s.query fuel wanted t) er h in
-    subst (λ (v : Query). IsTested r.ontology r.set v fuel wanted t) eq m
-tested_moved s r q fuel wanted er eq (Err e) h = tt
+pub tested_moved : (s : SearchState) (o : Listed) (set : Limited) (q : Query) (fuel : ℕ) (wanted : Bool)
+    → s.rules.ontology ≡ o → s.rules.set ≡ set → s.query ≡ q
+    → (tested : Result Tested NoMemory) → IfOk tested (IsTestedBy s fuel wanted)
+    → IfOk tested (IsTested o set q fuel wanted)
+tested_moved s o set q fuel wanted eo es eq (Ok t) h =
+    subst (λ (v : Query). IsTested o set v fuel wanted t) eq
+    (subst (λ (v : Limited). IsTested o v s.query fuel wanted t) es
+    (subst (λ (v : Listed). IsTested v s.rules.set s.query fuel wanted t) eo h))
+tested_moved s o set q fuel wanted eo es eq (Err e) h = tt
 
 -- a search has the numbers with which it began
 pub has_numbers : (r : RuleLists) (q : Query) (sub not_sup : ℕ) (old new : SearchState) → HasBegun r q sub not_sup old

@@ -2,7 +2,6 @@
 ghost use Rattle.std.specs.Prelude.{◌≡◌, ◌≤◌, ℕ, false, IfOk};
 ghost use Rattle.model_builder.specs.Limits.{IsInLimit};
 ghost use Rattle.model_builder.specs.Trail.{items_of};
-ghost use Rattle.tableau.specs.RuleLists.{AreNumbersOf};
 ghost use Rattle.tableau.specs.SearchState.{trail_of};
 ghost use Rattle.tableau.specs.Steps.{IsAtModel, IsAtRefutation};
 ghost use Rattle.run_log.specs.HonestLog.{IsAxiomSet};
@@ -24,39 +23,23 @@ pub(crate) struct Found {
     pub(crate) ended: TestEnd,
 }
 
-/// Searches with these rules whether the query follows, by at most so many steps. The numbers are those of what the
-/// query asks. The tree of the search lies in an arena of its own, which is let go at the end.
+/// Searches with these rules whether the query follows, by at most so many steps. The tree of the search lies in an arena
+/// of its own, which is let go at the end.
+#[tactic(auto, using(crate::proofs::Honest::moved, crate::proofs::Honest::has_ended))]
 pub(crate) fn search(
     alloc: Global,
-    rules: &SearchRules<'_>,
+    rules: &mut SearchRules<'_>,
     query: &Query,
-    numbers: (u32, u32),
     fuel: u64,
 ) -> Result<Found, NoMemory>
-    requires numbers { AreNumbersOf rules.now query.now numbers.0 numbers.1 }
-    requires set { IsAxiomSet rules.now.ontology rules.now.set }
-    requires in_limit { IsInLimit rules.now.ontology query.now }
-    ensures { IfOk result (IsFound rules.now.ontology rules.now.set query.now fuel) }
+    requires set { IsAxiomSet rules.old.ontology rules.old.set }
+    requires in_limit { IsInLimit rules.old.ontology query.now }
+    ensures found { IfOk result (IsFound rules.old.ontology rules.old.set query.now fuel) }
+    ensures same { rules.new.ontology ≡ rules.old.ontology }
 {
+    let (sub, not_sup) = rules.numbers_of(alloc, query)?;
     let arena = Bump::new(alloc);
-    search_in(&arena, alloc, rules, query, numbers, fuel)
-}
-
-#[tactic(auto, using(crate::proofs::Honest::moved, crate::proofs::Honest::has_ended))]
-fn search_in<A: Allocator + Copy>(
-    arena: A,
-    alloc: Global,
-    rules: &SearchRules<'_>,
-    query: &Query,
-    numbers: (u32, u32),
-    fuel: u64,
-) -> Result<Found, NoMemory>
-    requires numbers { AreNumbersOf rules.now query.now numbers.0 numbers.1 }
-    requires set { IsAxiomSet rules.now.ontology rules.now.set }
-    requires in_limit { IsInLimit rules.now.ontology query.now }
-    ensures { IfOk result (IsFound rules.now.ontology rules.now.set query.now fuel) }
-{
-    let mut search = Search::new_in(arena, alloc, rules, query, numbers.0, numbers.1)?;
+    let mut search = Search::new_in(&arena, alloc, rules, query, sub, not_sup)?;
     let end = search.run(fuel)?;
     found_by(alloc, &search, query, fuel, end)
 }

@@ -7,8 +7,8 @@ ghost use Rattle.axiom_sets.specs.Sets.{IsWithin};
 ghost use Rattle.model_builder.specs.Limits.{IsOntologyInLimit, IsInLimit};
 ghost use Rattle.run_log.specs.Entries.{spent_of, is_spent, IsAnswered};
 ghost use Rattle.run_log.specs.HonestLog.{IsAxiomSet, IsHonestEntry};
-ghost use Rattle.shq_oracle.specs.Decided.{IsAnswer, AppendsTest, LeavesNothing, IsFound};
-ghost use Rattle.shq_oracle.specs.Decided.{IsOutcome, AddsTest, AddsShown, Notes, SpendsAll, IsTested, TakesNode};
+ghost use Rattle.shq_oracle.specs.Decided.{IsAnswer, AppendsTest, LeavesNothing};
+ghost use Rattle.shq_oracle.specs.Decided.{IsOutcome, AddsTest, AddsShown, Notes, SpendsAll, TakesNode};
 ghost use Rattle.shq_oracle.specs.ApartLists.{query_of, entry_of, classes_of, AreApart, IsAbout, MayNote};
 
 use crate::found::{Found, search};
@@ -118,8 +118,10 @@ impl<'a> Oracle<'a> {
         ensures unchanged { OnErr result (self.new.log ≡ self.old.log) }
     {
         let fuel = self.left();
-        let found = self.find(set, query, fuel)?;
-        self.note(set, query, found)
+        let mut rules = self.take_rules(set)?;
+        let found = search(self.alloc, &mut rules, query, fuel);
+        self.keep_rules(rules);
+        self.note(set, query, found?)
     }
 
     /// Whether the query follows, as [`decide`](Oracle::decide) answers it, with the same entry in the log but without
@@ -143,8 +145,10 @@ impl<'a> Oracle<'a> {
         ensures unchanged { OnErr result (self.new.log ≡ self.old.log) }
     {
         let fuel = self.left();
-        let tested = self.try_out(set, query, fuel, false)?;
-        self.note_outcome(set, query, tested)
+        let mut rules = self.take_rules(set)?;
+        let tested = test(self.alloc, &mut rules, query, fuel, false);
+        self.keep_rules(rules);
+        self.note_outcome(set, query, tested?)
     }
 
     /// The same as [`test`](Oracle::test), and hands out what the search shows of further classes where the query does
@@ -169,8 +173,10 @@ impl<'a> Oracle<'a> {
         ensures unchanged { OnErr result (self.new.log ≡ self.old.log) }
     {
         let fuel = self.left();
-        let tested = self.try_out(set, query, fuel, true)?;
-        self.note_shown(set, query, tested)
+        let mut rules = self.take_rules(set)?;
+        let tested = test(self.alloc, &mut rules, query, fuel, true);
+        self.keep_rules(rules);
+        self.note_shown(set, query, tested?)
     }
 
     /// Puts the entry of a test whether a class expression is part of a class last, which an earlier search shows that
@@ -217,42 +223,25 @@ impl<'a> Oracle<'a> {
         Ok(true)
     }
 
-    // Searches by the rules of the set, which are kept. Nothing that contracts see changes.
-    fn find(&mut self, set: &AxiomSet, query: &Query, fuel: u64) -> Result<Found, NoMemory>
+    // The rules of the set: those that were kept, where they are of this set. Nothing that contracts see changes.
+    fn take_rules(&mut self, set: &AxiomSet) -> Result<SearchRules<'a>, NoMemory>
         requires limit { set.now.limit ≡ length self.old.ontology.axioms }
-        requires in_limit { IsInLimit self.old.ontology query.now }
-        ensures found { IfOk result (IsFound self.old.ontology set.now query.now fuel) }
-        ensures set { IsAxiomSet self.old.ontology set.now }
+        requires in_limit { IsOntologyInLimit self.old.ontology }
+        ensures ontology { IfOk result (λ r. r.ontology ≡ self.old.ontology) }
+        ensures set { IfOk result (λ r. r.set ≡ set.now) }
+        ensures of_axioms { IsAxiomSet self.old.ontology set.now }
         ensures same { self.new ≡ self.old }
     {
         let _limit = set.limit();
-        find_by(self.alloc, &mut self.rules, self.ontology, set, query, fuel)
+        rules_of(self.alloc, self.rules.take(), self.ontology, set)
     }
 
-    // The same for the outcome alone.
-    fn try_out(
-        &mut self,
-        set: &AxiomSet,
-        query: &Query,
-        fuel: u64,
-        wants_apart: bool,
-    ) -> Result<Tested, NoMemory>
-        requires limit { set.now.limit ≡ length self.old.ontology.axioms }
-        requires in_limit { IsInLimit self.old.ontology query.now }
-        ensures tested { IfOk result (IsTested self.old.ontology set.now query.now fuel wants_apart) }
-        ensures set { IsAxiomSet self.old.ontology set.now }
-        ensures same { self.new ≡ self.old }
+    // Keeps rules for the next question about their set. Nothing that contracts see changes.
+    fn keep_rules(&mut self, rules: SearchRules<'a>)
+        requires { rules.ontology ≡ self.old.ontology }
+        ensures { self.new ≡ self.old }
     {
-        let _limit = set.limit();
-        test_by(
-            self.alloc,
-            &mut self.rules,
-            self.ontology,
-            set,
-            query,
-            fuel,
-            wants_apart,
-        )
+        self.rules = Some(rules);
     }
 
     // Puts the entry of a test, and hands the answer on.
@@ -262,6 +251,7 @@ impl<'a> Oracle<'a> {
         ensures answer { IfOk result (λ a. a ≡ found.answer) }
         ensures entry { IfOk result
             (λ a. self.new.log ≡ self.old.log ++ Test set.now query.now found.steps found.ended ∷ []) }
+        ensures within { spent_of self.new.log ≤ self.new.budget }
         ensures same_ontology { self.new.ontology ≡ self.old.ontology }
         ensures same_budget { self.new.budget ≡ self.old.budget }
         ensures unchanged { OnErr result (self.new.log ≡ self.old.log) }
@@ -287,6 +277,7 @@ impl<'a> Oracle<'a> {
         ensures outcome { IfOk result (λ v. v ≡ tested.outcome) }
         ensures entry { IfOk result
             (λ v. self.new.log ≡ self.old.log ++ Test set.now query.now tested.steps tested.ended ∷ []) }
+        ensures within { spent_of self.new.log ≤ self.new.budget }
         ensures same_ontology { self.new.ontology ≡ self.old.ontology }
         ensures same_budget { self.new.budget ≡ self.old.budget }
         ensures unchanged { OnErr result (self.new.log ≡ self.old.log) }
@@ -318,6 +309,7 @@ impl<'a> Oracle<'a> {
         ensures classes { IfOk result (λ s. classes_of s.apart ≡ tested.apart) }
         ensures entry { IfOk result
             (λ s. self.new.log ≡ self.old.log ++ Test set.now query.now tested.steps tested.ended ∷ []) }
+        ensures within { spent_of self.new.log ≤ self.new.budget }
         ensures same_ontology { self.new.ontology ≡ self.old.ontology }
         ensures same_budget { self.new.budget ≡ self.old.budget }
         ensures unchanged { OnErr result (self.new.log ≡ self.old.log) }
@@ -410,6 +402,7 @@ impl<'a> Oracle<'a> {
         requires within { steps + spent_of self.old.log ≤ self.old.budget }
         requires small { self.old.budget ≤ u32.MAX }
         ensures entry { OnOk result (self.new.log ≡ self.old.log ++ Test set.now query.now steps ended ∷ []) }
+        ensures within { spent_of self.new.log ≤ self.new.budget }
         ensures same_ontology { self.new.ontology ≡ self.old.ontology }
         ensures same_budget { self.new.budget ≡ self.old.budget }
         ensures unchanged { OnErr result (self.new.log ≡ self.old.log) }
@@ -419,49 +412,6 @@ impl<'a> Oracle<'a> {
         self.log.push(Entry::Test(asked, query, steps, ended))?;
         Ok(())
     }
-}
-
-// Searches by the rules of the set: those that were kept, or new ones, which are kept then.
-fn find_by<'a>(
-    alloc: Global,
-    kept: &mut Option<SearchRules<'a>>,
-    ontology: &'a Ontology,
-    set: &AxiomSet,
-    query: &Query,
-    fuel: u64,
-) -> Result<Found, NoMemory>
-    requires kept { IfSome kept.old (λ r. r.ontology ≡ ontology.now) }
-    requires set { IsAxiomSet ontology.now set.now }
-    requires in_limit { IsInLimit ontology.now query.now }
-    ensures found { IfOk result (IsFound ontology.entry.now set.now query.now fuel) }
-    ensures kept { IfSome kept.new (λ r. r.ontology ≡ ontology.entry.now) }
-{
-    let mut rules = rules_of(alloc, kept.take(), ontology, set)?;
-    let found = ask(alloc, &mut rules, query, fuel)?;
-    *kept = Some(rules);
-    Ok(found)
-}
-
-// The same for the outcome alone.
-fn test_by<'a>(
-    alloc: Global,
-    kept: &mut Option<SearchRules<'a>>,
-    ontology: &'a Ontology,
-    set: &AxiomSet,
-    query: &Query,
-    fuel: u64,
-    wants_apart: bool,
-) -> Result<Tested, NoMemory>
-    requires kept { IfSome kept.old (λ r. r.ontology ≡ ontology.now) }
-    requires set { IsAxiomSet ontology.now set.now }
-    requires in_limit { IsInLimit ontology.now query.now }
-    ensures tested { IfOk result (IsTested ontology.entry.now set.now query.now fuel wants_apart) }
-    ensures kept { IfSome kept.new (λ r. r.ontology ≡ ontology.entry.now) }
-{
-    let mut rules = rules_of(alloc, kept.take(), ontology, set)?;
-    let tested = ask_outcome(alloc, &mut rules, query, fuel, wants_apart)?;
-    *kept = Some(rules);
-    Ok(tested)
 }
 
 // The rules of the axioms of the set: those that were kept, where they are of this set.
@@ -499,39 +449,6 @@ fn rules_again<'a>(
         return Ok(rules);
     }
     SearchRules::build(alloc, ontology, set)
-}
-
-// Searches by these rules.
-fn ask(
-    alloc: Global,
-    rules: &mut SearchRules<'_>,
-    query: &Query,
-    fuel: u64,
-) -> Result<Found, NoMemory>
-    requires set { IsAxiomSet rules.old.ontology rules.old.set }
-    requires in_limit { IsInLimit rules.old.ontology query.now }
-    ensures found { IfOk result (IsFound rules.old.ontology rules.old.set query.now fuel) }
-    ensures same { rules.new.ontology ≡ rules.old.ontology }
-{
-    let numbers = rules.numbers_of(alloc, query)?;
-    search(alloc, rules, query, numbers, fuel)
-}
-
-// The same for the outcome alone.
-fn ask_outcome(
-    alloc: Global,
-    rules: &mut SearchRules<'_>,
-    query: &Query,
-    fuel: u64,
-    wants_apart: bool,
-) -> Result<Tested, NoMemory>
-    requires set { IsAxiomSet rules.old.ontology rules.old.set }
-    requires in_limit { IsInLimit rules.old.ontology query.now }
-    ensures tested { IfOk result (IsTested rules.old.ontology rules.old.set query.now fuel wants_apart) }
-    ensures same { rules.new.ontology ≡ rules.old.ontology }
-{
-    let numbers = rules.numbers_of(alloc, query)?;
-    test(alloc, rules, query, numbers, fuel, wants_apart)
 }
 
 // An equal query.

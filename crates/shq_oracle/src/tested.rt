@@ -1,7 +1,6 @@
 // What the outcome of one search is.
 ghost use Rattle.std.specs.Prelude.{◌≡◌, ◌≤◌, ℕ, Bool, true, false, IfOk, IfSome};
 ghost use Rattle.model_builder.specs.Limits.{IsInLimit};
-ghost use Rattle.tableau.specs.RuleLists.{AreNumbersOf};
 ghost use Rattle.tableau.specs.Steps.{IsAtModel, IsAtRefutation, AreLeftOut, ShowsApart};
 ghost use Rattle.run_log.specs.HonestLog.{IsAxiomSet};
 ghost use Rattle.shq_oracle.specs.Decided.{IsTested, IsTestedBy, HasNumbers, MayGoOn, HasEnded};
@@ -24,42 +23,25 @@ pub(crate) struct Tested {
     pub(crate) ended: TestEnd,
 }
 
-/// Searches with these rules whether the query follows, by at most so many steps, and makes no model. The numbers are
-/// those of what the query asks. Where it is wanted, what a search shows of further classes is kept. The tree of the
-/// search lies in an arena of its own, which is let go at the end.
+/// Searches with these rules whether the query follows, by at most so many steps, and makes no model. Where it is wanted,
+/// what the search shows of further classes is kept. The tree of the search lies in an arena of its own, which is let go
+/// at the end.
+#[tactic(auto, using(crate::proofs::Honest::tested_moved, crate::proofs::Honest::has_ended, crate::proofs::Honest::has_numbers))]
 pub(crate) fn test(
     alloc: Global,
-    rules: &SearchRules<'_>,
+    rules: &mut SearchRules<'_>,
     query: &Query,
-    numbers: (u32, u32),
     fuel: u64,
     wants_apart: bool,
 ) -> Result<Tested, NoMemory>
-    requires numbers { AreNumbersOf rules.now query.now numbers.0 numbers.1 }
-    requires set { IsAxiomSet rules.now.ontology rules.now.set }
-    requires in_limit { IsInLimit rules.now.ontology query.now }
-    ensures { IfOk result (IsTested rules.now.ontology rules.now.set query.now fuel wants_apart) }
+    requires set { IsAxiomSet rules.old.ontology rules.old.set }
+    requires in_limit { IsInLimit rules.old.ontology query.now }
+    ensures tested { IfOk result (IsTested rules.old.ontology rules.old.set query.now fuel wants_apart) }
+    ensures same { rules.new.ontology ≡ rules.old.ontology }
 {
+    let (sub, not_sup) = rules.numbers_of(alloc, query)?;
     let arena = Bump::new(alloc);
-    test_in(&arena, alloc, rules, query, numbers, fuel, wants_apart)
-}
-
-#[tactic(auto, using(crate::proofs::Honest::tested_moved, crate::proofs::Honest::has_ended, crate::proofs::Honest::has_numbers))]
-fn test_in<A: Allocator + Copy>(
-    arena: A,
-    alloc: Global,
-    rules: &SearchRules<'_>,
-    query: &Query,
-    numbers: (u32, u32),
-    fuel: u64,
-    wants_apart: bool,
-) -> Result<Tested, NoMemory>
-    requires numbers { AreNumbersOf rules.now query.now numbers.0 numbers.1 }
-    requires set { IsAxiomSet rules.now.ontology rules.now.set }
-    requires in_limit { IsInLimit rules.now.ontology query.now }
-    ensures { IfOk result (IsTested rules.now.ontology rules.now.set query.now fuel wants_apart) }
-{
-    let mut search = Search::new_in(arena, alloc, rules, query, numbers.0, numbers.1)?;
+    let mut search = Search::new_in(&arena, alloc, rules, query, sub, not_sup)?;
     let end = search.run(fuel)?;
     tested_by(alloc, &search, fuel, end, wants_apart)
 }

@@ -21,21 +21,20 @@ use Rattle.closed_search.specs.Trace.{begun}
 use Rattle.search_rules.specs.RuleLists.{RuleLists, IsReady, AreNumbersOf, numbers_in, theory_in, context_in}
 use Rattle.search_state.specs.Progress.{ProgressLists, asked_of, asked_by, IsAsked, IsStanding, IsSearching, HasMoved}
 use Rattle.search_state.specs.Stepping.{HasBegun, IsClosed, IsStepped, IsRested, IsSameButBlocks, HasFollowed}
-use Rattle.search_state.specs.Followed.{AreFirstBlocks, IsCurrent}
+use Rattle.search_state.specs.Followed.{AreFirstBlocks}
 use Rattle.search_state.proofs.Followed.{entries_same, followed_first, still_stands, still_searches}
 use Rattle.search_state.specs.declared.stepping.Stepped.{Stepped}
 use Rattle.search_state.specs.declared.stepping.Stepped.TheVariants.{Closed as StepClosed}
 use Rattle.search_state.specs.declared.stepping.Rested.{Rested}
 use Rattle.search_state.specs.declared.stepping.Rested.TheVariants.{Closed as RestClosed}
-use Rattle.tableau.specs.SearchState.{SearchState, room_for, context_of, trail_of, IsReachedBy, HasRun, HasAllBlocks}
-use Rattle.tableau.specs.SearchState.{IsSameSearch}
+use Rattle.tableau.specs.SearchState.{SearchState, room_for, context_of, trail_of, IsReachedBy, HasRun, IsSameSearch}
 use Rattle.tableau.specs.Steps.{Refutes, Stays, IsAtRefutation, IsEvent, IsEnd, Runs}
 use Rattle.tableau.specs.declared.search.Event.{Event}
 use Rattle.tableau.specs.declared.search.Event.TheVariants.{Moved, Saturated, Closed}
 use Rattle.tableau.specs.declared.search.End.{End}
 use Rattle.tableau.specs.declared.search.End.TheVariants.{Saturated as RunSaturated, Closed as RunClosed, Spent}
 use Rattle.tableau.specs.Inside.{IsProgressOf, IsKept, IsAtQuestion, IsClosing, HasClosed, IsAdvanced, HasNotedNew}
-use Rattle.tableau.specs.Inside.{IsNotedAfter, IsSettled, IsHalted, IsWalked, goes_on, is_spent}
+use Rattle.tableau.specs.Inside.{IsNotedAfter, IsSettled, IsHalted, goes_on, is_spent}
 use Rattle.tableau.proofs.Reached.{standing_is_reached}
 use Rattle.tableau.proofs.Noted.{over_after, seen_after}
 
@@ -196,7 +195,13 @@ advanced_first rules old new Moved h = h.1.standing.blocks
 advanced_first rules old new Saturated h = followed_first old new h.0
 advanced_first rules old new (Closed r) h = h.blocks
 
--- a step after which the blocks of all nodes were found
+pub settled_first : (rules : RuleLists) (old new : ProgressLists) (e : End) → IsSettled rules old new e
+    → AreFirstBlocks new.first (facts_in new.entries) new.found_blocks
+settled_first rules old new Spent h = h.1.standing.blocks
+settled_first rules old new RunSaturated h = followed_first old new h.0
+settled_first rules old new (RunClosed r) h = h.blocks
+
+-- a step, or a look for one, after which the blocks of all nodes were found
 module _ (rules : RuleLists) (old mid new : ProgressLists) (h : HasFollowed mid new)
     (first : AreFirstBlocks new.first (facts_in new.entries) new.found_blocks) where
   abbrev w : SearchContext
@@ -207,6 +212,22 @@ module _ (rules : RuleLists) (old mid new : ProgressLists) (h : HasFollowed mid 
 
   steps_are : new.steps ≡ mid.steps
   steps_are = ap (λ (q : ProgressLists). q.steps) h.same
+
+  still_same : IsSameButBlocks old mid → IsSameButBlocks old new
+  still_same same = h.same ∙ ap (λ (q : ProgressLists). record q { found_blocks = new.found_blocks }) same
+
+  still_saturated : IsSaturated w (items_of mid.entries) → IsSaturated w (items_of new.entries)
+  still_saturated saturated = subst (λ (es : List Entry). IsSaturated w (items_of es)) (sym entries_are) saturated
+
+  still_closed : (r : RefutationLists) → HasClosed rules r old mid → HasClosed rules r old new
+  still_closed r a = record {
+    entries = entries_are ∙ a.entries;
+    first = ap (λ (q : ProgressLists). q.first) h.same ∙ a.first;
+    blocks = first;
+    steps = steps_are ∙ a.steps;
+    has_clash = subst (λ (es : List Entry). HasClash w (items_of es)) (sym entries_are) a.has_clash;
+    refutes = a.refutes;
+  }
 
   pub followed_advanced : (e : Event) → IsAdvanced rules old mid e → IsAdvanced rules old new e
   followed_advanced Moved a = (
@@ -225,21 +246,22 @@ module _ (rules : RuleLists) (old mid new : ProgressLists) (h : HasFollowed mid 
     },
     still_searches w mid new h.same first a.1,
   )
-  followed_advanced Saturated a = (
+  followed_advanced Saturated a =
+      (record { same = still_same a.0.same; current = h.current }, still_saturated a.1)
+  followed_advanced (Closed r) a = still_closed r a
+
+  pub followed_settled : (e : End) → IsSettled rules old mid e → IsSettled rules old new e
+  followed_settled Spent a = (
+    still_same a.0,
+    still_searches w mid new h.same first a.1,
     record {
-      same = h.same ∙ ap (λ (q : ProgressLists). record q { found_blocks = new.found_blocks }) a.0.same;
-      current = h.current;
+      next = a.2.next;
+      is_legal = subst (λ (es : List Entry). IsLegal w (items_of es) a.2.next) (sym entries_are) a.2.is_legal;
     },
-    subst (λ (es : List Entry). IsSaturated w (items_of es)) (sym entries_are) a.1,
   )
-  followed_advanced (Closed r) a = record {
-    entries = entries_are ∙ a.entries;
-    first = ap (λ (q : ProgressLists). q.first) h.same ∙ a.first;
-    blocks = first;
-    steps = steps_are ∙ a.steps;
-    has_clash = subst (λ (es : List Entry). HasClash w (items_of es)) (sym entries_are) a.has_clash;
-    refutes = a.refutes;
-  }
+  followed_settled RunSaturated a =
+      (record { same = still_same a.0.same; current = h.current }, still_saturated a.1)
+  followed_settled (RunClosed r) a = still_closed r a
 
 -- ---- one call
 
@@ -399,31 +421,6 @@ module _ (rules : RuleLists) (query : Query) (sub not_sup : ℕ) (p p' : Progres
     halted_steps RunSaturated h = ap (λ (q : ProgressLists). q.steps) h.0.same ∙ progress_is.steps
     halted_steps (RunClosed r) h = h.steps ∙ progress_is.steps
 
--- an end, after which the blocks of all nodes were found
-pub followed_end : (fuel : ℕ) (a b c : SearchState) (e : End) → IsEnd fuel a b e
-    → c ≡ record b { found_blocks = c.found_blocks }
-    → HasAllBlocks c → IsEnd fuel a c e
-followed_end fuel a b c e h same current = subst (λ (s : SearchState). IsEnd fuel a s e) (sym same) (by_kind e h)
-  where
-    with_all : SearchState
-    with_all = record b { found_blocks = c.found_blocks }
-
-    runs : Runs a b → Runs a with_all
-    runs r = record { count = r.count; follows = r.follows; counted = r.counted }
-
-    by_kind : (e : End) → IsEnd fuel a b e → IsEnd fuel a with_all e
-    by_kind RunSaturated h = (
-      runs h.0,
-      record {
-        is_saturated = h.1.is_saturated;
-        is_current = subst (λ (s : SearchState). IsCurrent s.first (facts_in s.entries) c.found_blocks) same current;
-        ended = h.1.ended;
-      },
-    )
-    by_kind (RunClosed r) h = (runs h.0, record { has_clash = h.1.has_clash; refutes = h.1.refutes; ended = h.1.ended })
-    by_kind Spent h =
-        (runs h.0, record { counted = h.1.counted; goes_on = h.1.goes_on; next = h.1.next; is_legal = h.1.is_legal })
-
 -- ---- several steps
 
 pub none_run : (s : SearchState) → Runs s s
@@ -449,17 +446,22 @@ stays_run a b c runs stays = record {
   counted = stays.steps ∙ runs.counted;
 }
 
-pub last_event : (fuel : ℕ) (a b c : SearchState) (e : Event) → Runs a b → IsEvent b c e → ¬ (e ≡ Moved)
-    → IsWalked fuel a c e
-last_event fuel a b c Moved runs h other = absurd (other refl)
-last_event fuel a b c Saturated runs h other = (stays_run a b c runs h.0, h.1)
-last_event fuel a b c (Closed r) runs h other = (stays_run a b c runs h.0, h.1)
+pub ends_at_model : (fuel : ℕ) (a b c : SearchState) (e : Event) → e ≡ Saturated → Runs a b → IsEvent b c e
+    → IsEnd fuel a c RunSaturated
+ends_at_model fuel a b c e is runs h =
+    let event : IsEvent b c Saturated = subst (IsEvent b c) is h in (stays_run a b c runs event.0, event.1)
 
-pub run_ends : (fuel : ℕ) (a b c : SearchState) (e : End) → IsWalked fuel a b Moved → IsHalted b c e → IsEnd fuel a c e
-run_ends fuel a b c Spent walked h =
-    (stays_run a b c walked.0 h.0, record { counted = h.0.steps ∙ walked.1; goes_on = h.1; next = h.2; is_legal = h.3 })
-run_ends fuel a b c RunSaturated walked h = (stays_run a b c walked.0 h.0, h.1)
-run_ends fuel a b c (RunClosed r) walked h = (stays_run a b c walked.0 h.0, h.1)
+pub ends_at_refutation : (fuel : ℕ) (a b c : SearchState) (r : RefutationLists) (e : Event) → e ≡ Closed r → Runs a b
+    → IsEvent b c e → IsEnd fuel a c (RunClosed r)
+ends_at_refutation fuel a b c r e is runs h =
+    let event : IsEvent b c (Closed r) = subst (IsEvent b c) is h in (stays_run a b c runs event.0, event.1)
+
+pub run_ends : (fuel : ℕ) (a b c : SearchState) (e : End) → Runs a b → b.steps ≡ a.steps + fuel → IsHalted b c e
+    → IsEnd fuel a c e
+run_ends fuel a b c Spent runs made h =
+    (stays_run a b c runs h.0, record { counted = h.0.steps ∙ made; goes_on = h.1; next = h.2; is_legal = h.3 })
+run_ends fuel a b c RunSaturated runs made h = (stays_run a b c runs h.0, h.1)
+run_ends fuel a b c (RunClosed r) runs made h = (stays_run a b c runs h.0, h.1)
 
 pub same_search : (a b c : SearchState) → IsSameSearch a b → IsSameSearch b c → IsSameSearch a c
 same_search a b c h k = record {

@@ -1,5 +1,5 @@
 -- What a search keeps, and what one call on its progress comes to.
-use Rattle.std.specs.Prelude.{◌≡◌, ℕ, ◌+◌, ◌-◌, min, drop, Bool, true, false, List, [], ◌∷◌, length, Some, All}
+use Rattle.std.specs.Prelude.{◌≡◌, ℕ, ◌-◌, min, drop, Bool, true, false, List, [], ◌∷◌, length, Some, All}
 use Rattle.search_rules.specs.Limits.{IsInLimit}
 use Rattle.closed_search.specs.RefutationLists.{RefutationLists}
 use Rattle.tableau_specs.specs.declared.Item.{Item}
@@ -17,7 +17,7 @@ use Rattle.search_state.specs.Progress.{ProgressLists, asked_by, IsAsked, IsFitL
 use Rattle.search_state.specs.Stepping.{HasNext, HasFollowed, IsSameButBlocks}
 use Rattle.search_state.specs.Followed.{AreFirstBlocks}
 use Rattle.tableau.specs.SearchState.{SearchState, question_of, context_of, trail_of, IsReachedBy, HasRun}
-use Rattle.tableau.specs.Steps.{Refutes, Runs, Stays, IsAtModel, IsAtRefutation}
+use Rattle.tableau.specs.Steps.{Refutes, Stays, IsAtModel, IsAtRefutation}
 use Rattle.tableau.specs.declared.search.Event.{Event}
 use Rattle.tableau.specs.declared.search.Event.TheVariants.{Moved, Saturated, Closed}
 use Rattle.tableau.specs.declared.search.End.{End}
@@ -111,14 +111,6 @@ abbrev pub is_spent : End → Bool
 is_spent Spent = true
 is_spent RunSaturated = false
 is_spent (RunClosed r) = false
-
--- ---- several steps
-
--- as many steps are made as were allowed, or the search has ended
-abbrev pub IsWalked : ℕ → SearchState → SearchState → Event → Type 0
-IsWalked fuel old new Moved = Runs old new × (new.steps ≡ old.steps + fuel) × (new.ended ≡ false)
-IsWalked fuel old new Saturated = Runs old new × IsAtModel new
-IsWalked fuel old new (Closed r) = Runs old new × IsAtRefutation r new
 
 -- no step is made, and the search ends where there is none
 abbrev pub IsHalted : SearchState → SearchState → End → Type 0

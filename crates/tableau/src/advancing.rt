@@ -1,11 +1,11 @@
 // One call on the progress of a search.
-ghost use Rattle.std.specs.Prelude.{◌≡◌, ◌+◌, ◌<◌, ◌^◌, IsTrue, OnOk, IfOk, length};
+ghost use Rattle.std.specs.Prelude.{◌≡◌, ◌+◌, ◌<◌, ◌^◌, ◌||◌, not, IsTrue, OnOk, IfOk, length};
 ghost use Rattle.search_rules.specs.Limits.{IsInLimit};
 ghost use Rattle.search_state.specs.Trail.{facts_in};
 ghost use Rattle.search_rules.specs.RuleLists.{context_in};
 ghost use Rattle.search_state.specs.Followed.{IsCurrent};
 ghost use Rattle.search_state.specs.Progress.{IsSearching};
-ghost use Rattle.tableau.specs.Inside.{IsAtQuestion, IsAdvanced, IsNotedAfter, HasNotedNew, IsSettled};
+ghost use Rattle.tableau.specs.Inside.{IsAtQuestion, IsAdvanced, IsNotedAfter, HasNotedNew, IsSettled, goes_on};
 
 use crate::NoMemory;
 use crate::closing::refutation;
@@ -15,7 +15,8 @@ use search_rules::SearchRules;
 use search_state::{Progress, Rested, Stepped, Tree};
 use std::alloc::{Allocator, Global};
 
-/// Makes the next step, if there is one, and notes what it put. If it `follows`, it finds the blocks of all nodes then.
+/// Makes the next step, if there is one, and notes what it put. If it `follows`, or the search ends, it finds the blocks
+/// of all nodes then.
 pub(crate) fn advance<A: Allocator + Copy>(
     heap: Global,
     progress: &mut Progress<'_, A>,
@@ -30,11 +31,11 @@ pub(crate) fn advance<A: Allocator + Copy>(
     requires countable { progress.old.steps + 1 < 2 ^ 64 }
     ensures advanced { IfOk result (IsAdvanced rules.now progress.old progress.new) }
     ensures noted { IfOk result (IsNotedAfter rules.now progress.old progress.new seen.old seen.new) }
-    ensures current { OnOk result
-        (IsTrue follows → IsCurrent progress.new.first (facts_in progress.new.entries) progress.new.found_blocks) }
+    ensures current { IfOk result (λ event. IsTrue (follows || not (goes_on event))
+        → IsCurrent progress.new.first (facts_in progress.new.entries) progress.new.found_blocks) }
 {
     let event = advance_once(heap, progress, seen, rules)?;
-    if !follows {
+    if !follows && event.goes_on() {
         return Ok(event);
     }
     progress.follow()?;
@@ -82,8 +83,27 @@ fn note_new<A: Allocator + Copy>(
     seen.note(rules, tree, at, before.min(last));
 }
 
-/// Looks whether there is a step, and makes none.
+/// Looks whether there is a step, makes none, and finds the blocks of all nodes.
 pub(crate) fn settle<A: Allocator + Copy>(
+    heap: Global,
+    progress: &mut Progress<'_, A>,
+    rules: &SearchRules<'_>,
+) -> Result<End, NoMemory>
+    requires in_limit { IsInLimit rules.now.ontology progress.old.query }
+    requires set { rules.now.set.limit ≡ length rules.now.ontology.axioms }
+    requires at { IsAtQuestion rules.now progress.old }
+    requires searching { IsSearching (context_in rules.now) progress.old }
+    ensures settled { IfOk result (IsSettled rules.now progress.old progress.new) }
+    ensures current { OnOk result
+        (IsCurrent progress.new.first (facts_in progress.new.entries) progress.new.found_blocks) }
+{
+    let end = rest(heap, progress, rules)?;
+    progress.follow()?;
+    Ok(end)
+}
+
+// Looks whether there is a step, and makes none.
+fn rest<A: Allocator + Copy>(
     heap: Global,
     progress: &mut Progress<'_, A>,
     rules: &SearchRules<'_>,

@@ -12,7 +12,6 @@ mod advancing;
 mod closing;
 mod search;
 mod seen;
-mod walker;
 
 pub use closed_search::{Refutation, Verdict, check};
 pub use search::{End, Event, Search};

@@ -1,19 +1,23 @@
 // The search.
-ghost use Rattle.std.specs.Prelude.{◌≡◌, ◌+◌, ◌<◌, ◌≤◌, ◌^◌, true, false, IfOk, OnOk, OnErr, length};
+ghost use Rattle.std.specs.Prelude.{◌≡◌, ◌+◌, ◌<◌, ◌≤◌, ◌^◌, [], ◌∷◌, true, false, IsTrue, ◌||◌, IfOk, OnOk, OnErr, length};
 ghost use Rattle.search_rules.specs.Limits.{IsInLimit};
 ghost use Rattle.search_rules.specs.RuleLists.{AreNumbersOf};
-ghost use Rattle.search_state.specs.Trail.{facts_in};
-ghost use Rattle.search_state.specs.Followed.{IsCurrent};
-ghost use Rattle.tableau.specs.SearchState.{context_of, tree_in, IsReachedBy, HasRun, HasBegun, IsSameSearch};
+ghost use Rattle.search_state.specs.Trail.{items_of};
+ghost use Rattle.tableau.specs.Seen.{AreOver, AreSeenIn};
+ghost use Rattle.tableau.specs.SearchState.{is_any, room_for, context_of, tree_in, IsReachedBy, HasRun, HasBegun};
+ghost use Rattle.tableau.specs.SearchState.{HasAllBlocks, IsSameSearch};
 ghost use Rattle.tableau.specs.Steps.{IsEvent, IsEnd, IsAtModel, ShowsApart};
 ghost use Rattle.tableau.specs.Bounds.{HasFewSteps, HasFewMarks};
+ghost use Rattle.tableau.specs.Inside.{goes_on as event_goes_on, is_spent, IsHalted};
 
-use crate::walker::Walker;
+use crate::advancing::{advance, settle};
+use crate::seen::SeenClasses;
 use crate::{NoMemory, Refutation};
 use axiom_sets::AxiomSet;
-use search_rules::SearchRules;
-use search_state::{Blocks, Effort, Tree};
-use shq_terms::Query;
+use search_laws::{few_marks, few_steps_without_going_back};
+use search_rules::{Rules, SearchRules};
+use search_state::{Blocks, Effort, Progress, Tree};
+use shq_terms::{On, Query};
 use std::alloc::{Allocator, Global};
 use std::marker::Model;
 
@@ -28,6 +32,15 @@ pub enum Event {
     Closed(Refutation),
 }
 
+impl Event {
+    /// Whether the search goes on.
+    pub(crate) fn goes_on(&self) -> bool
+        ensures { result ≡ event_goes_on self.now }
+    {
+        matches!(self, Event::Moved)
+    }
+}
+
 /// How a call of [`Search::run`] ended.
 #[derive(Drop)]
 pub enum End {
@@ -39,29 +52,72 @@ pub enum End {
     Spent,
 }
 
-/// A search whether a query follows from the axioms of a set. At the end of each call the blocks of all nodes are
-/// known, unless memory was refused.
+impl End {
+    // Whether the steps were spent.
+    fn is_spent(&self) -> bool
+        ensures { result ≡ is_spent self.now }
+    {
+        matches!(self, End::Spent)
+    }
+}
+
+/// A search whether a query follows from the axioms of a set. The blocks that are known may be those of the first nodes
+/// alone while steps are made; at the end of each call that makes some, those of all nodes are known.
 #[derive(Drop)]
 pub struct Search<'b, A: Allocator> {
-    walker: Walker<'b, A>,
+    heap: Global,
+    rules: &'b SearchRules<'b>,
+    query: &'b Query,
+    sub: u32,
+    not_sup: u32,
+    progress: Progress<'b, A>,
+    seen: SeenClasses,
+    steps: u64,
+    ended: bool,
+    failed: bool,
 }
 
 impl<'b, A: Allocator> Model for Search<'b, A> {
-    ghost use Rattle.std.specs.Prelude.{◌≡◌, false};
     ghost use Rattle.std.specs.Coded.{codes};
     ghost use Rattle.shq_terms.specs.Code.{concept_code};
     ghost use Rattle.axiom_sets.specs.Sets.{limited_code};
     ghost use Rattle.axiom_sets.specs.contracts.deps.Deps as deps;
     ghost use Rattle.closed_search.specs.TraceContract as traces;
-    ghost use Rattle.tableau.specs.SearchState.{SearchState, HasAllBlocks};
+    ghost use Rattle.tableau.specs.SearchState.{SearchState};
 
     ghost Value = { SearchState };
 
     ghost coded = { Prim.hlevel (codes, concept_code, limited_code, deps.the_row.coded, traces.the_row.coded) };
 
-    ghost view = { λ s. s.walker };
+    ghost view = { λ s. record {
+      rules = s.rules.now;
+      query = s.query.now;
+      sub = s.sub;
+      not_sup = s.not_sup;
+      first = s.progress.first;
+      entries = s.progress.entries;
+      found_blocks = s.progress.found_blocks;
+      seen = s.seen;
+      steps = s.steps;
+      ended = s.ended;
+      failed = s.failed;
+    } };
 
-    ghost invariant = { λ s. s.walker.failed ≡ false → HasAllBlocks s.walker };
+    ghost use Rattle.tableau.specs.Inside.{IsKept};
+
+    ghost invariant = { λ s. IsKept (record {
+      rules = s.rules.now;
+      query = s.query.now;
+      sub = s.sub;
+      not_sup = s.not_sup;
+      first = s.progress.first;
+      entries = s.progress.entries;
+      found_blocks = s.progress.found_blocks;
+      seen = s.seen;
+      steps = s.steps;
+      ended = s.ended;
+      failed = s.failed;
+    }) s.progress };
 }
 
 impl<'b, A: Allocator + Copy> Search<'b, A> {
@@ -83,10 +139,26 @@ impl<'b, A: Allocator + Copy> Search<'b, A> {
         requires numbers { AreNumbersOf rules.now query.now sub not_sup }
         requires set { rules.now.set.limit ≡ length rules.now.ontology.axioms }
         requires in_limit { IsInLimit rules.now.ontology query.now }
-        ensures { IfOk result (HasBegun rules.entry.now query.entry.now sub not_sup) }
+        ensures begun { IfOk result (HasBegun rules.entry.now query.entry.now sub not_sup) }
+        ensures current { IfOk result HasAllBlocks }
     {
+        rules.is_ready();
+        let _ = rules.concepts();
+        let at = rules.node_in_question(query);
+        let progress = Progress::new_in(alloc, heap, rules, query, at, sub, not_sup)?;
+        let room = room_for(rules, query, not_sup);
+        let seen = first_seen(heap, rules, progress.tree(), at, room)?;
         Ok(Search {
-            walker: Walker::new_in(alloc, heap, rules, query, sub, not_sup)?,
+            heap,
+            rules,
+            query,
+            sub,
+            not_sup,
+            progress,
+            seen,
+            steps: 0,
+            ended: false,
+            failed: false,
         })
     }
 
@@ -107,8 +179,9 @@ impl<'b, A: Allocator + Copy> Search<'b, A> {
         ensures failed { OnErr result (self.new.failed ≡ true) }
         ensures ended { OnErr result (self.new.ended ≡ true) }
         ensures kept { OnErr result (self.new.steps ≡ self.old.steps) }
+        ensures current { self.new.failed ≡ false → HasAllBlocks self.new }
     {
-        self.walker.step(true)
+        self.advance(true)
     }
 
     /// Makes steps until the search ends or so many are made.
@@ -129,8 +202,74 @@ impl<'b, A: Allocator + Copy> Search<'b, A> {
         ensures whole { OnOk result (self.new.failed ≡ false) }
         ensures failed { OnErr result (self.new.failed ≡ true) }
         ensures ended { OnErr result (self.new.ended ≡ true) }
+        ensures current { self.new.failed ≡ false → HasAllBlocks self.new }
     {
-        self.walker.run(fuel)
+        for _made in 0..fuel {
+            match self.advance(false)? {
+                Event::Moved => {}
+                Event::Saturated => return Ok(End::Saturated),
+                Event::Closed(refutation) => return Ok(End::Closed(refutation)),
+            }
+        }
+        self.settle()
+    }
+
+    // Makes the next step, if there is one. If it `follows`, or the search ends, it finds the blocks of all nodes then.
+    fn advance(&mut self, follows: bool) -> Result<Event, NoMemory>
+        requires goes_on { self.old.ended ≡ false }
+        requires whole { self.old.failed ≡ false }
+        requires countable { self.old.steps + 1 < 2 ^ 64 }
+        ensures same { IsSameSearch self.old self.new }
+        ensures event { IfOk result (IsEvent self.old self.new) }
+        ensures few_steps { OnOk result (HasFewSteps self.new) }
+        ensures few_marks { OnOk result (HasFewMarks self.new) }
+        ensures whole { OnOk result (self.new.failed ≡ false) }
+        ensures failed { OnErr result (self.new.failed ≡ true) }
+        ensures ended { OnErr result (self.new.ended ≡ true) }
+        ensures kept { OnErr result (self.new.steps ≡ self.old.steps) }
+        ensures current { IsTrue (follows || self.new.ended) → self.new.failed ≡ false → HasAllBlocks self.new }
+    {
+        self.failed = true;
+        self.ended = true;
+        let event = advance(
+            self.heap,
+            &mut self.progress,
+            &mut self.seen,
+            self.rules,
+            follows,
+        )?;
+        self.steps = self.progress.steps();
+        self.ended = !event.goes_on();
+        self.failed = false;
+
+        // What bounds the count stands after each step.
+        self.steps();
+        Ok(event)
+    }
+
+    // Ends where no step is left, once the fuel is spent, and finds the blocks of all nodes.
+    fn settle(&mut self) -> Result<End, NoMemory>
+        requires goes_on { self.old.ended ≡ false }
+        requires whole { self.old.failed ≡ false }
+        ensures same { IsSameSearch self.old self.new }
+        ensures steps { self.new.steps ≡ self.old.steps }
+        ensures halted { IfOk result (IsHalted self.old self.new) }
+        ensures few_steps { OnOk result (HasFewSteps self.new) }
+        ensures few_marks { OnOk result (HasFewMarks self.new) }
+        ensures whole { OnOk result (self.new.failed ≡ false) }
+        ensures failed { OnErr result (self.new.failed ≡ true) }
+        ensures ended { OnErr result (self.new.ended ≡ true) }
+        ensures current { self.new.failed ≡ false → HasAllBlocks self.new }
+    {
+        self.failed = true;
+        self.ended = true;
+        let end = settle(self.heap, &mut self.progress, self.rules)?;
+        self.ended = !end.is_spent();
+        self.failed = false;
+
+        // What bounds the count stands after this look.
+        self.steps();
+        Ok(end)
     }
 
     /// How many steps were made. They lead to the trail, and are few for the nodes and the concepts of the search until
@@ -142,7 +281,9 @@ impl<'b, A: Allocator + Copy> Search<'b, A> {
         ensures few_steps { self.now.failed ≡ false → HasFewSteps self.now }
         ensures few_marks { self.now.failed ≡ false → HasFewMarks self.now }
     {
-        self.walker.steps()
+        few_steps_without_going_back();
+        few_marks();
+        self.steps
     }
 
     /// The classes of the ontology, each number greater by one, of which the search, which has ended at a model, shows
@@ -158,19 +299,23 @@ impl<'b, A: Allocator + Copy> Search<'b, A> {
         requires ended { IsAtModel self.now }
         ensures { IfOk result (ShowsApart self.now) }
     {
-        self.walker.classes_apart()
+        if self.not_sup != 0 || !is_on_any(self.query) {
+            return Ok(None);
+        }
+        let classes = self.seen.others(self.heap)?;
+        Ok(Some(classes))
     }
 
     /// What was done beside the steps. No contract speaks of these counts.
     pub fn effort(&self) -> Effort {
-        self.walker.effort()
+        self.progress.effort()
     }
 
     /// Whether the search has ended: at a model, at a refutation, or since memory was refused.
     pub fn ended(&self) -> bool
         ensures { result ≡ self.now.ended }
     {
-        self.walker.ended()
+        self.ended
     }
 
     /// The tree, whose trail is reached by as many legal steps as were made, unless memory was refused.
@@ -178,22 +323,55 @@ impl<'b, A: Allocator + Copy> Search<'b, A> {
         ensures tree { result.now ≡ tree_in self.now }
         ensures first { self.now.failed ≡ false → result.now.first ≡ (context_of self.now).first }
     {
-        self.walker.tree()
+        self.progress.tree()
     }
 
-    /// The blocks of all nodes of the tree, unless memory was refused.
+    /// The blocks that are known: those of all nodes of the tree, as [`Search::new_in`], [`Search::step`] and
+    /// [`Search::run`] promise, unless memory was refused.
     pub fn found_blocks(&self) -> &Blocks
-        ensures blocks { result.now ≡ self.now.found_blocks }
-        ensures current { self.now.failed ≡ false
-            → IsCurrent self.now.first (facts_in self.now.entries) self.now.found_blocks }
+        ensures { result.now ≡ self.now.found_blocks }
     {
-        self.walker.found_blocks()
+        self.progress.found_blocks()
     }
 
     /// The rules of the search.
     pub fn rules(&self) -> &SearchRules<'b>
         ensures { result.now ≡ self.now.rules }
     {
-        self.walker.rules()
+        self.rules
+    }
+}
+
+// What the first trail puts.
+fn first_seen<A: Allocator + Copy>(
+    heap: Global,
+    rules: &SearchRules<'_>,
+    tree: &Tree<A>,
+    at: u32,
+    room: u32,
+) -> Result<SeenClasses, NoMemory>
+    ensures over { IfOk result (AreOver room) }
+    ensures seen { IfOk result (AreSeenIn at rules.now.table (items_of tree.now.entries ∷ [])) }
+{
+    let mut seen = SeenClasses::new(heap, room)?;
+    seen.note(rules, tree, at, 0);
+    Ok(seen)
+}
+
+// Whether the query is on any element.
+fn is_on_any(query: &Query) -> bool
+    ensures { result ≡ is_any query.now.on }
+{
+    matches!(query.on, On::Any)
+}
+
+// Of how many classes is noted what a run has to do with them.
+fn room_for(rules: &SearchRules<'_>, query: &Query, not_sup: u32) -> u32
+    ensures { result ≡ room_for (length rules.now.ontology.classes) query.now.on not_sup }
+{
+    if is_on_any(query) && not_sup == 0 {
+        rules.ontology().class_count()
+    } else {
+        0
     }
 }

@@ -1,13 +1,11 @@
-use Rattle.tableau.proofs.Kept.{rest_closed, rest_closing}
+use Rattle.tableau.proofs.Kept.{settled_first, followed_settled}
 use Rattle.tableau.proofs.advancing.settle.Goals as goal
 
-pub returns-in_ok-refutation-in-Closed : goal.returns-in_ok-refutation-in-Closed
-returns-in_ok-refutation-in-Closed g c =
-    rest_closed c.args.rules.now c.args.progress.now c.rest.new.self c.refutation.new.progress
-    c.in_ok-refutation-in-Closed.field-0 c.in_ok-rest.field-0 c.in-Closed.is c.in_ok-rest.ensures
-    c.in_ok-refutation-in-Closed.ensures.left c.in_ok-refutation-in-Closed.ensures.refutes
+pub follow-requires : goal.follow-requires
+follow-requires g c =
+    settled_first c.args.rules.now c.args.progress.now c.rest.new.progress c.in_ok-end.end c.in_ok-end.ensures
 
-pub refutation-requires : goal.refutation-requires
-refutation-requires g c =
-    rest_closing c.args.rules.now c.args.progress.now c.rest.new.self c.requires.in_limit c.requires.set c.requires.at
-    c.requires.searching c.in_ok-rest.field-0 c.in-Closed.is c.in_ok-rest.ensures
+pub returns-clause-settled : goal.returns-clause-settled
+returns-clause-settled g c =
+    followed_settled c.args.rules.now c.args.progress.now c.rest.new.progress c.follow.new.self
+    c.in_ok-follow.ensures.followed c.in_ok-follow.ensures.first c.in_ok-end.end c.in_ok-end.ensures

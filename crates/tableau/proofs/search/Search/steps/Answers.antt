@@ -1,7 +1,7 @@
 use Rattle.std.proofs.Common.{subst}
 use Rattle.tableau.specs.SearchState.{SearchState, question_of, context_of, trail_of}
 use Rattle.tableau.specs.Inside.{IsKept}
-use Rattle.tableau.proofs.walker.Walker.steps.Goals as goal
+use Rattle.tableau.proofs.search.Search.steps.Goals as goal
 
 pub returns-clause-few_steps : goal.returns-clause-few_steps
 returns-clause-few_steps g c = λ whole.

@@ -2,7 +2,7 @@ use Rattle.std.proofs.Common.{◌≡◌, false, not, subst, ap, ◌∙◌}
 use Rattle.tableau.specs.SearchState.{SearchState}
 use Rattle.tableau.specs.Steps.{IsEvent}
 use Rattle.tableau.proofs.Kept.{state, event_is, stepped_kept}
-use Rattle.tableau.proofs.walker.Walker.step.Goals as goal
+use Rattle.tableau.proofs.search.Search.advance.Goals as goal
 
 pub returns-clause-event : goal.returns-clause-event
 returns-clause-event g c =

@@ -5,7 +5,7 @@ use Rattle.tableau.specs.Steps.{AsksForAny}
 use Rattle.tableau.proofs.Kept.{state}
 use Rattle.tableau.specs.Inside.{IsKept}
 use Rattle.tableau.proofs.Apart.{any_is, asks_for_any, left_out_classes}
-use Rattle.tableau.proofs.walker.Walker.classes_apart.Goals as goal
+use Rattle.tableau.proofs.search.Search.classes_apart.Goals as goal
 
 pub returns : goal.returns
 returns g c =

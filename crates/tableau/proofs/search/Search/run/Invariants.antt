@@ -1,7 +1,7 @@
 use Rattle.std.proofs.Common.{◌≡◌, ◌+◌, false}
 use Rattle.tableau.specs.SearchState.{IsSameSearch}
 use Rattle.tableau.specs.Steps.{Runs}
-use Rattle.tableau.proofs.walker.Walker.walk.Given as goal
+use Rattle.tableau.proofs.search.Search.run.Given as goal
 
 abbrev pub invariant-loop-made : goal.invariant-loop-made
 invariant-loop-made g l = record {

@@ -3,7 +3,7 @@ use Rattle.search_state.specs.Trail.{items_of}
 use Rattle.tableau_specs.specs.Items.{facts_of}
 use Rattle.tableau.specs.Seen.{SeenSets, HasNoted}
 use Rattle.tableau.proofs.Noted.{over_at_start, seen_at_start}
-use Rattle.tableau.proofs.walker.first_seen.Goals as goal
+use Rattle.tableau.proofs.search.first_seen.Goals as goal
 
 pub returns-clause-over : goal.returns-clause-over
 returns-clause-over g c =

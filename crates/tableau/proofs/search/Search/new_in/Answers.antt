@@ -4,7 +4,7 @@ use Rattle.tableau.specs.Seen.{AreOver, AreSeenIn}
 use Rattle.search_rules.specs.RuleLists.{context_in}
 use Rattle.search_state.specs.Progress.{IsAsked}
 use Rattle.tableau.proofs.Kept.{begun_is_kept, is_asked}
-use Rattle.tableau.proofs.walker.Walker.new_in.Goals as goal
+use Rattle.tableau.proofs.search.Search.new_in.Goals as goal
 
 pub new_in-requires : goal.new_in-requires
 new_in-requires g c =
