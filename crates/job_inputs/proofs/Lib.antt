@@ -6,6 +6,8 @@ pub mod Stops
 pub mod Messages
 pub mod NoFault
 pub mod ReadInLimit
+pub mod Inputs
+pub mod Ends
 pub use Rattle.text_laws.proofs.InLimit
 pub use Rattle.text_laws.proofs.LongerDocuments
 pub use Rattle.text_laws.proofs.Additions

@@ -4,8 +4,10 @@ pub mod Complaints
 pub mod Unread
 pub mod Asked
 pub mod Replies
+pub mod Answered
 pub mod Rest
 pub mod Questions
+pub mod Inputs
 pub mod Refusals
 pub mod Laws
 pub use Rattle.text_laws.specs.LimitLaws

@@ -6,14 +6,12 @@ use Rattle.shq_terms.specs.declared.axioms.Query.{Query as Asked}
 use Rattle.text_laws.specs.Refusal.{Refusal}
 use Rattle.text_laws.specs.DocumentContext.{DocumentContext}
 use Rattle.job_inputs.specs.Answer.{no_memory, complaint_answer, IsAnswer}
-use Rattle.job_inputs.specs.Asked.{Reply, refused_document, refused_query}
+use Rattle.job_inputs.specs.Asked.{Reply}
 use Rattle.job_inputs.specs.Complaints.{complaint}
 use Rattle.job_inputs.specs.Questions.{Text, IsQuestion, IsRefusedQuestion, IsDocumentAlone, IsNotAlone}
 use Rattle.job_inputs.specs.Replies.{reply_answer}
 use Rattle.job_inputs.specs.declared.complaint.Place.TheVariants.{Document}
 use Rattle.job_inputs.specs.declared.status.Status.{Status}
-use Rattle.job_inputs.specs.declared.unread.Unread.{Unread}
-use Rattle.job_inputs.specs.declared.unread.Unread.TheVariants as U
 
 -- the bytes are a document alone, and this is so of its ontology
 pub record OnDocument (is_so : Listed → Type 0) (bytes : List ℕ) : Type 0 where
@@ -46,11 +44,3 @@ pub data HasBegun {E : Type 0} (question : Text) (bytes : List ℕ) (log : List 
 pub record IsOutOfMemory (out : List ℕ) (begun : Type 0) : Type 0 where
   pub text : out ≡ no_memory
   pub log_is : begun
-
--- why a question is not answered, and then nothing was asked; or memory was refused, and then this is so of what was
-abbrev pub IsUnanswered : {E : Type 0} → Text → List ℕ → List E → (Listed → Asked → Type 0) → Unread → Type 0
-IsUnanswered question bytes log is_so (U.Document e) = IsRefusedQuestion question bytes (refused_document e)
-    × (log ≡ [])
-IsUnanswered question bytes log is_so (U.Query e) = IsRefusedQuestion question bytes (refused_query e) × (log ≡ [])
-IsUnanswered question bytes log is_so (U.Line n) = ⊥
-IsUnanswered question bytes log is_so U.NoMemory = HasBegun question bytes log is_so

@@ -8,10 +8,14 @@
 //! - **Answers.** Each job answers a status and one text. A document or a query that is refused is answered in the same
 //!   way by each of them: with the sort of the refusal, what is wrong, and where. Longer answers are put together of
 //!   bytes, numbers and sets of axioms (`pieces`).
+//! - **Jobs.** A [`Job`] says what it reads of the bytes, and how it answers that. [`answer_to`] does what all jobs have
+//!   in common: it reads, answers what is refused, lets the job answer the rest, and says so where memory is refused.
 #![tactic(auto)]
 
+mod asking;
 mod complaint;
 mod documents;
+mod job;
 mod laws;
 mod message;
 mod pieces;
@@ -22,8 +26,10 @@ mod text;
 mod unread;
 mod verdict;
 
+pub use asking::{Input, read_question_input};
 pub use complaint::{Complaint, Place, Sort, complaint_of};
 pub use documents::{document, query_on};
+pub use job::{Job, answer_to};
 pub use laws::{
     documents_alone_are_not_refused, gaps_have_no_stray, questions_are_read_in_one_way,
 };

@@ -1,6 +1,7 @@
 // Documents alone, and questions on them.
 ghost use Rattle.std.specs.Prelude.{◌≡◌, ◌≤◌, IfOk, IfErr, IfSome, IsNone, OnErr, drop, length};
 ghost use Rattle.shq_terms.specs.Concept.{bottom};
+ghost use Rattle.job_inputs.specs.Limits.{IsOntologyInLimit};
 ghost use Rattle.job_inputs.specs.Rest.{IsOnlyGap, IsStrayLine};
 ghost use Rattle.job_inputs.specs.Questions.{question_text, has_element, follows, IsDocumentAlone, IsReadQuestion};
 ghost use Rattle.job_inputs.specs.Questions.{IsUnreadDocument, IsUnreadQuestion};
@@ -31,6 +32,7 @@ pub enum WrittenQuestion<'a> {
 pub fn read_document(alloc: Global, bytes: &[u8]) -> Result<(Ontology, Context), Unread>
     requires { length bytes.now ≤ 4294967293 }
     ensures read { IfOk result (λ r. IsDocumentAlone bytes.now r.0 r.1) }
+    ensures within { IfOk result (λ r. IsOntologyInLimit r.0) }
     ensures unread { IfErr result (IsUnreadDocument bytes.now) }
 {
     let (ontology, context, end) = document(alloc, bytes)?;

@@ -1,6 +1,7 @@
 use Rattle.std.proofs.Common.{sym, subst}
 use Rattle.std.proofs.lemmas.Result.{err_from_is_err_and}
 use Rattle.text_laws.specs.Refusal.TheVariants.{BadShape}
+use Rattle.text_laws.proofs.InLimit.{documents_in_limit}
 use Rattle.job_inputs.specs.Questions.{IsNotAlone, more}
 use Rattle.job_inputs.proofs.Refused.{undocumented}
 use Rattle.job_inputs.proofs.reading.read_document.Goals as goal
@@ -18,3 +19,8 @@ returns-in-Some-clause-unread c =
     let end = c.in_ok-ontology.end in
     subst (λ line. IsNotAlone c.args.bytes.now (BadShape line)) (sym found.2)
     (more o kept end found.0 c.in_ok-ontology.ensures.document found.1)
+
+pub returns-in-None-clause-within : goal.returns-in-None-clause-within
+returns-in-None-clause-within c =
+    documents_in_limit c.args.bytes.now c.in_ok-ontology.ontology c.in_ok-ontology.context c.in_ok-ontology.end
+    c.in_ok-ontology.ensures.document
