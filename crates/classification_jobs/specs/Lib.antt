@@ -1,5 +1,6 @@
 pub mod Classifications
 pub mod Answering
+pub mod Told
 pub mod Laws
 pub mod TaxonomyLists
 pub mod Taxonomies

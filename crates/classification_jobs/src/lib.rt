@@ -16,7 +16,7 @@ mod laws;
 mod taxonomy_laws;
 mod taxonomy_text;
 
-pub use answering::classify;
+pub use answering::Classify;
 pub use groups::{Group, Hierarchy, Taxonomy};
 pub use job_inputs::{Status, Text, WrittenQuestion};
 pub use laws::taxonomies_are_answered_alike;
