@@ -9,6 +9,6 @@ pub mod Replied
 pub mod Logged
 pub mod Least
 pub mod Accepted
-pub mod Answered
+pub mod Asked
 pub mod Exclusive
 pub use Rattle.shq_oracle.proofs.Named

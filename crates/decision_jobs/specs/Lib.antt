@@ -6,6 +6,7 @@ pub mod VerdictLaws
 pub mod Decisions
 pub mod Deciding
 pub mod Answering
+pub mod Told
 pub mod Laws
 pub use Rattle.shq_oracle.specs.Decided
 pub use Rattle.shq_oracle.specs.declared.answer.Answer

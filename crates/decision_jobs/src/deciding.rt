@@ -37,28 +37,12 @@ pub(crate) fn decide(
     ensures logged { IfOk result (λ d. IsLogged ontology.now query.now budget d log.new) }
     ensures unlogged { OnErr result (log.new ≡ []) }
 {
+    let all = AxiomSet::full(alloc, ontology.axiom_count())?;
     let begun = mem::replace(log, RunLog::new(alloc));
     let mut oracle = Oracle::new(alloc, ontology, budget, begun);
-    let outcome = ask(alloc, &mut oracle, ontology, query);
+    let outcome = oracle.decide(&all, query);
     *log = oracle.into_log();
     outcome
-}
-
-fn ask(
-    alloc: Global,
-    oracle: &mut Oracle<'_>,
-    ontology: &Ontology,
-    query: &Query,
-) -> Result<Answer, NoMemory>
-    requires same { oracle.old.ontology ≡ ontology.now }
-    requires in_limit { IsInLimit ontology.now query.now }
-    requires unlogged { oracle.old.log ≡ [] }
-    ensures decision { IfOk result (IsDecision ontology.now query.now) }
-    ensures logged { IfOk result (λ d. IsLogged ontology.now query.now oracle.old.budget d oracle.new.log) }
-    ensures unlogged { OnErr result (oracle.new.log ≡ []) }
-{
-    let all = AxiomSet::full(alloc, ontology.axiom_count())?;
-    oracle.decide(&all, query)
 }
 
 /// How a run ends that decides so.

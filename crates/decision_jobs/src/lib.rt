@@ -17,7 +17,7 @@ mod laws;
 mod verdict_laws;
 mod verifying;
 
-pub use answering::answer;
+pub use answering::Decide;
 pub use certificate::Certificate;
 pub use laws::{a_no_does_not_follow, a_yes_follows, verdicts_exclude_each_other};
 pub use shq_oracle::RunLog;
