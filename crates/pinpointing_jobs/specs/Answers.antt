@@ -1,11 +1,13 @@
 -- What is answered to the question which sets of axioms are wanted, and to a workload.
-use Rattle.std.specs.Prelude.{◌⊎◌, ℕ, List, codes}
+use Rattle.std.specs.Prelude.{◌≡◌, ◌⊎◌, ℕ, ◌≤◌, List, codes}
 use Rattle.shq_terms.specs.Listed.{Listed}
 use Rattle.shq_terms.specs.declared.axioms.Query.{Query as Asked}
 use Rattle.workload.specs.WorkloadText.{workload_text}
 use Rattle.query_asker.specs.Entry.{Entry}
 use Rattle.query_asker.specs.HonestLog.{IsPinpointingLog}
 use Rattle.job_inputs.specs.declared.status.Status.{Status}
+use Rattle.job_inputs.specs.declared.unread.Unread.{Unread}
+use Rattle.job_inputs.specs.declared.unread.Unread.TheVariants.{NoMemory as OutOfMemory}
 use Rattle.job_inputs.specs.Questions.{follows, IsQuestion}
 use Rattle.job_inputs.specs.Refusals.{IsRefused, HasBegun}
 use Rattle.pinpointing_jobs.specs.declared.wanted.Wanted.{Wanted}
@@ -41,6 +43,10 @@ pub record IsMeasured (number budget : ℕ) (out : List ℕ) (s : Status) (log :
   pub query : Asked
   pub is_question : IsQuestion (follows workload_query) (workload_text number) ontology query
   pub counted : IsCounted number ontology query budget log s out
+
+-- the text of the number and its query are not read for want of memory alone
+abbrev pub IsWant : ℕ → List ℕ → Unread → Type 0
+IsWant number bytes u = bytes ≡ workload_text number → number ≤ 4000 → u ≡ OutOfMemory
 
 -- what is answered to a workload: its counts, or that memory was refused
 abbrev pub AnswersWorkload : ℕ → ℕ → List ℕ → Status → List Entry → Type 0

@@ -2,6 +2,8 @@ pub mod Memory
 pub mod Begun
 pub mod Asked
 pub mod Answers
+pub mod QuestionTold
+pub mod WorkloadTold
 pub mod Laws
 pub mod WorkloadSets
 pub mod Known

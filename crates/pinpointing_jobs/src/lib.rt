@@ -23,14 +23,14 @@ mod whole_text;
 mod workload_laws;
 mod workloads;
 
-pub use asking::{Input, read_input, read_question_input};
+pub use asking::read_input;
 pub use axiom_lines::unite_with;
 pub use counting::count_answer;
 pub use laws::{lists_are_unique, workloads_are_questions};
 pub use list_laws::{counts_are_right, lists_are_right, whole_lists_are_done};
 pub use listing::list_answer;
 pub use module_extract::module;
-pub use pinpointing::pinpoint;
+pub use pinpointing::Pinpoint;
 pub use query_asker::{Answer, Asker, Known, Oracle};
 pub use repair_list::{Found, enumerate, repairs};
 pub use searching::search_with;
