@@ -2,7 +2,6 @@ pub mod Members
 pub mod Blocks
 pub mod Explained
 pub mod Asked
-pub mod Replied
 pub mod Answered
 pub mod Realized
 pub mod Unique

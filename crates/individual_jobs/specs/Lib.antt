@@ -6,5 +6,6 @@ pub mod Answers
 pub mod Searching
 pub mod Realizations
 pub mod Realizing
+pub mod Told
 pub mod Laws
 pub mod Examples

@@ -1,25 +1,15 @@
 -- What is known while the jobs `realize` and `instances` are answered.
-use Rattle.std.specs.Prelude.{◌≡◌, ℕ, [], List}
+use Rattle.std.specs.Prelude.{ℕ, List}
 use Rattle.shq_terms.specs.Concept.{Concept}
 use Rattle.shq_terms.specs.Listed.{Listed}
 use Rattle.realizer.specs.Entry.{Entry}
-use Rattle.job_inputs.specs.Questions.{IsNotAlone}
 use Rattle.job_inputs.specs.declared.status.Status.{Status}
-use Rattle.job_inputs.specs.declared.unread.Unread.{Unread}
-use Rattle.job_inputs.specs.declared.unread.Unread.TheVariants as U
 use Rattle.individual_jobs.specs.Ends.{IsEnd}
-use Rattle.individual_jobs.specs.Realizations.{IsRealized, IsUnrealized, BeginsRealization, IsFound, IsUnfound}
+use Rattle.individual_jobs.specs.Realizations.{IsRealized, IsUnrealized, IsFound, IsUnfound}
 
 -- the types on an ontology
 abbrev pub IsRealizedOn : ℕ → Listed → List Entry → Status → List ℕ → Type 0
 IsRealizedOn budget o log s out = IsEnd (IsRealized budget out log o) (IsUnrealized budget out log o) s
-
--- why a document is not answered, and then nothing was asked; or memory was refused
-abbrev pub IsUnrealizedBy : ℕ → List ℕ → List Entry → Unread → Type 0
-IsUnrealizedBy budget bytes log (U.Document e) = IsNotAlone bytes e × (log ≡ [])
-IsUnrealizedBy budget bytes log (U.Query e) = ⊥
-IsUnrealizedBy budget bytes log (U.Line n) = ⊥
-IsUnrealizedBy budget bytes log U.NoMemory = BeginsRealization budget bytes log
 
 -- the instances on an ontology
 abbrev pub IsFoundOn : ℕ → Listed → Concept → List Entry → Status → List ℕ → Type 0

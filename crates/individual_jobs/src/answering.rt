@@ -1,98 +1,70 @@
 // From the question and the bytes of a document to the reasons.
-ghost use Rattle.std.specs.Prelude.{◌≡◌, ◌≤◌, [], true, false, IfOk, IfErr, OnErr, length};
-ghost use Rattle.job_inputs.specs.Limits.{IsInLimit};
-ghost use Rattle.job_inputs.specs.Answer.{text_bytes, is_fault};
-ghost use Rattle.job_inputs.specs.Questions.{has_element};
-ghost use Rattle.job_inputs.specs.Refusals.{IsUnanswered};
-ghost use Rattle.individual_jobs.specs.Answers.{HasBlocks, OnClass, AnswersWhy};
-ghost use Rattle.individual_jobs.specs.Searching.{AreInLimit, AreWritable, IsAnswerBy, IsExplainedOn};
+ghost use Rattle.std.specs.Prelude.{◌≡◌, true, IfOk, OnErr};
+ghost use Rattle.job_inputs.specs.Answer.{text_bytes};
+ghost use Rattle.individual_jobs.specs.Searching.{AreWritable, IsAnswerBy};
 
 use crate::searching::{Explained, explain_all};
 use crate::writing::reasons_text;
-use job_inputs::{Status, Text, Unread, WrittenQuestion, unread_reply};
-use pinpointing_jobs::{Input, read_question_input};
+use job_inputs::{Input, Job, Status, Text, Unread, WrittenQuestion, read_question_input};
 use realizer::RunLog;
-use shq_terms::{Concept, NoMemory, Ontology};
+use shq_terms::{NoMemory, Ontology};
 use std::alloc::Global;
 
-/// Why the individuals of the document that the bytes are, are in a class expression: how the run ends, and for each
-/// instance in list order all its justifications as text. The log gets what was asked.
+/// The job `why`: for each instance of a class expression, in list order, all justifications of its being one.
 ///
 /// `class` is the text of the class expression, and `budget` the number of steps and nodes that the searches may take
 /// together. Where it does not suffice, the text is `undecided`, and the run ends `Undecided`.
-pub fn why(
-    alloc: Global,
-    class: &str,
-    budget: u32,
-    bytes: &[u8],
-    log: &mut RunLog,
-) -> (Status, Text)
-    requires small { length bytes.now ≤ 4294967293 }
-    requires unlogged { log.old ≡ [] }
-    ensures answer { AnswersWhy class.now budget bytes.now (text_bytes result.1) result.0 log.new }
-    ensures no_fault { is_fault result.0 ≡ false }
-{
-    match explained(alloc, class, budget, bytes, log) {
-        Ok(answer) => answer,
-        Err(unread) => unread_reply(alloc, unread),
+#[derive(Clone, Copy)]
+pub struct Why<'a> {
+    pub class: &'a str,
+    pub budget: u32,
+}
+
+impl<'a> Job for Why<'a> {
+    ghost use Rattle.std.specs.Prelude.{◌≡◌, []};
+    ghost use Rattle.job_inputs.specs.Limits.{IsInLimit};
+    ghost use Rattle.job_inputs.specs.Inputs.{IsInputOf, IsNoInputOf};
+    ghost use Rattle.job_inputs.specs.Questions.{has_element};
+    ghost use Rattle.individual_jobs.specs.Answers.{HasBlocks, AnswersWhy};
+    ghost use Rattle.individual_jobs.specs.Searching.{IsExplainedOn};
+    ghost use Rattle.individual_jobs.specs.Told.{reasons_told};
+
+    type Input = Input;
+
+    type Log = RunLog;
+
+    ghost is_input = { λ job bytes i. IsInputOf (has_element job.class.now) bytes i };
+
+    ghost is_unread = { λ job bytes u. IsNoInputOf (has_element job.class.now) bytes u };
+
+    ghost can_answer = { λ job i. IsInLimit i.ontology i.query };
+
+    ghost is_unlogged = { λ log. log ≡ [] };
+
+    ghost answers = { λ job i log s out. IsExplainedOn job.budget i.ontology i.query.sub log s out };
+
+    ghost begins = { λ job i log. HasBlocks i.ontology i.query.sub job.budget log };
+
+    ghost tells = { λ job bytes out s log. AnswersWhy job.class.now job.budget bytes out s log };
+
+    ghost told = { λ job bytes out s log h. reasons_told job.class.now job.budget bytes out log s h };
+
+    fn read(&self, alloc: Global, bytes: &[u8]) -> Result<Input, Unread> {
+        read_question_input(alloc, WrittenQuestion::HasElement(self.class), bytes)
     }
-}
 
-// The reasons, unless the document or the class expression is refused.
-fn explained(
-    alloc: Global,
-    class: &str,
-    budget: u32,
-    bytes: &[u8],
-    log: &mut RunLog,
-) -> Result<(Status, Text), Unread>
-    requires small { length bytes.now ≤ 4294967293 }
-    requires unlogged { log.old ≡ [] }
-    ensures answer { IfOk result
-        (λ a. OnClass class.now bytes.now (λ o c. IsExplainedOn budget o c log.new a.0 (text_bytes a.1))) }
-    ensures unread { IfErr result
-        (IsUnanswered (has_element class.now) bytes.now log.new (λ o q. HasBlocks o q.sub budget log.new)) }
-{
-    let input = read_question_input(alloc, WrittenQuestion::HasElement(class), bytes)?;
-    let answer = explained_input(alloc, budget, input, log)?;
-    Ok(answer)
-}
-
-// The reasons of what was read.
-fn explained_input(
-    alloc: Global,
-    budget: u32,
-    input: Input,
-    log: &mut RunLog,
-) -> Result<(Status, Text), NoMemory>
-    requires in_limit { IsInLimit input.ontology input.query }
-    requires unlogged { log.old ≡ [] }
-    ensures answer { IfOk result
-        (λ a. IsExplainedOn budget input.ontology input.query.sub log.new a.0 (text_bytes a.1)) }
-    ensures begun { OnErr result (HasBlocks input.ontology input.query.sub budget log.new) }
-{
-    let outcome = explained_on(alloc, budget, &input.ontology, &input.query.sub, log);
-    drop(input);
-    outcome
-}
-
-// The reasons on an ontology.
-fn explained_on(
-    alloc: Global,
-    budget: u32,
-    ontology: &Ontology,
-    class: &Concept,
-    log: &mut RunLog,
-) -> Result<(Status, Text), NoMemory>
-    requires in_limit { AreInLimit ontology.now class.now }
-    requires unlogged { log.old ≡ [] }
-    ensures answer { IfOk result (λ a. IsExplainedOn budget ontology.now class.now log.new a.0 (text_bytes a.1)) }
-    ensures begun { OnErr result (HasBlocks ontology.now class.now budget log.new) }
-{
-    let explained = explain_all(alloc, ontology, class, budget, log)?;
-    let outcome = answer_of(alloc, ontology, &explained);
-    drop(explained);
-    outcome
+    fn answer(
+        &self,
+        alloc: Global,
+        input: &mut Input,
+        log: &mut RunLog,
+    ) -> Result<(Status, Text), NoMemory> {
+        let ontology = &input.ontology;
+        let explained = explain_all(alloc, ontology, &input.query.sub, self.budget, log)?;
+        let outcome = answer_of(alloc, ontology, &explained);
+        drop(explained);
+        outcome
+    }
 }
 
 // What is answered.

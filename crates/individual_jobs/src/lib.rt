@@ -19,9 +19,9 @@ mod retrieval;
 mod searching;
 mod writing;
 
-pub use answering::why;
+pub use answering::Why;
 pub use job_inputs::{Status, Text};
 pub use laws::{instances_are_unique, realizations_are_unique, reasons_are_unique};
-pub use realizing::realize;
-pub use retrieval::instances;
+pub use realizing::Realize;
+pub use retrieval::Instances;
 pub use shq_terms::NoMemory;

@@ -1,5 +1,5 @@
 // From the bytes of a document to the types of its individuals.
-ghost use Rattle.std.specs.Prelude.{◌≡◌, ◌≤◌, false, [], IsTrue, IfOk, IfErr, OnOk, OnErr, length};
+ghost use Rattle.std.specs.Prelude.{◌≡◌, false, [], IsTrue, IfOk, IfErr, OnOk, length};
 ghost use Rattle.std.specs.List.{list_any};
 ghost use Rattle.job_inputs.specs.Limits.{IsOntologyInLimit};
 ghost use Rattle.realizer.specs.Entries.{is_spent};
@@ -8,69 +8,68 @@ ghost use Rattle.realizer.specs.Listing.{is_listed};
 ghost use Rattle.realizer.specs.Realization.{AreTypes, realization_text};
 ghost use Rattle.realizer.specs.RealizationLogs.{IsRealizationLog};
 ghost use Rattle.realizer.specs.ShownLogs.{ShowsTypes, SettlesClasses};
-ghost use Rattle.job_inputs.specs.Answer.{text_bytes, is_fault};
-ghost use Rattle.job_inputs.specs.Refusals.{OnDocument};
-ghost use Rattle.individual_jobs.specs.Realizations.{IsRealizing, AnswersRealization};
-ghost use Rattle.individual_jobs.specs.Realizing.{IsRealizedOn, IsUnrealizedBy};
+ghost use Rattle.job_inputs.specs.Answer.{text_bytes};
 
-use job_inputs::{Status, Text, Unread, read_document, unread_reply};
+use job_inputs::{Job, Status, Text, Unread, read_document};
+use ofn_reader::Context;
 use realizer::{Halt, Oracle, RunLog, Types, realize as types_by};
 use shq_terms::{NoMemory, Ontology};
 use std::alloc::Global;
 use std::mem;
 
-/// The most specific classes of each individual of the document that the bytes are: how the run ends, and their text.
-/// The log gets what was asked.
+/// The job `realize`: the most specific classes of each individual of a document.
 ///
 /// `budget` is the number of steps that the tests may take together. Where it does not suffice, the text is
 /// `undecided`, and the run ends `Undecided`.
-pub fn realize(alloc: Global, budget: u32, bytes: &[u8], log: &mut RunLog) -> (Status, Text)
-    requires small { length bytes.now ≤ 4294967293 }
-    requires unlogged { log.old ≡ [] }
-    ensures answer { AnswersRealization budget bytes.now (text_bytes result.1) result.0 log.new }
-    ensures no_fault { is_fault result.0 ≡ false }
-{
-    match realized(alloc, budget, bytes, log) {
-        Ok(answer) => answer,
-        Err(unread) => unread_reply(alloc, unread),
+#[derive(Clone, Copy)]
+pub struct Realize {
+    pub budget: u32,
+}
+
+impl Job for Realize {
+    ghost use Rattle.std.specs.Prelude.{◌≡◌, []};
+    ghost use Rattle.job_inputs.specs.Limits.{IsOntologyInLimit};
+    ghost use Rattle.job_inputs.specs.Questions.{IsDocumentAlone, IsUnreadDocument};
+    ghost use Rattle.individual_jobs.specs.Realizations.{IsRealizing, AnswersRealization};
+    ghost use Rattle.individual_jobs.specs.Realizing.{IsRealizedOn};
+    ghost use Rattle.individual_jobs.specs.Told.{types_told};
+
+    type Input = (Ontology, Context);
+
+    type Log = RunLog;
+
+    ghost is_input = { λ job bytes i. IsDocumentAlone bytes i.0 i.1 };
+
+    ghost is_unread = { λ job bytes u. IsUnreadDocument bytes u };
+
+    ghost can_answer = { λ job i. IsOntologyInLimit i.0 };
+
+    ghost is_unlogged = { λ log. log ≡ [] };
+
+    ghost answers = { λ job i log s out. IsRealizedOn job.budget i.0 log s out };
+
+    ghost begins = { λ job i log. IsRealizing job.budget log i.0 };
+
+    ghost tells = { λ job bytes out s log. AnswersRealization job.budget bytes out s log };
+
+    ghost told = { λ job bytes out s log h. types_told job.budget bytes out log s h };
+
+    fn read(&self, alloc: Global, bytes: &[u8]) -> Result<(Ontology, Context), Unread> {
+        read_document(alloc, bytes)
     }
-}
 
-// The types, unless the document is refused.
-fn realized(
-    alloc: Global,
-    budget: u32,
-    bytes: &[u8],
-    log: &mut RunLog,
-) -> Result<(Status, Text), Unread>
-    requires small { length bytes.now ≤ 4294967293 }
-    requires unlogged { log.old ≡ [] }
-    ensures answer { IfOk result (λ a. OnDocument (λ o. IsRealizedOn budget o log.new a.0 (text_bytes a.1)) bytes.now) }
-    ensures unread { IfErr result (IsUnrealizedBy budget bytes.now log.new) }
-{
-    let (ontology, context) = read_document(alloc, bytes)?;
-    let outcome = realized_on(alloc, budget, &ontology, log);
-    drop(ontology);
-    drop(context);
-    Ok(outcome?)
-}
-
-// The types on an ontology.
-fn realized_on(
-    alloc: Global,
-    budget: u32,
-    ontology: &Ontology,
-    log: &mut RunLog,
-) -> Result<(Status, Text), NoMemory>
-    requires in_limit { IsOntologyInLimit ontology.now }
-    requires unlogged { log.old ≡ [] }
-    ensures answer { IfOk result (λ a. IsRealizedOn budget ontology.now log.new a.0 (text_bytes a.1)) }
-    ensures begun { OnErr result (IsRealizing budget log.new ontology.now) }
-{
-    match types_of(alloc, budget, ontology, log) {
-        Ok(types) => Ok((Status::Done, text_of(alloc, types, ontology)?)),
-        Err(Halt::Spent) => Ok((Status::Undecided, Text::Fixed("undecided\n"))),
-        Err(Halt::NoMemory) => Err(NoMemory),
+    fn answer(
+        &self,
+        alloc: Global,
+        input: &mut (Ontology, Context),
+        log: &mut RunLog,
+    ) -> Result<(Status, Text), NoMemory> {
+        let ontology = &input.0;
+        match types_of(alloc, self.budget, ontology, log) {
+            Ok(types) => Ok((Status::Done, text_of(alloc, types, ontology)?)),
+            Err(Halt::Spent) => Ok((Status::Undecided, Text::Fixed("undecided\n"))),
+            Err(Halt::NoMemory) => Err(NoMemory),
+        }
     }
 }
 
