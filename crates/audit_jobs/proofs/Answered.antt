@@ -1,5 +1,5 @@
 -- From what a search found to the answer.
-use Rattle.std.proofs.Common.{◌≡◌, ℕ, Bool, true, false, List, Result, Ok, Err, inr}
+use Rattle.std.proofs.Common.{◌≡◌, ℕ, true, List, Result, Ok, Err, inr}
 use Rattle.std.specs.Prelude.{IfOk, OnOk, OnErr}
 use Rattle.shq_terms.specs.Listed.{Listed}
 use Rattle.shq_terms.specs.NoMemory.{NoMemory}
@@ -9,15 +9,11 @@ use Rattle.audit_check.specs.AuditLists.{AuditLists}
 use Rattle.audit_check.specs.Written.{audit_text, IsKeptAudit}
 use Rattle.pinpointing_jobs.specs.TreeFound.{Found}
 use Rattle.job_inputs.specs.declared.status.Status.{Status}
-use Rattle.job_inputs.specs.declared.status.Status.TheVariants.{Done, Rejected, BadWords, BadText, Outside, Limit}
-use Rattle.job_inputs.specs.declared.status.Status.TheVariants.{ReadFault, WriteFault, Undecided}
-use Rattle.job_inputs.specs.declared.status.Status.TheVariants.{NoMemory as OutOfMemory}
-use Rattle.pinpointing_jobs.specs.Listings.{end_status}
 use Rattle.audit_jobs.specs.declared.evidence.Evidence.{Evidence}
 use Rattle.audit_jobs.specs.declared.searching.Searched.{Searched}
 use Rattle.audit_jobs.specs.Witnessed.{HasAsked, IsWitnessed, IsSearched}
 use Rattle.audit_jobs.specs.Listed.{IsAuditOf}
-use Rattle.audit_jobs.specs.Answers.{IsAuditText, IsWritten, IsEvidenceAnswer, IsEvidenced, AnswersEvidence}
+use Rattle.audit_jobs.specs.Answers.{IsAuditText, IsWritten, IsEvidenceAnswer}
 use Rattle.audit_jobs.proofs.Sound.{is_sound, of_axioms_listed, refutations_writable}
 
 -- ---- the text of the audit
@@ -56,24 +52,3 @@ module _ (o : Listed) (q : Asked) (budget : ℕ) (log : List Entry) (s : Searche
   pub all_logs : {T : Type 0} (r : Result T NoMemory) → OnErr r (HasAsked o q budget log)
   all_logs (Ok a) = tt
   all_logs (Err x) = inr is.honest
-
--- ---- answers
-
--- a search does not end for want of memory
-no_want : (finished : Bool) → OutOfMemory ≡ end_status finished → ⊥
-no_want true is = cc is
-no_want false is = cc is
-
-pub evidenced_answers : (statement : List ℕ) (budget : ℕ) (bytes out : List ℕ) (s : Status) (log : List Entry)
-    → IsEvidenced statement budget bytes out s log → AnswersEvidence statement budget bytes out s log
-evidenced_answers statement budget bytes out Done log is = inr is
-evidenced_answers statement budget bytes out Rejected log is = inr is
-evidenced_answers statement budget bytes out BadWords log is = inr is
-evidenced_answers statement budget bytes out BadText log is = inr is
-evidenced_answers statement budget bytes out Outside log is = inr is
-evidenced_answers statement budget bytes out Limit log is = inr is
-evidenced_answers statement budget bytes out ReadFault log is = inr is
-evidenced_answers statement budget bytes out WriteFault log is = inr is
-evidenced_answers statement budget bytes out Undecided log is = inr is
-evidenced_answers statement budget bytes out OutOfMemory log is =
-    absurd (no_want is.answer.finished is.answer.written.status)

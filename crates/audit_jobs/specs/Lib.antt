@@ -5,6 +5,7 @@ pub mod Witnessed
 pub mod Taken
 pub mod Listed
 pub mod Answers
+pub mod EvidenceTold
 pub mod Laws
 pub use Rattle.audit_check.specs.AuditLists
 pub use Rattle.audit_check.specs.Sound

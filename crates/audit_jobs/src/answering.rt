@@ -1,100 +1,73 @@
 // From the question and the bytes of a document to the audit.
-ghost use Rattle.std.specs.Prelude.{◌≡◌, ◌≤◌, true, false, [], IfOk, IfErr, OnOk, OnErr, IsTrue, length};
-ghost use Rattle.audit_check.specs.Limits.{IsInLimit};
-ghost use Rattle.job_inputs.specs.Answer.{text_bytes, is_fault};
-ghost use Rattle.job_inputs.specs.Questions.{follows};
-ghost use Rattle.job_inputs.specs.Refusals.{IsUnanswered};
+ghost use Rattle.std.specs.Prelude.{◌≡◌, true, [], IfOk, OnOk, OnErr, IsTrue};
+ghost use Rattle.job_inputs.specs.Answer.{text_bytes};
 ghost use Rattle.audit_check.specs.Written.{audit_text, audit_is_listed, IsKeptAudit};
-ghost use Rattle.audit_jobs.specs.Witnessed.{IsWitnessed, IsEvidenceLog, HasAsked};
-ghost use Rattle.audit_jobs.specs.Answers.{IsAuditText, IsWritten, IsEvidenceAnswer, IsEvidenced, AnswersEvidence};
+ghost use Rattle.audit_jobs.specs.Witnessed.{IsWitnessed};
+ghost use Rattle.audit_jobs.specs.Answers.{IsAuditText, IsWritten};
 
 use crate::listing::audit_of;
 use crate::searching::{Searched, search};
 use audit_check::Audit;
 use decision_jobs::RunLog;
-use job_inputs::{Status, Text, Unread, unread_reply};
-use pinpointing_jobs::{Input, read_input};
+use job_inputs::{Input, Job, Status, Text, Unread, WrittenQuestion, read_question_input};
 use shq_terms::{NoMemory, Ontology, Query};
 use std::alloc::Global;
 
-/// The audit of a statement on the document that the bytes are: all its justifications, each with a refutation over
-/// just these axioms, and all its repairs, each with a model of the other axioms in which the statement does not
-/// hold. The log gets what was asked.
+/// The job `evidence`: the audit of a statement on a document. It has all justifications, each with a refutation over
+/// just these axioms, and all repairs, each with a model of the other axioms in which the statement does not hold.
 ///
 /// `statement` is the text of a `SubClassOf` or a `ClassAssertion`, and `budget` the number of steps and nodes that the
 /// search may take. Where it does not suffice, the text is `undecided`, and the run ends `Undecided`.
-pub fn find_evidence(
-    alloc: Global,
-    statement: &str,
-    budget: u32,
-    bytes: &[u8],
-    log: &mut RunLog,
-) -> (Status, Text)
-    requires small { length bytes.now ≤ 4294967293 }
-    requires unlogged { log.old ≡ [] }
-    ensures answer { AnswersEvidence statement.now budget bytes.now (text_bytes result.1) result.0 log.new }
-    ensures no_fault { is_fault result.0 ≡ false }
-{
-    match evidenced(alloc, statement, budget, bytes, log) {
-        Ok(answer) => answer,
-        Err(unread) => unread_reply(alloc, unread),
+#[derive(Clone, Copy)]
+pub struct FindEvidence<'a> {
+    pub statement: &'a str,
+    pub budget: u32,
+}
+
+impl<'a> Job for FindEvidence<'a> {
+    ghost use Rattle.std.specs.Prelude.{◌≡◌, []};
+    ghost use Rattle.audit_check.specs.Limits.{IsInLimit};
+    ghost use Rattle.job_inputs.specs.Inputs.{IsInputOf, IsNoInputOf};
+    ghost use Rattle.job_inputs.specs.Questions.{follows};
+    ghost use Rattle.audit_jobs.specs.Witnessed.{HasAsked};
+    ghost use Rattle.audit_jobs.specs.Answers.{IsEvidenceAnswer, AnswersEvidence};
+    ghost use Rattle.audit_jobs.specs.EvidenceTold.{evidence_told};
+
+    type Input = Input;
+
+    type Log = RunLog;
+
+    ghost is_input = { λ job bytes i. IsInputOf (follows job.statement.now) bytes i };
+
+    ghost is_unread = { λ job bytes u. IsNoInputOf (follows job.statement.now) bytes u };
+
+    ghost can_answer = { λ job i. IsInLimit i.ontology i.query };
+
+    ghost is_unlogged = { λ log. log ≡ [] };
+
+    ghost answers = { λ job i log s out. IsEvidenceAnswer i.ontology i.query job.budget log s out };
+
+    ghost begins = { λ job i log. HasAsked i.ontology i.query job.budget log };
+
+    ghost tells = { λ job bytes out s log. AnswersEvidence job.statement.now job.budget bytes out s log };
+
+    ghost told = { λ job bytes out s log h. evidence_told job.statement.now job.budget bytes out log s h };
+
+    fn read(&self, alloc: Global, bytes: &[u8]) -> Result<Input, Unread> {
+        read_question_input(alloc, WrittenQuestion::Follows(self.statement), bytes)
     }
-}
 
-// The audit, unless the document or the statement is refused.
-fn evidenced(
-    alloc: Global,
-    statement: &str,
-    budget: u32,
-    bytes: &[u8],
-    log: &mut RunLog,
-) -> Result<(Status, Text), Unread>
-    requires small { length bytes.now ≤ 4294967293 }
-    requires unlogged { log.old ≡ [] }
-    ensures answer { IfOk result (λ a. IsEvidenced statement.now budget bytes.now (text_bytes a.1) a.0 log.new) }
-    ensures unread { IfErr result
-        (IsUnanswered (follows statement.now) bytes.now log.new (λ o q. IsEvidenceLog o q budget log.new)) }
-{
-    let input = read_input(alloc, statement, bytes)?;
-    let answer = audited(alloc, budget, input, log)?;
-    Ok(answer)
-}
-
-// The audit of what was read.
-fn audited(
-    alloc: Global,
-    budget: u32,
-    input: Input,
-    log: &mut RunLog,
-) -> Result<(Status, Text), NoMemory>
-    requires in_limit { IsInLimit input.ontology input.query }
-    requires unlogged { log.old ≡ [] }
-    ensures answer { IfOk result
-        (λ a. IsEvidenceAnswer input.ontology input.query budget log.new a.0 (text_bytes a.1)) }
-    ensures begun { OnErr result (HasAsked input.ontology input.query budget log.new) }
-{
-    let outcome = audit(alloc, &input.ontology, &input.query, budget, log);
-    drop(input);
-    outcome
-}
-
-// The audit of a query.
-fn audit(
-    alloc: Global,
-    ontology: &Ontology,
-    query: &Query,
-    budget: u32,
-    log: &mut RunLog,
-) -> Result<(Status, Text), NoMemory>
-    requires in_limit { IsInLimit ontology.now query.now }
-    requires unlogged { log.old ≡ [] }
-    ensures answer { IfOk result (λ a. IsEvidenceAnswer ontology.now query.now budget log.new a.0 (text_bytes a.1)) }
-    ensures begun { OnErr result (HasAsked ontology.now query.now budget log.new) }
-{
-    let mut searched = search(alloc, ontology, query, budget, log)?;
-    let outcome = answer_of(alloc, ontology, query, &mut searched);
-    drop(searched);
-    outcome
+    fn answer(
+        &self,
+        alloc: Global,
+        input: &mut Input,
+        log: &mut RunLog,
+    ) -> Result<(Status, Text), NoMemory> {
+        let mut searched = search(alloc, &input.ontology, &input.query, self.budget, log)?;
+        let outcome = answer_of(alloc, &input.ontology, &input.query, &mut searched);
+        drop(searched);
+        outcome
+    }
 }
 
 // The text of what was found, and how the run ends. That the budget was spent is told without memory.

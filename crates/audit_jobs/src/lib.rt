@@ -27,9 +27,9 @@ mod searching;
 mod taking;
 mod witness;
 
-pub use answering::find_evidence;
+pub use answering::FindEvidence;
 pub use auditing::verify_audit;
-pub use decision_jobs::{answer, verify};
+pub use decision_jobs::{Decide, verify};
 pub use job_inputs::{Status, Text};
 pub use law::{evidence_is_accepted, printed_evidence_is_accepted};
-pub use pinpointing_jobs::{Wanted, pinpoint, run_workload};
+pub use pinpointing_jobs::{Pinpoint, Wanted, run_workload};
