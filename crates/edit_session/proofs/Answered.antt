@@ -1,19 +1,17 @@
 -- From a script that was run to what is answered.
-use Rattle.std.proofs.Common.{◌≡◌, ℕ, Bool, true, false, List, [], ◌∷◌, drop, refl, ap, sym, subst, ◌∙◌, inl}
-use Rattle.std.specs.Prelude.{Option, Some, None}
+use Rattle.std.proofs.Common.{◌≡◌, ℕ, false, List, [], ◌∷◌, drop, refl, sym, subst, inl}
 use Rattle.certificate_lines.specs.Lines.{lines}
 use Rattle.shq_terms.specs.Listed.{Listed}
 use Rattle.ofn_expressions.specs.declared.refusal.Refusal.{Refusal}
 use Rattle.ofn_reader.specs.DocumentContext.{DocumentContext}
 use Rattle.ofn_reader.specs.Documents.{IsDocument, IsNoDocument}
 use Rattle.shq_oracle.specs.Entry.{Entry}
-use Rattle.job_inputs.specs.Answer.{Answer, no_memory, complaint_answer, IsAnswer, Gives, is_fault}
+use Rattle.job_inputs.specs.Answer.{no_memory, complaint_answer, IsAnswer, Gives, is_fault}
 use Rattle.job_inputs.specs.Asked.{IsUndocumented}
-use Rattle.job_inputs.specs.Complaints.{Complaint, complaint, sort_status}
+use Rattle.job_inputs.specs.Complaints.{complaint}
 use Rattle.job_inputs.specs.Replies.{unread_answer}
+use Rattle.job_inputs.proofs.Ends.{complaint_ends, want_ends}
 use Rattle.job_inputs.specs.declared.complaint.Place.TheVariants.{Document}
-use Rattle.job_inputs.specs.declared.complaint.Sort.{Sort}
-use Rattle.job_inputs.specs.declared.complaint.Sort.TheVariants as S
 use Rattle.job_inputs.specs.declared.status.Status.{Status}
 use Rattle.job_inputs.specs.declared.status.Status.TheVariants.{Done, Rejected, BadWords, BadText, Outside, Limit}
 use Rattle.job_inputs.specs.declared.status.Status.TheVariants.{ReadFault, WriteFault, Undecided, NoMemory}
@@ -120,76 +118,25 @@ no_document budget bytes log U.NoMemory none why = inl none
 
 -- ---- the answer
 
--- whether it may be the answer to a document that is refused
-abbrev is_refusal : Status → Bool
-is_refusal Done = false
-is_refusal Rejected = false
-is_refusal BadWords = false
-is_refusal BadText = true
-is_refusal Outside = true
-is_refusal Limit = true
-is_refusal ReadFault = false
-is_refusal WriteFault = false
-is_refusal Undecided = false
-is_refusal NoMemory = true
-
-complaint_refuses : (c : Option Complaint) → is_refusal (complaint_answer Document c).0 ≡ true
-complaint_refuses None = refl
-complaint_refuses (Some c) = by c.sort
-  where
-    by : (s : Sort) → is_refusal (sort_status s) ≡ true
-    by S.BadText = refl
-    by S.Outside = refl
-    by S.Limit = refl
-
 module _ (budget : ℕ) (bytes out : List ℕ) (log : List Entry) where
-  -- the document is refused
-  module _ (e : Refusal) (why : IsNoDocument bytes e) (none : log ≡ []) where
-    refused : (s : Status) → IsAnswer (complaint_answer Document (complaint e)) out s → IsRefusedScript bytes out s log
-    refused s is = record { refusal = e; refused = why; answer = is; unlogged = none }
+  abbrev Tells : Status → Type 0
+  Tells s = AnswersSession budget bytes out s log
 
-    no_other : (s : Status) → is_refusal s ≡ false → IsAnswer (complaint_answer Document (complaint e)) out s → ⊥
-    no_other s other is =
-        let clash : false ≡ true =
-        sym other ∙ ap (λ (a : Answer). is_refusal a.0) is ∙ complaint_refuses (complaint e) in
-        cc clash
+  memory : BeginsSession budget bytes log → out ≡ no_memory → Tells NoMemory
+  memory begun text = record { text = text; log_is = begun }
 
-    refusal_answered : (s : Status) → Gives (complaint_answer Document (complaint e)) out s
-        → AnswersSession budget bytes out s log
-    refusal_answered NoMemory is = record { text = is; log_is = inl none }
-    refusal_answered BadText is = refused BadText is
-    refusal_answered Outside is = refused Outside is
-    refusal_answered Limit is = refused Limit is
-    refusal_answered Done is = absurd (no_other Done refl is)
-    refusal_answered Undecided is = absurd (no_other Undecided refl is)
-    refusal_answered Rejected is = no_other Rejected refl is
-    refusal_answered BadWords is = no_other BadWords refl is
-    refusal_answered ReadFault is = no_other ReadFault refl is
-    refusal_answered WriteFault is = no_other WriteFault refl is
-
-  -- memory was refused
-  module _ (so_far : BeginsSession budget bytes log) where
-    clash : (s : Status) (T : Type 0) → (s ≡ NoMemory → ⊥) → IsAnswer (NoMemory, no_memory) out s → T
-    clash s T other is = absurd (other (ap (λ (a : Answer). a.0) is))
-
-    memory_answered : (s : Status) → Gives (NoMemory, no_memory) out s → AnswersSession budget bytes out s log
-    memory_answered NoMemory is = record { text = is; log_is = so_far }
-    memory_answered BadText is = clash BadText _ (λ e. cc e) is
-    memory_answered Outside is = clash Outside _ (λ e. cc e) is
-    memory_answered Limit is = clash Limit _ (λ e. cc e) is
-    memory_answered Done is = clash Done _ (λ e. cc e) is
-    memory_answered Undecided is = clash Undecided _ (λ e. cc e) is
-    memory_answered Rejected is = clash Rejected _ (λ e. cc e) is
-    memory_answered BadWords is = clash BadWords _ (λ e. cc e) is
-    memory_answered ReadFault is = clash ReadFault _ (λ e. cc e) is
-    memory_answered WriteFault is = clash WriteFault _ (λ e. cc e) is
+  refused : (e : Refusal) → IsNoDocument bytes e → log ≡ [] → (s : Status)
+      → IsAnswer (complaint_answer Document (complaint e)) out s → IsRefusedScript bytes out s log
+  refused e why none s is = record { refusal = e; refused = why; answer = is; unlogged = none }
 
   pub unread_answered : (s : Status) (u : Unread) → IsUnanswered budget bytes log u → Gives (unread_answer u) out s
-      → AnswersSession budget bytes out s log
-  unread_answered s (U.Document e) why gives = refusal_answered e why.0 why.1 s gives
+      → Tells s
+  unread_answered s (U.Document e) why gives =
+      complaint_ends Tells out (memory (inl why.1)) Document (complaint e) s gives
+      (refused e why.0 why.1 BadText) (refused e why.0 why.1 Outside) (refused e why.0 why.1 Limit)
   unread_answered s (U.Query e) why gives = absurd why
   unread_answered s (U.Line n) why gives = absurd why
-  unread_answered s U.NoMemory why gives = memory_answered why s gives
+  unread_answered s U.NoMemory why gives = want_ends Tells out (memory why) s gives
 
   pub script_answered : (s : Status) → OnScript (AnswersLines budget log s out) bytes
       → AnswersSession budget bytes out s log
