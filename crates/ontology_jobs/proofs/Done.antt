@@ -13,7 +13,7 @@ use Rattle.classification_jobs.specs.Questions.{Text, follows, IsRefusedQuestion
 use Rattle.classification_jobs.specs.Replies.{reply_answer}
 use Rattle.classification_jobs.specs.Status.{Status}
 use Rattle.classification_jobs.specs.Status.TheVariants.{Done}
-use Rattle.individual_jobs.proofs.Replied.{is_refusal, complaint_refuses}
+use Rattle.job_inputs.proofs.Ends.{is_refusal, complaint_refuses}
 use Rattle.edit_session.specs.Entry.{Entry}
 use Rattle.ontology_jobs.specs.Answers.{IsTooLong, AnswersJob}
 use Rattle.ontology_jobs.specs.Words.{decide, pinpoint, evidence}

@@ -85,6 +85,27 @@ pub generated_answers : (held : Option (List ℕ)) (number budget : ℕ) (out : 
     → AnswersWorkload number budget out s log → AnswersRequestOnAll (generated number budget) held out s log
 generated_answers held number budget out s log answer = let all = all_bytes held in (all.0, all.1, answer)
 
+-- it leaves all of what the source holds
+pub generated_leaves : (held : Option (List ℕ)) (number budget : ℕ) (s : Status)
+    → LeavesFor (Some (generated number budget)) held held s
+generated_leaves held number budget ReadFault = tt
+generated_leaves held number budget WriteFault = tt
+generated_leaves held number budget NoMemory = tt
+generated_leaves None number budget Done = tt
+generated_leaves None number budget Rejected = tt
+generated_leaves None number budget BadWords = tt
+generated_leaves None number budget BadText = tt
+generated_leaves None number budget Outside = tt
+generated_leaves None number budget Limit = tt
+generated_leaves None number budget Undecided = tt
+generated_leaves (Some bytes) number budget Done = refl
+generated_leaves (Some bytes) number budget Rejected = refl
+generated_leaves (Some bytes) number budget BadWords = refl
+generated_leaves (Some bytes) number budget BadText = refl
+generated_leaves (Some bytes) number budget Outside = refl
+generated_leaves (Some bytes) number budget Limit = refl
+generated_leaves (Some bytes) number budget Undecided = refl
+
 -- what answers the request that words make answers the words
 pub words_answers : (held : Option (List ℕ)) (words : List (List ℕ)) (r : Request) (out : List ℕ) (s : Status)
     (log : List Entry)

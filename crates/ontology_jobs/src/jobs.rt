@@ -1,19 +1,20 @@
 // The top call.
 ghost use Rattle.std.specs.Prelude.{◌≡◌, ◌≢◌, ◌≤◌, false, [], Some, None, length};
 ghost use Rattle.shq_io.specs.Causes.{Rose};
-ghost use Rattle.ontology_jobs.specs.Words.{request_of, on_input, kept_job, command_request, texts_of};
+ghost use Rattle.ontology_jobs.specs.Words.{request_of, kept_job, texts_of};
 ghost use Rattle.classification_jobs.specs.Answer.{IsAnswer, is_fault, text_bytes};
 ghost use Rattle.ontology_jobs.specs.Laws.{HasSpentAll, HasSpentNoTest, AsksForNothing};
 ghost use Rattle.ontology_jobs.specs.Complete.{IsComplete};
-ghost use Rattle.ontology_jobs.specs.Answers.{AnswersRead, AnswersJobOnAll, AnswersRequestOnAll, AnswersAll};
+ghost use Rattle.ontology_jobs.specs.Answers.{AnswersRead, AnswersAll};
 ghost use Rattle.ontology_jobs.specs.Answers.{AnsweredAll, SaysBadWords, IsBadWords, end_answer, ReadsNothing};
-ghost use Rattle.ontology_jobs.specs.Answers.{LeavesFor, Leaves};
+ghost use Rattle.ontology_jobs.specs.Answers.{Leaves};
 
 use crate::words::{Command, Job, read_words};
-use audit_jobs::{answer, find_evidence, pinpoint, run_workload, verify, verify_audit};
-use classification_jobs::{Status, Text, classify};
+use audit_jobs::{Decide, FindEvidence, Pinpoint, run_workload, verify, verify_audit};
+use classification_jobs::{Classify, Status, Text};
 use edit_session::{RunLog, answer_script};
-use individual_jobs::{instances, realize, why};
+use individual_jobs::{Instances, Realize, Why};
+use job_inputs::answer_to;
 use shq_io::{ReadEnd, Sink, Source, WriteFailed, read_all, write_whole};
 use std::alloc::Global;
 
@@ -66,7 +67,7 @@ pub fn run<S: Source, K: Sink>(
     }
 }
 
-// What is written, and the status that goes with it.
+// What is written, and the status that goes with it: a job is done on the input, which is read for it.
 fn reply_to<S: Source>(
     alloc: Global,
     words: &[String],
@@ -81,46 +82,14 @@ fn reply_to<S: Source>(
     ensures bad_words { request_of (texts_of words.now) ≡ None → IsBadWords (text_bytes result.1) result.0 log.new }
     ensures unread { ReadsNothing (request_of (texts_of words.now)) → source.new ≡ source.old }
 {
-    match read_words(words) {
-        Some(command) => do_command(alloc, command, source, log),
-        None => (Status::BadWords, Text::Fixed("bad words\n")),
-    }
-}
-
-// Does what the words ask for.
-fn do_command<S: Source>(
-    alloc: Global,
-    command: Command<'_>,
-    source: &mut S,
-    log: &mut RunLog,
-) -> (Status, Text)
-    requires { log.old ≡ [] }
-    ensures answers { AnswersRequestOnAll (command_request command.entry) (S.left source.old) (text_bytes result.1)
-        result.0 log.new }
-    ensures leaves { LeavesFor (Some (command_request command.entry)) (S.left source.old) (S.left source.new) result.0 }
-    ensures fault { result.0 ≡ Status.ReadFault → Rose (S.faults source.old) (S.faults source.new) }
-    ensures status { result.0 ≢ Status.WriteFault }
-    ensures unread { ReadsNothing (Some (command_request command.entry)) → source.new ≡ source.old }
-{
-    match command {
-        Command::OnInput(job) => do_job(alloc, job, source, log),
-        Command::Workload(number, budget) => run_workload(alloc, number.get(), budget, log),
-    }
-}
-
-// Reads the input, and does the job on it.
-fn do_job<S: Source>(
-    alloc: Global,
-    job: Job<'_>,
-    source: &mut S,
-    log: &mut RunLog,
-) -> (Status, Text)
-    requires { log.old ≡ [] }
-    ensures answers { AnswersJobOnAll (kept_job job.entry) (S.left source.old) (text_bytes result.1) result.0 log.new }
-    ensures leaves { LeavesFor (Some (on_input (kept_job job.entry))) (S.left source.old) (S.left source.new) result.0 }
-    ensures fault { result.0 ≡ Status.ReadFault → Rose (S.faults source.old) (S.faults source.new) }
-    ensures status { result.0 ≢ Status.WriteFault }
-{
+    let command = match read_words(words) {
+        Some(command) => command,
+        None => return (Status::BadWords, Text::Fixed("bad words\n")),
+    };
+    let job = match command {
+        Command::OnInput(job) => job,
+        Command::Workload(number, budget) => return run_workload(alloc, number.get(), budget, log),
+    };
     match read_all(alloc, source, MAX_BYTES) {
         Ok(input) => do_on(alloc, job, &input, log),
         Err(end) => end_reply(end),
@@ -137,16 +106,23 @@ fn do_on(alloc: Global, job: Job<'_>, input: &[u8], log: &mut RunLog) -> (Status
     match job {
         Job::Check(query) => verify(alloc, query, input),
         Job::Audit(query) => verify_audit(alloc, query, input),
-        Job::Decide(question, budget) => answer(alloc, question, budget, input, log),
-        Job::Classify(budget) => classify(alloc, budget, input, log),
-        Job::Realize(budget) => realize(alloc, budget, input, log),
-        Job::Instances(class, budget) => instances(alloc, class, budget, input, log),
-        Job::Why(class, budget) => why(alloc, class, budget, input, log),
+        Job::Decide(question, budget) => answer_to(alloc, &Decide { question, budget }, input, log),
+        Job::Classify(budget) => answer_to(alloc, &Classify { budget }, input, log),
+        Job::Realize(budget) => answer_to(alloc, &Realize { budget }, input, log),
+        Job::Instances(class, budget) => answer_to(alloc, &Instances { class, budget }, input, log),
+        Job::Why(class, budget) => answer_to(alloc, &Why { class, budget }, input, log),
         Job::Session(budget) => answer_script(alloc, budget, input, log),
         Job::Pinpoint(wanted, statement, budget) => {
-            pinpoint(alloc, wanted, statement, budget, input, log)
+            let job = Pinpoint {
+                wanted,
+                statement,
+                budget,
+            };
+            answer_to(alloc, &job, input, log)
         }
-        Job::Evidence(statement, budget) => { find_evidence(alloc, statement, budget, input, log) }
+        Job::Evidence(statement, budget) => {
+            answer_to(alloc, &FindEvidence { statement, budget }, input, log)
+        }
     }
 }
 
