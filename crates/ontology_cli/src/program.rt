@@ -5,7 +5,7 @@ ghost use Rattle.shq_io.specs.Causes.{Rose};
 ghost use Rattle.ontology_jobs.specs.Words.{texts_of, request_of};
 ghost use Rattle.ontology_jobs.specs.Answers.{ReadsNothing};
 ghost use Rattle.ontology_jobs.specs.Status.TheVariants.{NoMemory, ReadFault, WriteFault};
-ghost use Rattle.ontology_cli.specs.Exit.{exit_number, HasEnded, EndsBy};
+ghost use Rattle.ontology_cli.specs.Exit.{exit_number, EndsBy};
 
 use crate::exit::exit_code;
 use ontology_jobs::{RunLog, Status, run};
@@ -38,7 +38,7 @@ pub(crate) fn program<S: Source, K: Sink>(
     }
 }
 
-// How the program ends that runs the words.
+// How the program ends that runs the words, with a log of its own.
 fn end_of<S: Source, K: Sink>(
     alloc: Global,
     words: &[String],
@@ -51,23 +51,7 @@ fn end_of<S: Source, K: Sink>(
     ensures write_fault { exit_status result ≡ exit_number WriteFault → Rose (K.faults sink.old) (K.faults sink.new) }
     ensures idle { ReadsNothing (request_of (texts_of words.now)) → source.new ≡ source.old }
 {
-    let status = run_words(alloc, words, source, sink);
-    exit_code(status)
-}
-
-// The run of the words, with a log of its own.
-fn run_words<S: Source, K: Sink>(
-    alloc: Global,
-    words: &[String],
-    source: &mut S,
-    sink: &mut K,
-) -> Status
-    ensures ended { HasEnded (S.left source.old) (S.left source.new) (K.taken sink.old) (K.taken sink.new)
-        (texts_of words.now) result }
-    ensures read_fault { result ≡ ReadFault → Rose (S.faults source.old) (S.faults source.new) }
-    ensures write_fault { result ≡ WriteFault → Rose (K.faults sink.old) (K.faults sink.new) }
-    ensures idle { ReadsNothing (request_of (texts_of words.now)) → source.new ≡ source.old }
-{
     let mut log = RunLog::new(alloc);
-    run(alloc, words, source, sink, &mut log)
+    let status = run(alloc, words, source, sink, &mut log);
+    exit_code(status)
 }
