@@ -60,7 +60,7 @@ impl<'a> Job for FindEvidence<'a> {
     fn answer(
         &self,
         alloc: Global,
-        input: &mut Input,
+        input: &Input,
         log: &mut RunLog,
     ) -> Result<(Status, Text), NoMemory> {
         let mut searched = search(alloc, &input.ontology, &input.query, self.budget, log)?;

@@ -49,7 +49,7 @@ impl Job for Classify {
     fn answer(
         &self,
         alloc: Global,
-        input: &mut (Ontology, Context),
+        input: &(Ontology, Context),
         log: &mut RunLog,
     ) -> Result<(Status, Text), NoMemory> {
         let ontology = &input.0;

@@ -51,7 +51,7 @@ impl<'a> Job for Decide<'a> {
     fn answer(
         &self,
         alloc: Global,
-        input: &mut Input,
+        input: &Input,
         log: &mut RunLog,
     ) -> Result<(Status, Text), NoMemory> {
         let decision = decide(alloc, &input.ontology, &input.query, self.budget, log)?;

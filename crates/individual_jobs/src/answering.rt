@@ -56,7 +56,7 @@ impl<'a> Job for Why<'a> {
     fn answer(
         &self,
         alloc: Global,
-        input: &mut Input,
+        input: &Input,
         log: &mut RunLog,
     ) -> Result<(Status, Text), NoMemory> {
         let ontology = &input.ontology;

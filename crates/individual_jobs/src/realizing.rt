@@ -61,7 +61,7 @@ impl Job for Realize {
     fn answer(
         &self,
         alloc: Global,
-        input: &mut (Ontology, Context),
+        input: &(Ontology, Context),
         log: &mut RunLog,
     ) -> Result<(Status, Text), NoMemory> {
         let ontology = &input.0;

@@ -62,7 +62,7 @@ impl<'a> Job for Instances<'a> {
     fn answer(
         &self,
         alloc: Global,
-        input: &mut Input,
+        input: &Input,
         log: &mut RunLog,
     ) -> Result<(Status, Text), NoMemory> {
         let ontology = &input.ontology;

@@ -9,7 +9,10 @@ use crate::unread::Unread;
 use shq_terms::NoMemory;
 use std::alloc::Global;
 
-/// A job on a document: what it reads of the bytes, and what it answers.
+/// A job that reads a document: what it reads of the bytes, and how it answers that.
+///
+/// Each job defines which bytes hold which input, and which answer belongs to an input. Its law `told` shows that what
+/// it promises about the bytes (`tells`) follows from that.
 pub trait Job {
     ghost use Rattle.std.specs.Prelude.{◌≡◌, ℕ, ◌≤◌, false, List, IfOk, IfErr, OnErr, length};
     ghost use Rattle.job_inputs.specs.Answer.{text_bytes, is_fault};
@@ -23,25 +26,25 @@ pub trait Job {
     /// Where it logs what it asks.
     type Log;
 
-    /// The bytes are this input.
+    /// The bytes hold this input.
     ghost is_input: { Self → List ℕ → Self.Input → Type 0 };
 
-    /// Why the bytes are no input, unless memory was refused.
+    /// Why the bytes hold no input, unless memory was refused.
     ghost is_unread: { Self → List ℕ → Unread → Type 0 };
 
-    /// The input is one that the job can answer.
+    /// The job can answer the input.
     ghost can_answer: { Self → Self.Input → Type 0 };
 
-    /// Nothing is logged.
+    /// The log is empty.
     ghost is_unlogged: { Self.Log → Type 0 };
 
-    /// The status and the text are the answer to the input, and the log is that of how it was found.
+    /// The status and the text answer the input, and the log has what was asked to find that answer.
     ghost answers: { Self → Self.Input → Self.Log → Status → List ℕ → Type 0 };
 
-    /// The log is that of what was asked of the input until memory was refused.
+    /// The log has what was asked about the input until memory was refused.
     ghost begins: { Self → Self.Input → Self.Log → Type 0 };
 
-    /// What is told of the bytes: the text, how the run ends, and the log.
+    /// What the job promises about the bytes: the text, the status that the run ends with, and the log.
     ghost tells: { Self → List ℕ → List ℕ → Status → Self.Log → Type 0 };
 
     /// Reads the input.
@@ -63,16 +66,16 @@ pub trait Job {
     fn answer(
         &self,
         alloc: Global,
-        input: &mut Self::Input,
+        input: &Self::Input,
         log: &mut Self::Log,
     ) -> Result<(Status, Text), NoMemory>
-        requires within { can_answer self.now input.old }
+        requires within { can_answer self.now input.now }
         requires unlogged { is_unlogged log.old }
-        ensures answer { IfOk result (λ a. answers self.now input.old log.new a.0 (text_bytes a.1)) }
+        ensures answer { IfOk result (λ a. answers self.now input.now log.new a.0 (text_bytes a.1)) }
         ensures no_fault { IfOk result (λ a. is_fault a.0 ≡ false) }
-        ensures begun { OnErr result (begins self.now input.old log.new) };
+        ensures begun { OnErr result (begins self.now input.now log.new) };
 
-    /// However it has answered, this is told.
+    /// The job keeps its promise where it answers, where the bytes hold no input, and where memory is refused.
     ghost told: { (job : Self) (bytes out : List ℕ) (s : Status) (log : Self.Log)
         → HasAnswered (is_input job bytes) (is_unread job bytes) is_unlogged (answers job) (begins job) log out s
         → tells job bytes out s log };
@@ -85,11 +88,11 @@ pub fn answer_to<J: Job>(alloc: Global, job: &J, bytes: &[u8], log: &mut J::Log)
     ensures answer { J.tells job.now bytes.now (text_bytes result.1) result.0 log.new }
     ensures no_fault { is_fault result.0 ≡ false }
 {
-    let mut input = match job.read(alloc, bytes) {
+    let input = match job.read(alloc, bytes) {
         Ok(input) => input,
         Err(unread) => return unread_reply(alloc, unread),
     };
-    let outcome = job.answer(alloc, &mut input, log);
+    let outcome = job.answer(alloc, &input, log);
     drop(input);
     match outcome {
         Ok(answer) => answer,

@@ -56,7 +56,7 @@ impl<'a> Job for Pinpoint<'a> {
     fn answer(
         &self,
         alloc: Global,
-        input: &mut Input,
+        input: &Input,
         log: &mut RunLog,
     ) -> Result<(Status, Text), NoMemory> {
         let found = search(alloc, &input.ontology, &input.query, self.budget, log)?;

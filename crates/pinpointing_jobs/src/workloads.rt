@@ -75,7 +75,7 @@ impl Job for Measure {
     fn answer(
         &self,
         alloc: Global,
-        input: &mut Input,
+        input: &Input,
         log: &mut RunLog,
     ) -> Result<(Status, Text), NoMemory> {
         let found = search(alloc, &input.ontology, &input.query, self.budget, log)?;
