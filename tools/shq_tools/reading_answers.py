@@ -29,9 +29,9 @@ MISFIT = "the answer is to another statement than that of --query"
 NO_LINES = "The script has no lines."
 NOT_WHOLE = "The answer is not whole."
 NOTHING_TO_READ = (
-    "there is nothing to read. In a pipe, look for the message of the job in front. Two answers have no line and are no "
-    "failure: that of why for a class without individuals, which is read with --query CLASS, and that of session for a "
-    "script without lines"
+    "there is nothing to read. In a pipe, look for the message of the job in front. Two answers have no line and are "
+    "no failure: that of why for a class without individuals, which is read with --query CLASS, and that of session "
+    "for a script without lines"
 )
 READ_AS_WHY = "nothing was read: that is the answer of why if no individual is in the class, and of no other job"
 NOT_COMPARED = "whether the answer is to the statement of --query cannot be told"
