@@ -1,10 +1,11 @@
 -- What holds of a search that begins.
-use Rattle.std.proofs.Common.{◌≡◌, ℕ, ◌&&◌, true, List, [], Option, refl, sym, subst}
+use Rattle.std.proofs.Common.{◌≡◌, ℕ, ◌&&◌, true, false, List, [], Option, refl, sym, subst}
 use Rattle.std.proofs.lemmas.Bool.{and_from}
 use Rattle.std.proofs.lemmas.List.Elements.{All-nil}
 use Rattle.std.specs.FinSet as sets
 use Rattle.shq_terms.specs.declared.axioms.Query.{Query}
 use Rattle.tableau_specs.specs.Steps.{SearchContext}
+use Rattle.search_trace.specs.Noted.{start_of}
 use Rattle.search_trace.specs.Grounded.{is_known_within, AreGrounded}
 use Rattle.search_trace.proofs.Trail.{first_is_known}
 use Rattle.search_trace.proofs.Places.{start_is_traced}
@@ -35,6 +36,7 @@ module _ (w : SearchContext) (q : Query) (at sub not_sup : ℕ) (asked : IsAsked
     marks = [];
     clash = clash;
     steps = 0;
+    behind = false;
   }
 
   grounded_now : AreGrounded w.first (marked_in entries_now)
@@ -55,6 +57,8 @@ module _ (w : SearchContext) (q : Query) (at sub not_sup : ℕ) (asked : IsAsked
     follows = refl;
     blocks = blocks;
     places = [];
+    from = start_of (asked_of w q at);
+    from_is = λ begun. refl;
     traced = record {
       are_at = tt;
       traced = start_is_traced (asked_of w q at) w.table sub not_sup asked.sub_is asked.not_sup_is;
@@ -73,6 +77,7 @@ module _ (w : SearchContext) (q : Query) (at sub not_sup : ℕ) (asked : IsAsked
     current = current;
     trail_is = refl;
     no_steps = refl;
+    from_nothing = refl;
   }
 
   pub begins : (first : ℕ) → first ≡ w.first → (es : List Entry) → es ≡ entries_now → (found_blocks : Printed)
@@ -92,6 +97,7 @@ module _ (w : SearchContext) (q : Query) (at sub not_sup : ℕ) (asked : IsAsked
         marks = marks;
         clash = clash;
         steps = 0;
+        behind = false;
       })
   begins first one es are found_blocks current blocks trace traced marks none clash is =
       let h =
@@ -115,6 +121,7 @@ module _ (w : SearchContext) (q : Query) (at sub not_sup : ℕ) (asked : IsAsked
         marks = marks;
         clash = clash;
         steps = 0;
+        behind = false;
       } =
       (λ i. record {
         query = q;
@@ -128,5 +135,6 @@ module _ (w : SearchContext) (q : Query) (at sub not_sup : ℕ) (asked : IsAsked
         marks = sym none i;
         clash = clash;
         steps = 0;
+        behind = false;
       }) in
       subst (λ (s : ProgressLists). HasBegun w s) all h

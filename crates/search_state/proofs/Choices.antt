@@ -17,7 +17,7 @@ use Rattle.tableau_specs.specs.declared.Item.TheVariants.{Fact as Says, Mark as 
 use Rattle.tableau_specs.specs.Clash.{IsPlainClash}
 use Rattle.tableau_specs.specs.Steps.{SearchContext, below_of, MayBranch, IsAlternative, IsLegal, next_choice}
 use Rattle.tableau_specs.specs.Steps.IsLegal.{choose, back}
-use Rattle.search_trace.specs.Noted.{marked, start_of}
+use Rattle.search_trace.specs.Noted.{marked}
 use Rattle.search_trace.specs.Grounded.{is_known_within, AreGrounded}
 use Rattle.search_trace.specs.Trail.{MarkedFact}
 use Rattle.search_trace.specs.Places.{Place, opened_place, turned_place}
@@ -103,9 +103,9 @@ module _ (w : SearchContext) (old : ProgressLists) (st : IsStanding w old) where
       take-append_seam old.entries (Mark c ∷ Grounded f by ∷ []) in
       let place : Place = opened_place old.trace.lines ms (next_line old.trace line u) rest in
       let traced :
-      IsTracedAt (asked_by w old) w.table (start_of (asked_by w old)) (with_branching old.trace line u (length rest))
+      IsTracedAt (asked_by w old) w.table st.from (with_branching old.trace line u (length rest))
       (place ∷ st.places) (ms ++ map (marked (sets.insert u m)) (f ∷ [])) =
-      (goes_on (asked_by w old) w.table (start_of (asked_by w old)) old.trace st.places ms st.traced).branching line u
+      (goes_on (asked_by w old) w.table st.from old.trace st.places ms st.traced).branching line u
       at.rule child.added rest (f ∷ []) at.holds (at.children_are ∙ all) r.branching child.puts in
       let all_marked : marked_in es ≡ ms ++ map (marked (sets.insert u m)) (f ∷ []) =
       marked-choice old.entries c f by (sets.insert u m) same in
@@ -120,11 +120,13 @@ module _ (w : SearchContext) (old : ProgressLists) (st : IsStanding w old) where
             (choose c f (at_items w old st (λ fs. ¬ IsPlainClash w.first (below_of w) w.table fs) none)
             (at_items w old st (λ fs. MayBranch w fs (branch_of k)) is.may) refl alternative);
         places = place ∷ st.places;
+        from = st.from;
+        from_is = st.from_is;
         traced =
-            subst (λ (i : ℕ). IsTracedAt (asked_by w old) w.table (start_of (asked_by w old))
+            subst (λ (i : ℕ). IsTracedAt (asked_by w old) w.table st.from
             (with_branching old.trace line u i) (place ∷ st.places) (marked_in es))
             (sym long)
-            (subst (λ (ns : List MarkedFact). IsTracedAt (asked_by w old) w.table (start_of (asked_by w old))
+            (subst (λ (ns : List MarkedFact). IsTracedAt (asked_by w old) w.table st.from
             (with_branching old.trace line u (length rest)) (place ∷ st.places) ns)
             (sym all_marked) traced);
         are_marks = (
@@ -188,7 +190,7 @@ module _ (w : SearchContext) (s : ProgressLists) (mark : ℕ) (marks : NumberSet
       ap (λ (i : ℕ). take i es) (sym long) ∙ take-append_seam front (Mark c ∷ Grounded f by ∷ []) in
       let place : Place = turned_place p s.trace.lines t.used rest in
       let traced :
-      IsTracedAt (asked_by w s) w.table (start_of (asked_by w s)) s.trace (place ∷ t.older)
+      IsTracedAt (asked_by w s) w.table t.from s.trace (place ∷ t.older)
       (p.facts ++ map (marked marks) (f ∷ [])) = t.traced child.added rest (f ∷ []) all child.puts in
       let all_marked : marked_in es ≡ p.facts ++ map (marked marks) (f ∷ []) =
       marked-choice front c f by marks same
@@ -211,8 +213,10 @@ module _ (w : SearchContext) (s : ProgressLists) (mark : ℕ) (marks : NumberSet
             ∙ ap (λ (is : List Item). is ++ Marks c ∷ Says f ∷ []) (take_items l.at s.entries)))
             legal;
         places = place ∷ t.older;
+        from = t.from;
+        from_is = t.from_is;
         traced =
-            subst (λ (ns : List MarkedFact). IsTracedAt (asked_by w s) w.table (start_of (asked_by w s)) s.trace
+            subst (λ (ns : List MarkedFact). IsTracedAt (asked_by w s) w.table t.from s.trace
             (place ∷ t.older) ns)
             (sym all_marked) traced;
         are_marks = (

@@ -26,6 +26,8 @@ still_stands w old new same first st = subst (λ (q : ProgressLists). IsStanding
   follows = st.follows;
   blocks = subst (λ (q : ProgressLists). AreFirstBlocks q.first (facts_in q.entries) new.found_blocks) same first;
   places = st.places;
+  from = st.from;
+  from_is = st.from_is;
   traced = st.traced;
   are_marks = st.are_marks;
   grounded = st.grounded;
@@ -61,6 +63,7 @@ stepped_after w old mid new same s h = by_kind s (subst (λ (q : ProgressLists).
           sub = h.0.same.sub;
           not_sup = h.0.same.not_sup;
           first = h.0.same.first;
+          behind = h.0.same.behind;
         };
         standing = h.0.standing;
         is_legal = h.0.is_legal;
@@ -76,6 +79,7 @@ stepped_after w old mid new same s h = by_kind s (subst (λ (q : ProgressLists).
         sub = h.same.sub;
         not_sup = h.same.not_sup;
         first = h.same.first;
+        behind = h.same.behind;
       };
       entries = h.entries;
       blocks = h.blocks;

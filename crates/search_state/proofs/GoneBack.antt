@@ -1,11 +1,13 @@
 -- Where a search is once its trace has gone back from a clash.
-use Rattle.std.proofs.Common.{◌≡◌, List, [], ◌∷◌, ◌++◌, length, sym, subst}
+use Rattle.std.proofs.Common.{◌≡◌, List, [], ◌∷◌, ◌++◌, length, Some, sym, subst}
 use Rattle.lane_sieve.specs.Sets.{NumberSet}
 use Rattle.calculus_specs.specs.Rules.{Question}
 use Rattle.calculus_specs.specs.Line.{Line}
 use Rattle.tableau_specs.specs.Steps.{SearchContext, HasClash}
 use Rattle.std.specs.List.{All}
-use Rattle.search_trace.specs.Noted.{Noted, start_of}
+use Rattle.search_trace.specs.Back.{step_of}
+use Rattle.search_trace.specs.Leaves.{leaves}
+use Rattle.search_trace.specs.Noted.{Noted}
 use Rattle.search_trace.specs.Places.{Place}
 use Rattle.step_agenda.specs.Trail.{items_of}
 use Rattle.search_trace.specs.declared.opens.Back.{Back}
@@ -28,7 +30,7 @@ module _ (w : SearchContext) (old : ProgressLists) (st : IsStanding w old) (clas
   asked = asked_by w old
 
   abbrev start : Noted
-  start = start_of asked
+  start = st.from
 
   abbrev lined : TraceLists
   lined = with_line old.trace line u
@@ -56,6 +58,7 @@ module _ (w : SearchContext) (old : ProgressLists) (st : IsStanding w old) (clas
     marks = old.marks;
     clash = old.clash;
     steps = old.steps;
+    behind = old.behind;
   }
 
   fit : All (IsFitLine w old.sub old.not_sup) (turned_back lined u).lines
@@ -71,7 +74,9 @@ module _ (w : SearchContext) (old : ProgressLists) (st : IsStanding w old) (clas
     follows = st.follows;
     blocks = st.blocks;
     has_clash = clash;
-    closes = is;
+    closes = λ begun.
+        subst (λ (n : Noted). leaves (step_of asked w.table) (n ∷ []) (turned_back lined u).lines ≡ Some [])
+        (st.from_is begun) is;
     fit = fit;
   }
   by_left [] (Turned mark marks) are count is = absurd is
@@ -91,6 +96,8 @@ module _ (w : SearchContext) (old : ProgressLists) (st : IsStanding w old) (clas
     marks_are = is.marks_are;
     used = (gone_back lined.lines lined.opens u).used;
     has_next = is.has_next;
+    from = st.from;
+    from_is = st.from_is;
     traced = is.traced;
     fit = fit;
   }

@@ -163,6 +163,8 @@ module _ (w : SearchContext) (s : ProgressLists) (st : IsStanding w s) where
       follows = st.follows;
       blocks = st.blocks;
       places = st.places;
+      from = st.from;
+      from_is = st.from_is;
       traced = st.traced;
       are_marks = st.are_marks;
       grounded = st.grounded;

@@ -15,3 +15,4 @@ pub mod Nexts
 pub mod Begun
 pub mod Beginnings
 pub mod Followed
+pub mod GivenTrail

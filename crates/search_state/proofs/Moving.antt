@@ -1,5 +1,5 @@
 -- A step that is made keeps what is always so of a search.
-use Rattle.std.proofs.Common.{◌≡◌, ℕ, suc, ◌+◌, true, List, [], ◌∷◌, ◌++◌, map, ap, ◌∙◌, sym, subst, arith}
+use Rattle.std.proofs.Common.{◌≡◌, ℕ, suc, ◌+◌, true, false, List, [], ◌∷◌, ◌++◌, map, ap, ◌∙◌, sym, subst, arith}
 use Rattle.std.specs.List.{All}
 use Rattle.std.proofs.lemmas.List.Elements.{All-append, All-cons, All-nil}
 use Rattle.lane_sieve.specs.Sets.{NumberSet}
@@ -11,7 +11,7 @@ use Rattle.tableau_specs.specs.Steps.{SearchContext, IsLegal}
 use Rattle.tableau_specs.specs.Reached.{start, Follows, IsReached}
 use Rattle.tableau_specs.specs.StepLaws.{AreOfKind}
 use Rattle.tableau_specs.proofs.KeptKinds.{kept_kinds_stay}
-use Rattle.search_trace.specs.Noted.{marked, NotedLine, start_of}
+use Rattle.search_trace.specs.Noted.{marked, Noted, NotedLine, start_of}
 use Rattle.search_trace.specs.Premises.{Added, is_single}
 use Rattle.search_trace.specs.Trail.{MarkedFact, Puts}
 use Rattle.search_trace.specs.Grounded.{AreGrounded}
@@ -41,6 +41,7 @@ pub record IsNext (old new : ProgressLists) (entries : List Entry) (trace : Trac
   pub trace_is : new.trace ≡ trace
   pub marks_are : new.marks ≡ marks
   pub counted : new.steps ≡ old.steps + 1
+  pub behind : new.behind ≡ old.behind
   pub blocks : AreFirstBlocks new.first (facts_in new.entries) new.found_blocks
 
 module _ (w : SearchContext) (old : ProgressLists) where
@@ -48,7 +49,9 @@ module _ (w : SearchContext) (old : ProgressLists) where
   pub record AreKept (entries : List Entry) (trace : TraceLists) (marks : List ℕ) : Type 0 where
     pub is_legal : IsLegal w (items_of old.entries) (items_of entries)
     pub places : List Place
-    pub traced : IsTracedAt (asked_by w old) w.table (start_of (asked_by w old)) trace places (marked_in entries)
+    pub from : Noted
+    pub from_is : old.behind ≡ false → from ≡ start_of (asked_by w old)
+    pub traced : IsTracedAt (asked_by w old) w.table from trace places (marked_in entries)
     pub are_marks : AreMarks w entries marks places
     pub grounded : AreGrounded w.first (marked_in entries)
     pub fit : All (IsFitLine w old.sub old.not_sup) trace.lines
@@ -70,6 +73,7 @@ module _ (w : SearchContext) (old : ProgressLists) where
         marks = marks;
         clash = new.clash;
         steps = old.steps + 1;
+        behind = old.behind;
       } in
       let same : explicit ≡ new =
       (λ i. record {
@@ -84,6 +88,7 @@ module _ (w : SearchContext) (old : ProgressLists) where
         marks = sym n.marks_are i;
         clash = new.clash;
         steps = sym n.counted i;
+        behind = sym n.behind i;
       }) in
       let more : suc old.steps ≡ old.steps + 1 = omega arith in
       let base : Follows w (start old.at old.sub old.not_sup) (suc old.steps) (items_of entries) =
@@ -97,13 +102,15 @@ module _ (w : SearchContext) (old : ProgressLists) where
             (subst (λ (es : List Entry). AreFirstBlocks new.first (facts_in es) new.found_blocks) n.entries_are
             n.blocks);
         places = k.places;
+        from = k.from;
+        from_is = k.from_is;
         traced = k.traced;
         are_marks = k.are_marks;
         grounded = k.grounded;
         fit = k.fit;
       } in
       record {
-        same = record { query = n.query; at = n.at; sub = n.sub; not_sup = n.not_sup; first = n.first };
+        same = record { query = n.query; at = n.at; sub = n.sub; not_sup = n.not_sup; first = n.first; behind = n.behind };
         standing = subst (λ (q : ProgressLists). IsStanding w q) same here;
         is_legal =
             subst (λ (es : List Entry). IsLegal w (items_of old.entries) (items_of es)) (sym n.entries_are) k.is_legal;
@@ -169,12 +176,13 @@ module _ (w : SearchContext) (old : ProgressLists) (st : IsStanding w old) where
       record {
         is_legal = subst (λ xs. IsLegal w (items_of old.entries) xs) (sym trail) legal;
         places = st.places;
+        from = st.from;
+        from_is = st.from_is;
         traced =
-            subst (λ (ns : List MarkedFact). IsTracedAt (asked_by w old) w.table (start_of (asked_by w old))
+            subst (λ (ns : List MarkedFact). IsTracedAt (asked_by w old) w.table st.from
             (with_line old.trace line u) st.places ns)
             (sym ms)
-            ((goes_on (asked_by w old) w.table (start_of (asked_by w old)) old.trace st.places (marked_in old.entries)
-            st.traced).single
+            ((goes_on (asked_by w old) w.table st.from old.trace st.places (marked_in old.entries) st.traced).single
             line u at.rule child fs at.holds at.children_are single puts);
         are_marks = marks_stay w old.entries (grounded by fs) old.marks st.places st.are_marks;
         grounded = subst (AreGrounded w.first) (sym ms) ground;

@@ -123,6 +123,7 @@ closing_is_closed w old new same h = record {
     first = ap (λ (q : ProgressLists). q.first) same;
     sub = ap (λ (q : ProgressLists). q.sub) same;
     not_sup = ap (λ (q : ProgressLists). q.not_sup) same;
+    behind = ap (λ (q : ProgressLists). q.behind) same;
   };
   entries = ap (λ (q : ProgressLists). q.entries) same;
   blocks = h.blocks;

@@ -1,5 +1,5 @@
 -- How far a search is.
-use Rattle.std.specs.Prelude.{◌≡◌, ℕ, ◌+◌, ◌<◌, nat_lt, Bool, true, List, [], ◌∷◌, ◌++◌, length, Option, Some, None}
+use Rattle.std.specs.Prelude.{◌≡◌, ℕ, ◌+◌, ◌<◌, nat_lt, Bool, true, false, List, [], ◌∷◌, ◌++◌, length, Option, Some, None}
 use Rattle.std.specs.Prelude.{All}
 use Rattle.std.specs.List.{list_all}
 use Rattle.shq_terms.specs.Concept.{Concept}
@@ -17,7 +17,7 @@ use Rattle.tableau_specs.specs.KeptKinds.{IsKept}
 use Rattle.tableau_specs.specs.Steps.{SearchContext, below_of, IsLegal}
 use Rattle.tableau_specs.specs.Reached.{start, Follows, FactsHaveNumbers}
 use Rattle.absorption.specs.ClosureLaws.{IsClosedFor}
-use Rattle.search_trace.specs.Noted.{NotedLine, start_of}
+use Rattle.search_trace.specs.Noted.{Noted, NotedLine, start_of}
 use Rattle.search_trace.specs.Grounded.{AreGrounded}
 use Rattle.search_trace.specs.Places.{Place}
 use Rattle.search_trace.specs.Trail.{makes_no_node}
@@ -37,7 +37,8 @@ use Rattle.search_state.specs.Branchings.{AreMarks}
 
 -- the query, the node in question, the numbers of what it asks, how many first nodes there are, the entries of the
 -- trail, what is known of blocked nodes, the trace, the places of the trail's marks, latest first, a clash of the
--- trail, if it has a plain one, and how many steps were made
+-- trail, if it has a plain one, how many steps were made, and whether the search went on behind a trail that it was
+-- given: then the lines of its trace alone are no refutation
 pub record ProgressLists : Type 0 where
   pub query : Query
   pub at : ℕ
@@ -50,6 +51,7 @@ pub record ProgressLists : Type 0 where
   pub marks : List ℕ
   pub clash : Option Clash
   pub steps : ℕ
+  pub behind : Bool
 
 -- the first nodes and the entries, as a tree has them
 abbrev pub tree_in : ProgressLists → TreeEntries
@@ -78,13 +80,14 @@ pub record IsAsked (w : SearchContext) (q : Query) (at sub not_sup : ℕ) : Type
   pub not_sup_listed : not_sup < length w.table
   pub not_sup_is : tree_of w.table not_sup ≡ negated_form q.sup
 
--- the search is still for the same query, from the same nodes and numbers
+-- the search is still for the same query, from the same nodes and numbers, and began as it did
 pub record IsSameQuery (old new : ProgressLists) : Type 0 where
   pub query : new.query ≡ old.query
   pub at : new.at ≡ old.at
   pub sub : new.sub ≡ old.sub
   pub not_sup : new.not_sup ≡ old.not_sup
   pub first : new.first ≡ old.first
+  pub behind : new.behind ≡ old.behind
 
 -- ---- what is always so
 
@@ -97,14 +100,17 @@ pub record IsFitLine (w : SearchContext) (sub not_sup : ℕ) (l : NotedLine) : T
       → list_all (λ c. p (tree_of w.table c)) (concept_numbers l.line) ≡ true
   pub has_part : HasPart w l.line
 
--- the trail is reached by as many legal steps, the blocks that are known are those of the trail, and so is the trace
+-- The trail is reached by as many legal steps, the blocks that are known are those of the trail, and so is the trace.
+-- The trace begins with the branch of the query's start, unless the search went on behind a trail that it was given.
 pub record IsStanding (w : SearchContext) (s : ProgressLists) : Type 0 where
   pub asked : IsAsked w s.query s.at s.sub s.not_sup
   pub first_is : s.first ≡ w.first
   pub follows : Follows w (start s.at s.sub s.not_sup) s.steps (items_of s.entries)
   pub blocks : AreFirstBlocks s.first (facts_in s.entries) s.found_blocks
   pub places : List Place
-  pub traced : IsTracedAt (asked_by w s) w.table (start_of (asked_by w s)) s.trace places (marked_in s.entries)
+  pub from : Noted
+  pub from_is : s.behind ≡ false → from ≡ start_of (asked_by w s)
+  pub traced : IsTracedAt (asked_by w s) w.table from s.trace places (marked_in s.entries)
   pub are_marks : AreMarks w s.entries s.marks places
   pub grounded : AreGrounded w.first (marked_in s.entries)
   pub fit : All (IsFitLine w s.sub s.not_sup) s.trace.lines

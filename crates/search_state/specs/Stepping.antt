@@ -1,5 +1,5 @@
 -- What a step of a search comes to.
-use Rattle.std.specs.Prelude.{◌≡◌, List, [], ◌∷◌, Some, All}
+use Rattle.std.specs.Prelude.{◌≡◌, ℕ, true, false, List, [], ◌∷◌, ◌++◌, Some, All}
 use Rattle.tableau_specs.specs.declared.Item.{Item}
 use Rattle.tableau_specs.specs.Steps.{SearchContext, IsLegal, IsSaturated, HasClash}
 use Rattle.tableau_specs.specs.Reached.{start}
@@ -21,6 +21,15 @@ pub record HasBegun (w : SearchContext) (s : ProgressLists) : Type 0 where
   pub current : IsCurrent s.first (facts_in s.entries) s.found_blocks
   pub trail_is : items_of s.entries ≡ start s.at s.sub s.not_sup
   pub no_steps : s.steps ≡ 0
+  pub from_nothing : s.behind ≡ false
+
+-- what goes on behind a trail that it was given: these items behind the facts of its start, after so many steps
+pub record IsBehind (w : SearchContext) (rest : List Item) (steps : ℕ) (s : ProgressLists) : Type 0 where
+  pub is_searching : IsSearching w s
+  pub current : IsCurrent s.first (facts_in s.entries) s.found_blocks
+  pub trail_is : items_of s.entries ≡ start s.at s.sub s.not_sup ++ rest
+  pub counted : s.steps ≡ steps
+  pub is_behind : s.behind ≡ true
 
 -- nothing has changed but what is known of blocks
 abbrev pub IsSameButBlocks : ProgressLists → ProgressLists → Type 0
@@ -32,14 +41,16 @@ pub record HasFollowed (old new : ProgressLists) : Type 0 where
   pub current : IsCurrent new.first (facts_in new.entries) new.found_blocks
 
 module _ (w : SearchContext) where
-  -- the lines close everything, the trail is as it was, and the blocks that are known are those of the trail
+  -- The lines close everything: they are a refutation where the search began with the query's start. The trail is as
+  -- it was, and the blocks that are known are those of the trail.
   pub record IsClosed (old new : ProgressLists) : Type 0 where
     pub same : IsSameQuery old new
     pub entries : new.entries ≡ old.entries
     pub blocks : AreFirstBlocks new.first (facts_in new.entries) new.found_blocks
     pub steps : new.steps ≡ old.steps
     pub has_clash : HasClash w (items_of new.entries)
-    pub closes : leaves (step_of (asked_by w new) w.table) (start_of (asked_by w new) ∷ []) new.trace.lines ≡ Some []
+    pub closes : new.behind ≡ false
+        → leaves (step_of (asked_by w new) w.table) (start_of (asked_by w new) ∷ []) new.trace.lines ≡ Some []
     pub fit : All (IsFitLine w new.sub new.not_sup) new.trace.lines
 
   abbrev pub IsStepped : ProgressLists → ProgressLists → Stepped → Type 0

@@ -1,5 +1,5 @@
 -- Where a search is that has gone back in its trace.
-use Rattle.std.specs.Prelude.{◌≡◌, ℕ, List, [], ◌∷◌, ◌++◌, Some, All, length, map}
+use Rattle.std.specs.Prelude.{◌≡◌, ℕ, false, List, [], ◌∷◌, ◌++◌, Some, All, length, map}
 use Rattle.std.specs.FinSet as sets
 use Rattle.lane_sieve.specs.Sets.{NumberSet}
 use Rattle.calculus_specs.specs.declared.facts.Fact.{Fact}
@@ -7,7 +7,7 @@ use Rattle.tableau_specs.specs.Steps.{SearchContext, HasClash}
 use Rattle.tableau_specs.specs.Reached.{start, Follows}
 use Rattle.search_trace.specs.Premises.{Added}
 use Rattle.search_trace.specs.Leaves.{leaves}
-use Rattle.search_trace.specs.Noted.{marked, start_of}
+use Rattle.search_trace.specs.Noted.{marked, Noted, start_of}
 use Rattle.search_trace.specs.Trail.{Puts}
 use Rattle.search_trace.specs.Back.{step_of}
 use Rattle.search_trace.specs.Places.{Place, turned_place}
@@ -36,20 +36,24 @@ pub record IsTurning (w : SearchContext) (s : ProgressLists) (mark : ℕ) (marks
   pub marks_are : marks ≡ sets.insert place.marks place.mark
   pub used : NumberSet
   pub has_next : (a : Added) × (rest : List Added) × (place.rest ≡ a ∷ rest)
+  pub from : Noted
+  pub from_is : s.behind ≡ false → from ≡ start_of (asked_by w s)
   pub traced : (a : Added) (rest : List Added) (new : List (Fact ℕ)) → place.rest ≡ a ∷ rest
       → Puts w.first w.table a new
-      → IsTracedAt (asked_by w s) w.table (start_of (asked_by w s)) s.trace
+      → IsTracedAt (asked_by w s) w.table from s.trace
       (turned_place place s.trace.lines used rest ∷ older) (place.facts ++ map (marked marks) new)
   pub fit : All (IsFitLine w s.sub s.not_sup) s.trace.lines
 
--- the trail has a clash, and the lines of the trace close everything
+-- the trail has a clash, and the lines of the trace close everything: also the branch of the query's start, where the
+-- trace began with it
 pub record IsClosing (w : SearchContext) (s : ProgressLists) : Type 0 where
   pub asked : IsAsked w s.query s.at s.sub s.not_sup
   pub first_is : s.first ≡ w.first
   pub follows : Follows w (start s.at s.sub s.not_sup) s.steps (items_of s.entries)
   pub blocks : AreFirstBlocks s.first (facts_in s.entries) s.found_blocks
   pub has_clash : HasClash w (items_of s.entries)
-  pub closes : leaves (step_of (asked_by w s) w.table) (start_of (asked_by w s) ∷ []) s.trace.lines ≡ Some []
+  pub closes : s.behind ≡ false
+      → leaves (step_of (asked_by w s) w.table) (start_of (asked_by w s) ∷ []) s.trace.lines ≡ Some []
   pub fit : All (IsFitLine w s.sub s.not_sup) s.trace.lines
 
 -- where a search is after going back: at a branching that turns, or closing

@@ -57,6 +57,7 @@ impl<'b, A: Allocator + Copy> Progress<'b, A> {
             marks: Vec::new(heap),
             clash,
             steps: 0,
+            behind: false,
             agenda: Agenda::new(heap, at),
             effort: Effort::new(),
         })
@@ -64,7 +65,7 @@ impl<'b, A: Allocator + Copy> Progress<'b, A> {
 }
 
 // Gives the node a concept, which rests on nothing.
-fn put_start<A: Allocator + Copy>(
+pub(crate) fn put_start<A: Allocator + Copy>(
     tree: &mut Tree<A>,
     node: u32,
     concept: u32,
@@ -73,11 +74,17 @@ fn put_start<A: Allocator + Copy>(
     ensures { let es = tree.old.entries ++ Grounded (Has node concept) by_start ∷ [] in
         OnOk result (tree.new ≡ record tree.old { entries = es }) }
 {
-    let by = By {
+    tree.add(Fact::Has(node, concept), on_nothing())
+}
+
+// What rests on no mark.
+pub(crate) fn on_nothing() -> By
+    ensures { result ≡ by_start }
+{
+    By {
         line: 0,
         marks: Deps::none(),
-    };
-    tree.add(Fact::Has(node, concept), by)
+    }
 }
 
 // The plain clash that there is at the beginning, if there is one.

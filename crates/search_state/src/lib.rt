@@ -4,12 +4,16 @@
 //! that are open; the search goes back to the latest of these at once, in tree, blocks, trace and agenda together, and
 //! takes the next alternative there (dependency-directed backtracking: Richard Stallman and Gerald Sussman, Artificial
 //! Intelligence 9, 1977).
+//!
+//! A search may also go on behind a trail that is known to be reached. It has no lines for that trail, so that it finds
+//! a saturated trail as any other, and no refutation.
 #![tactic(auto)]
 
 mod advance;
 mod alternatives;
 mod backing;
 mod beginning;
+mod behind;
 mod effort;
 mod looking;
 mod next_alternative;

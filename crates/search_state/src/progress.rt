@@ -47,6 +47,7 @@ pub struct Progress<'b, A: Allocator> {
     pub(crate) marks: Vec<u32>,
     pub(crate) clash: Option<Clash>,
     pub(crate) steps: u64,
+    pub(crate) behind: bool,
 
     // Where a next step is looked for first, and what was done beside steps. No contract speaks of them.
     pub(crate) agenda: Agenda,
@@ -77,6 +78,7 @@ impl<'b, A: Allocator> Model for Progress<'b, A> {
       marks = reverse p.marks.items;
       clash = p.clash;
       steps = p.steps;
+      behind = p.behind;
     } };
 }
 

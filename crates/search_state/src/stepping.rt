@@ -25,7 +25,7 @@ pub enum Stepped {
     Moved,
     /// There is none: the trail is saturated.
     Saturated,
-    /// There is none: the lines of the trace close everything.
+    /// There is none: the lines of the trace close everything, from where it began.
     Closed,
 }
 
@@ -36,7 +36,7 @@ pub enum Rested {
     CanMove,
     /// The trail is saturated.
     Saturated,
-    /// The lines of the trace close everything.
+    /// The lines of the trace close everything, from where it began.
     Closed,
 }
 
@@ -163,6 +163,13 @@ impl<'b, A: Allocator + Copy> Progress<'b, A> {
         ensures { result ≡ self.now.steps }
     {
         self.steps
+    }
+
+    /// Whether the search went on behind a trail that it was given. Then the lines of its trace alone refute nothing.
+    pub fn behind(&self) -> bool
+        ensures { result ≡ self.now.behind }
+    {
+        self.behind
     }
 
     /// What was done beside the steps.

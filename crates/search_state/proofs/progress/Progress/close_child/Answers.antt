@@ -27,6 +27,7 @@ returns-clause-gone_back g c =
       marks = reverse s.marks.items;
       clash = s.clash;
       steps = s.steps;
+      behind = s.behind;
     } in
     let is : old ≡ c.args.self.now = c.self.view_is in
     let line = line_of c.args.resting.line in
@@ -52,6 +53,7 @@ returns-clause-gone_back g c =
       marks = reverse s.marks.items;
       clash = s.clash;
       steps = s.steps;
+      behind = s.behind;
     })
     c.in_ok-back.back)
     trace

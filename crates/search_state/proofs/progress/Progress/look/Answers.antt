@@ -19,6 +19,7 @@ returns-clause-found g c =
       marks = reverse s.marks.items;
       clash = s.clash;
       steps = s.steps;
+      behind = s.behind;
     } in
     let is : old ≡ c.args.self.now = c.self.view_is in
     looked w old (subst (λ (q : ProgressLists). IsStanding w q) (sym is) c.requires.standing) c.args.fact

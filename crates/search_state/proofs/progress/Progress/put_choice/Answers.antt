@@ -39,6 +39,7 @@ keep_blocks-requires-clause-stood g c =
       marks = reverse s.marks.items;
       clash = s.clash;
       steps = s.steps;
+      behind = s.behind;
     } in
     let is : old ≡ c.args.self.now = c.self.view_is in
     let st : IsStanding w old = subst (λ (q : ProgressLists). IsStanding w q) (sym is) c.requires.standing in
@@ -73,6 +74,7 @@ returns-clause-moved g c =
       marks = reverse s.marks.items;
       clash = s.clash;
       steps = s.steps;
+      behind = s.behind;
     } in
     let is : old ≡ c.args.self.now = c.self.view_is in
     let line = line_of c.args.resting.line in
@@ -90,6 +92,7 @@ returns-clause-moved g c =
       marks = reverse c.push.new.self.items;
       clash = s.clash;
       steps = s.steps + 1;
+      behind = s.behind;
     } in
     subst (λ (q : ProgressLists). HasMoved w q new) is
     (choice_moves w old (subst (λ (q : ProgressLists). IsStanding w q) (sym is) c.requires.standing) k
@@ -117,6 +120,7 @@ returns-clause-moved g c =
           ap reverse c.in_ok-push.ensures.items ∙ reverse-append s.marks.items (c.len-place.result ∷ [])
           ∙ ap (λ (n : ℕ). n ∷ reverse s.marks.items) c.len-place.ensures;
       counted = refl;
+      behind = refl;
       blocks = c.keep_blocks.ensures.first;
     }))
 
@@ -136,6 +140,7 @@ returns-clause-last g c =
       marks = reverse s.marks.items;
       clash = s.clash;
       steps = s.steps;
+      behind = s.behind;
     } in
     let is : old ≡ c.args.self.now = c.self.view_is in
     let by : By = record { line = c.in_ok-mark.mark; marks = c.in_ok-more.more } in

@@ -28,6 +28,7 @@ add-requires g c =
       marks = reverse s.marks.items;
       clash = s.clash;
       steps = s.steps;
+      behind = s.behind;
     } in
     let is : old ≡ c.args.self.now = c.self.view_is in
     let st : IsStanding w old = subst (λ (q : ProgressLists). IsStanding w q) (sym is) c.requires.standing in
@@ -51,6 +52,7 @@ returns-clause-moved g c =
       marks = reverse s.marks.items;
       clash = s.clash;
       steps = s.steps;
+      behind = s.behind;
     } in
     let is : old ≡ c.args.self.now = c.self.view_is in
     let line = line_of c.args.resting.line in
@@ -68,6 +70,7 @@ returns-clause-moved g c =
       marks = reverse s.marks.items;
       clash = s.clash;
       steps = s.steps + 1;
+      behind = s.behind;
     } in
     subst (λ (q : ProgressLists). HasMoved w q new) is
     (given_moves w old (subst (λ (q : ProgressLists). IsStanding w q) (sym is) c.requires.standing) a
@@ -86,6 +89,7 @@ returns-clause-moved g c =
       trace_is = c.in_ok-number.ensures.put ∙ ap (λ (v : NumberSet). with_line s.trace line v) c.in_ok-shared.ensures;
       marks_are = refl;
       counted = refl;
+      behind = refl;
       blocks = c.keep_blocks.ensures.first;
     }))
 
@@ -105,6 +109,7 @@ returns-clause-last g c =
       marks = reverse s.marks.items;
       clash = s.clash;
       steps = s.steps;
+      behind = s.behind;
     } in
     let is : old ≡ c.args.self.now = c.self.view_is in
     record {

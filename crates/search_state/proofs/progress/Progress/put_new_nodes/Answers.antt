@@ -30,6 +30,7 @@ returns-clause-moved g c =
       marks = reverse s.marks.items;
       clash = s.clash;
       steps = s.steps;
+      behind = s.behind;
     } in
     let is : old ≡ c.args.self.now = c.self.view_is in
     let line = line_of c.args.resting.line in
@@ -47,6 +48,7 @@ returns-clause-moved g c =
       marks = reverse s.marks.items;
       clash = s.clash;
       steps = s.steps + 1;
+      behind = s.behind;
     } in
     let st : IsStanding w old = subst (λ (q : ProgressLists). IsStanding w q) (sym is) c.requires.standing in
     subst (λ (q : ProgressLists). HasMoved w q new) is
@@ -68,6 +70,7 @@ returns-clause-moved g c =
       trace_is = c.in_ok-number.ensures.put ∙ ap (λ (v : NumberSet). with_line s.trace line v) c.in_ok-shared.ensures;
       marks_are = refl;
       counted = refl;
+      behind = refl;
       blocks = c.keep_blocks.ensures.first;
     }))
 
@@ -88,6 +91,7 @@ returns-clause-last g c =
       marks = reverse s.marks.items;
       clash = s.clash;
       steps = s.steps;
+      behind = s.behind;
     } in
     let is : old ≡ c.args.self.now = c.self.view_is in
     let st = subst (λ (q : ProgressLists). IsStanding w q) (sym is) c.requires.standing in

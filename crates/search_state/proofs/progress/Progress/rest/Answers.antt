@@ -20,6 +20,7 @@ rest_without_clash-requires-clause-none g c =
       marks = reverse s.marks.items;
       clash = s.clash;
       steps = s.steps;
+      behind = s.behind;
     } in
     let is : old ≡ c.args.self.now = c.self.view_is in
     let none : c.args.self.now.clash ≡ None = ap (λ (q : ProgressLists). q.clash) (sym is) ∙ c.in-None.is in

@@ -29,6 +29,7 @@ returns-then-branch g c =
       marks = reverse i.marks.items;
       clash = i.clash;
       steps = i.steps;
+      behind = i.behind;
     } in
     let is : old ≡ s = c.self.view_is in
     let rests : RestsClash w s.entries line u =

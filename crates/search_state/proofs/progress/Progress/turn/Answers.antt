@@ -31,6 +31,7 @@ cut_marks-place-requires-clause-within g c =
       marks = reverse s.marks.items;
       clash = s.clash;
       steps = s.steps;
+      behind = s.behind;
     } in
     let m = c.args.mark in
     let ms = c.args.marks in
@@ -54,6 +55,7 @@ choice_at-choice-requires g c =
       marks = reverse s.marks.items;
       clash = s.clash;
       steps = s.steps;
+      behind = s.behind;
     } in
     let m = c.args.mark in
     let ms = c.args.marks in
@@ -78,6 +80,7 @@ alternative_after-fact-requires-clause-more g c =
       marks = reverse s.marks.items;
       clash = s.clash;
       steps = s.steps;
+      behind = s.behind;
     } in
     let m = c.args.mark in
     let ms = c.args.marks in
@@ -102,6 +105,7 @@ alternative_after-fact-requires-clause-numbered g c =
       marks = reverse s.marks.items;
       clash = s.clash;
       steps = s.steps;
+      behind = s.behind;
     } in
     let m = c.args.mark in
     let ms = c.args.marks in
@@ -126,6 +130,7 @@ at_next-next-requires g c =
       marks = reverse s.marks.items;
       clash = s.clash;
       steps = s.steps;
+      behind = s.behind;
     } in
     let m = c.args.mark in
     let ms = c.args.marks in
@@ -150,6 +155,7 @@ cut-from-requires g c =
       marks = reverse s.marks.items;
       clash = s.clash;
       steps = s.steps;
+      behind = s.behind;
     } in
     let m = c.args.mark in
     let ms = c.args.marks in
@@ -174,6 +180,7 @@ put_alternative-requires g c =
       marks = reverse s.marks.items;
       clash = s.clash;
       steps = s.steps;
+      behind = s.behind;
     } in
     let m = c.args.mark in
     let ms = c.args.marks in
@@ -204,6 +211,7 @@ keep_blocks-requires-clause-place g c =
       marks = reverse s.marks.items;
       clash = s.clash;
       steps = s.steps;
+      behind = s.behind;
     } in
     let m = c.args.mark in
     let ms = c.args.marks in
@@ -238,6 +246,7 @@ keep_blocks-requires-clause-stood g c =
       marks = reverse s.marks.items;
       clash = s.clash;
       steps = s.steps;
+      behind = s.behind;
     } in
     let m = c.args.mark in
     let ms = c.args.marks in
@@ -277,6 +286,7 @@ returns-clause-last g c =
       marks = reverse s.marks.items;
       clash = s.clash;
       steps = s.steps;
+      behind = s.behind;
     } in
     let m = c.args.mark in
     let ms = c.args.marks in
@@ -313,6 +323,7 @@ returns-clause-moved g c =
       marks = reverse s.marks.items;
       clash = s.clash;
       steps = s.steps;
+      behind = s.behind;
     } in
     let m = c.args.mark in
     let ms = c.args.marks in
@@ -339,6 +350,7 @@ returns-clause-moved g c =
       marks = reverse c.cut_marks-place.new.marks.items;
       clash = s.clash;
       steps = s.steps + 1;
+      behind = s.behind;
     } in
     subst (λ (q : ProgressLists). HasMoved w q new) is
     (moves_at w old m ms t s.marks.items refl c.open_count-count.result c.cut_marks-place.result
@@ -356,5 +368,6 @@ returns-clause-moved g c =
       trace_is = refl;
       marks_are = ap reverse c.cut_marks-place.ensures.kept;
       counted = refl;
+      behind = refl;
       blocks = c.keep_blocks.ensures.first;
     }))
