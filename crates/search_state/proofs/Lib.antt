@@ -16,3 +16,4 @@ pub mod Begun
 pub mod Beginnings
 pub mod Followed
 pub mod GivenTrail
+pub mod Idle

@@ -1,7 +1,7 @@
 -- What a step of a search comes to.
-use Rattle.std.specs.Prelude.{◌≡◌, ℕ, true, false, List, [], ◌∷◌, ◌++◌, Some, All}
+use Rattle.std.specs.Prelude.{◌≡◌, ℕ, true, false, List, [], ◌∷◌, ◌++◌, Some, All, Option, None}
 use Rattle.tableau_specs.specs.declared.Item.{Item}
-use Rattle.tableau_specs.specs.Steps.{SearchContext, IsLegal, IsSaturated, HasClash}
+use Rattle.tableau_specs.specs.Steps.{SearchContext, IsLegal, IsSaturated, HasClash, HasPlainClash}
 use Rattle.tableau_specs.specs.Reached.{start}
 use Rattle.search_trace.specs.Leaves.{leaves}
 use Rattle.search_trace.specs.Noted.{start_of}
@@ -57,6 +57,18 @@ module _ (w : SearchContext) where
   IsStepped old new Moved = HasMoved w old new × IsSearching w new
   IsStepped old new Saturated = HasFollowed old new × IsSaturated w (items_of new.entries)
   IsStepped old new Closed = IsClosed old new
+
+  -- no step was made but that the blocks of all nodes were found, and there is no plain clash
+  pub record IsIdle (old new : ProgressLists) : Type 0 where
+    pub same : IsSameButBlocks old new
+    pub current : IsCurrent new.first (facts_in new.entries) new.found_blocks
+    pub searching : IsSearching w new
+    pub none : ¬ HasPlainClash w (items_of new.entries)
+
+  -- what a step comes to, or that none was seen
+  abbrev pub IsSteppedElsewhere : ProgressLists → ProgressLists → Option Stepped → Type 0
+  IsSteppedElsewhere old new (Some e) = IsStepped old new e
+  IsSteppedElsewhere old new None = IsIdle old new
 
   -- there is a legal step
   pub record HasNext (s : ProgressLists) : Type 0 where

@@ -103,7 +103,11 @@ impl<'b, A: Allocator + Copy> Progress<'b, A> {
     }
 
     // What there is to do where there is a clash.
-    fn go_back<R: Rules>(&mut self, rules: &R, clash: &Clash) -> Result<Stepped, NoMemory>
+    pub(crate) fn go_back<R: Rules>(
+        &mut self,
+        rules: &R,
+        clash: &Clash,
+    ) -> Result<Stepped, NoMemory>
         requires standing { IsStanding (R.context rules.now) self.old }
         requires shown { IsShown (R.context rules.now) (facts_in self.old.entries) clash.now }
         requires countable { self.old.steps + 1 < 2 ^ 64 }
@@ -132,7 +136,7 @@ impl<'b, A: Allocator + Copy> Progress<'b, A> {
     }
 
     // A step that can be made whatever is blocked, where one is seen at the latest facts.
-    fn latest_at_any<R: Rules>(&mut self, rules: &R) -> Result<Option<Step>, NoMemory>
+    pub(crate) fn latest_at_any<R: Rules>(&mut self, rules: &R) -> Result<Option<Step>, NoMemory>
         requires { self.old.first ≡ (R.context rules.now).first }
         ensures found { let w = R.context rules.now in let fs = facts_in self.old.entries in
             IfOk result (λ found. IfSome found (IsStep w fs (R.files rules.now))) }
@@ -148,7 +152,10 @@ impl<'b, A: Allocator + Copy> Progress<'b, A> {
     }
 
     // A step that rests on blocks, or one that comes after these, where one is seen at the latest facts.
-    fn latest_with_blocks<R: Rules>(&mut self, rules: &R) -> Result<Option<Step>, NoMemory>
+    pub(crate) fn latest_with_blocks<R: Rules>(
+        &mut self,
+        rules: &R,
+    ) -> Result<Option<Step>, NoMemory>
         requires one_first { self.old.first ≡ (R.context rules.now).first }
         requires current { IsCurrent self.old.first (facts_in self.old.entries) self.old.found_blocks }
         ensures found { let w = R.context rules.now in let fs = facts_in self.old.entries in
@@ -185,7 +192,7 @@ impl<'b, A: Allocator + Copy> Progress<'b, A> {
         Ok(found)
     }
 
-    fn make<R: Rules>(&mut self, rules: &R, step: &Step) -> Result<(), NoMemory>
+    pub(crate) fn make<R: Rules>(&mut self, rules: &R, step: &Step) -> Result<(), NoMemory>
         requires standing { IsStanding (R.context rules.now) self.old }
         requires none { IsClashOf (R.context rules.now) (facts_in self.old.entries) None }
         requires step { IsStep (R.context rules.now) (facts_in self.old.entries) (R.files rules.now) step.now }

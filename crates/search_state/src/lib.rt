@@ -15,6 +15,7 @@ mod backing;
 mod beginning;
 mod behind;
 mod effort;
+mod elsewhere;
 mod looking;
 mod next_alternative;
 mod progress;

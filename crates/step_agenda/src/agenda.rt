@@ -116,6 +116,16 @@ impl Agenda {
         }
     }
 
+    /// Leaves the node in question out, where it looks for what rows add that are used at each node.
+    pub fn leave_node_out(&mut self) {
+        self.cursors.general = self.cursors.general.max(1);
+    }
+
+    /// Looks at all first nodes again for what such rows add, also at the node in question.
+    pub fn take_node_in(&mut self) {
+        self.cursors.general = 0;
+    }
+
     /// How many entries of trails were looked at, each once for each kind of step.
     pub fn looks(&self) -> u64 {
         self.looks
