@@ -56,6 +56,7 @@ impl<'b, A: Allocator + Copy> Progress<'b, A> {
         let mut found_blocks = Blocks::new(heap);
         blocks_stay();
         found_blocks.complete(&tree)?;
+        let agenda = Agenda::behind(heap, at, tree.len());
         Ok(Progress {
             heap,
             query,
@@ -69,7 +70,7 @@ impl<'b, A: Allocator + Copy> Progress<'b, A> {
             clash: None,
             steps,
             behind: true,
-            agenda: Agenda::new(heap, at),
+            agenda,
             effort: Effort::new(),
         })
     }

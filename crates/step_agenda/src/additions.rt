@@ -5,6 +5,7 @@ ghost use Rattle.step_finders.specs.Found.{PlainDue};
 ghost use Rattle.step_finders.specs.Reasons.{IsAddition};
 
 use crate::nearness::Nearness;
+use crate::passed::Passed;
 use blocking::{Item, Tree};
 use calculus_specs::Fact;
 use std::alloc::Allocator;
@@ -23,10 +24,12 @@ pub(crate) struct Reached {
     pub(crate) rows: usize,
 }
 
-/// The first concept that an entry adds from here on, and up to where it was looked for then.
+/// The first concept that an entry adds from here on, and up to where it was looked for then. Some entries are passed
+/// over.
 pub(crate) fn first_addition<A: Allocator + Copy, S: State, R: Rules>(
     tree: &Tree<A>,
     search: &StateWithRules<'_, S, R>,
+    passed: Passed,
     from: Reached,
 ) -> (Reached, Option<Addition>)
     ensures { IfSome result.1 (IsAddition (R.context search.now.rules.now) (S.facts search.now.state.now)
@@ -34,6 +37,9 @@ pub(crate) fn first_addition<A: Allocator + Copy, S: State, R: Rules>(
 {
     let mut rows = from.rows;
     for place in from.place..tree.len() {
+        if passed.has(place) {
+            continue;
+        }
         match addition_at(tree.item(place), search, rows) {
             Some((rows, addition)) => return (Reached { place, rows }, Some(addition)),
             None => rows = 0,

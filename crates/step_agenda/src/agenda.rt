@@ -9,6 +9,7 @@ use crate::forced::first_forced;
 use crate::givings::first_giving;
 use crate::makings::{Held, first_below_first, first_held, first_making};
 use crate::nearness::Nearness;
+use crate::passed::Passed;
 use crate::watched::UnionIndex;
 use blocking::{Tree, least_changed};
 use std::alloc::{Allocator, Global};
@@ -56,6 +57,16 @@ impl Cursors {
             seen: 0,
         }
     }
+
+    // At the first entry of a trail of so many, over which all given facts are so, and whose nodes were looked at.
+    fn behind(len: u32) -> Cursors {
+        Cursors {
+            ring: usize::MAX,
+            given: usize::MAX,
+            seen: len,
+            ..Cursors::start()
+        }
+    }
 }
 
 /// How far a search has looked for steps, and where it looked when each of its choices was made.
@@ -64,6 +75,8 @@ pub struct Agenda {
     cursors: Cursors,
     // Those at the choices, in order.
     saved: Vec<Cursors>,
+    // The entries that are never looked at.
+    passed: Passed,
     // The entries that were passed over since their nodes were not clear, in order.
     held: Vec<Held>,
     // The node in question, and in which order facts are given around it, once a step was looked for.
@@ -80,12 +93,23 @@ impl Agenda {
         Agenda {
             cursors: Cursors::start(),
             saved: Vec::new(heap),
+            passed: Passed::none(),
             held: Vec::new(heap),
             at,
             nearness: Nearness::none(heap),
             index: UnionIndex::new(heap),
             looks: 0,
         }
+    }
+
+    /// The search asks of the first node `at`, and goes on behind a trail of so many entries that it was given. What
+    /// follows from the entries behind its start was done when that trail was made, all given facts too: they are
+    /// passed over.
+    pub fn behind(heap: Global, at: u32, len: u32) -> Agenda {
+        let mut agenda = Agenda::new(heap, at);
+        agenda.cursors = Cursors::behind(len);
+        agenda.passed = Passed::behind_start(len);
+        agenda
     }
 
     /// Keeps where it looks, as a choice is made.
@@ -139,6 +163,8 @@ impl Agenda {
 
     /// A step that can be made whatever is blocked, where one is seen at the facts that were not looked at before. These
     /// are the phases of a look, in their order; the first step that one of them finds is taken, of each the oldest.
+    /// Given facts that are not near the node in question come after what follows from those that are; where none is
+    /// near, all of them come behind all other phases.
     ///
     /// # Errors
     ///
@@ -165,8 +191,10 @@ impl Agenda {
         if let Some(step) = self.forced(tree, search)? {
             return Ok(Some(step));
         }
-        if let Some(step) = self.outwards(search) {
-            return Ok(Some(step));
+        if self.nearness.facts_within(0) > 0 {
+            if let Some(step) = self.outwards(search) {
+                return Ok(Some(step));
+            }
         }
         if let Some(step) = self.pair(heap, tree, search)? {
             return Ok(Some(step));
@@ -202,7 +230,10 @@ impl Agenda {
         if let Some(step) = self.union(heap, tree, search)? {
             return Ok(Some(step));
         }
-        self.most(heap, tree, search)
+        if let Some(step) = self.most(heap, tree, search)? {
+            return Ok(Some(step));
+        }
+        Ok(self.outwards(search))
     }
 
     // A given fact that is not so, of the rings that are open.
@@ -267,7 +298,7 @@ impl Agenda {
             (R.files search.now.rules.now)) }
     {
         let from = self.cursors.additions;
-        let (reached, addition) = first_addition(tree, search, from);
+        let (reached, addition) = first_addition(tree, search, self.passed, from);
         self.count_looks(from.place, reached.place);
         self.cursors.additions = reached;
         Some(Step::Add(addition?))
@@ -284,7 +315,7 @@ impl Agenda {
             (R.files search.now.rules.now))) }
     {
         let from = self.cursors.forced;
-        let (place, forced) = first_forced(tree, search, &mut self.index, from)?;
+        let (place, forced) = first_forced(tree, search, &mut self.index, self.passed, from)?;
         self.count_looks(from, place);
         self.cursors.forced = place;
         match forced {
@@ -305,7 +336,7 @@ impl Agenda {
             (R.files search.now.rules.now))) }
     {
         let from = self.cursors.pairs;
-        let (place, pair) = first_branching(heap, tree, search, Wanted::Pair, from)?;
+        let (place, pair) = first_branching(heap, tree, search, Wanted::Pair, self.passed, from)?;
         self.count_looks(from, place);
         self.cursors.pairs = place;
         match pair {
@@ -330,7 +361,7 @@ impl Agenda {
             return Ok(None);
         }
         let from = self.cursors.first_makings;
-        let (place, making) = first_below_first(heap, tree, search, from)?;
+        let (place, making) = first_below_first(heap, tree, search, self.passed, from)?;
         self.count_looks(from, place);
         self.cursors.first_makings = place;
         match making {
@@ -354,7 +385,14 @@ impl Agenda {
             return Ok(None);
         }
         let from = self.cursors.first_unions;
-        let (place, union) = first_branching(heap, tree, search, Wanted::FirstPart, from)?;
+        let (place, union) = first_branching(
+            heap,
+            tree,
+            search,
+            Wanted::FirstPart,
+            self.passed,
+            from,
+        )?;
         self.count_looks(from, place);
         self.cursors.first_unions = place;
         match union {
@@ -375,7 +413,7 @@ impl Agenda {
             (R.files search.now.rules.now))) }
     {
         let from = self.cursors.makings;
-        let (place, making) = first_making(heap, tree, search, &mut self.held, from)?;
+        let (place, making) = first_making(heap, tree, search, &mut self.held, self.passed, from)?;
         self.count_looks(from, place);
         self.cursors.makings = place;
         match making {
@@ -419,7 +457,7 @@ impl Agenda {
             (R.files search.now.rules.now))) }
     {
         let from = self.cursors.unions;
-        let (place, union) = first_branching(heap, tree, search, Wanted::Part, from)?;
+        let (place, union) = first_branching(heap, tree, search, Wanted::Part, self.passed, from)?;
         self.count_looks(from, place);
         self.cursors.unions = place;
         match union {
@@ -440,7 +478,7 @@ impl Agenda {
             (R.files search.now.rules.now))) }
     {
         let from = self.cursors.mosts;
-        let (place, most) = first_branching(heap, tree, search, Wanted::Most, from)?;
+        let (place, most) = first_branching(heap, tree, search, Wanted::Most, self.passed, from)?;
         self.count_looks(from, place);
         self.cursors.mosts = place;
         match most {

@@ -4,6 +4,7 @@ ghost use Rattle.step_finders.specs.Choosing.{IsChoosable};
 
 use crate::NoMemory;
 use crate::pairs::pair_by;
+use crate::passed::Passed;
 use blocking::{Item, Tree};
 use calculus_specs::Fact;
 use std::alloc::{Allocator, Global};
@@ -34,12 +35,16 @@ pub(crate) fn first_branching<A: Allocator + Copy, S: State, R: Rules>(
     tree: &Tree<A>,
     search: &StateWithRules<'_, S, R>,
     wanted: Wanted,
+    passed: Passed,
     from: u32,
 ) -> Result<(u32, Option<Choosing>), NoMemory>
     ensures { IfOk result (λ p. IfSome p.1
         (IsChoosable (R.context search.now.rules.now) (S.facts search.now.state.now))) }
 {
     for place in from..tree.len() {
+        if passed.has(place) {
+            continue;
+        }
         match branching_by(heap, wanted, tree.item(place), search)? {
             Some(choosing) => return Ok((place, Some(choosing))),
             None => {}

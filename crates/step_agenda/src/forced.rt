@@ -4,6 +4,7 @@ ghost use Rattle.step_finders.specs.Choosing.{IsChoosable};
 
 use crate::NoMemory;
 use crate::above::{above, members_at};
+use crate::passed::Passed;
 use crate::watched::{Closes, UnionIndex, Watch};
 use blocking::{Item, Tree};
 use calculus_specs::Fact;
@@ -23,12 +24,16 @@ pub(crate) fn first_forced<A: Allocator + Copy, S: State, R: Rules>(
     tree: &Tree<A>,
     search: &StateWithRules<'_, S, R>,
     index: &mut UnionIndex,
+    passed: Passed,
     from: u32,
 ) -> Result<(u32, Option<Choosing>), NoMemory>
     ensures { IfOk result (λ p. IfSome p.1
         (IsChoosable (R.context search.now.rules.now) (S.facts search.now.state.now))) }
 {
     for place in from..tree.len() {
+        if passed.has(place) {
+            continue;
+        }
         match forced_by(tree.item(place), search, index)? {
             Some(choosing) => return Ok((place, Some(choosing))),
             None => {}

@@ -16,13 +16,17 @@
 //! can make an old fact count again: then `step_finders::find_step` looks through everything.
 //!
 //! The facts that axioms give to individuals are put outwards from the node in question: those that name it first, and
-//! those of the next ring once nothing follows from these that needs no choice between two parts. An edge that is given
+//! those of the next ring once nothing follows from these that needs no choice between two parts. Where none names it,
+//! as where a query asks of any element, they are put where nothing else is left to do. An edge that is given
 //! may lead to a node of which more is known already than that it is there, so what it brings is looked for by all that
 //! its end has; and what comes to an individual is looked at from each individual with an edge to it, where other nodes
 //! have a parent alone.
 //!
 //! What needs no look at blocks is looked for first, so that blocks are found where nothing of it is left alone, and
 //! not after each step.
+//!
+//! A search may go on behind a trail that it was given. Then the entries behind its start are passed over: what follows
+//! from them was done when that trail was made.
 //!
 //! [`TreeState`] is a completion tree as the state that finders look through, and [`TreeWithBlocks`] one with the
 //! blocks of its nodes.
@@ -37,6 +41,7 @@ mod givings;
 mod makings;
 mod nearness;
 mod pairs;
+mod passed;
 mod tree_state;
 mod watched;
 

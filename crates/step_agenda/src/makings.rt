@@ -5,6 +5,7 @@ ghost use Rattle.calculus_specs.specs.State.{node_count_from, has as holds};
 ghost use Rattle.step_finders.specs.Making.{IsMaking};
 
 use crate::NoMemory;
+use crate::passed::Passed;
 use blocking::{Item, Tree};
 use calculus_specs::Fact;
 use std::alloc::{Allocator, Global};
@@ -32,11 +33,15 @@ pub(crate) fn first_making<A: Allocator + Copy, S: StateWithBlocks, R: Rules>(
     tree: &Tree<A>,
     search: &StateWithRules<'_, S, R>,
     held: &mut Vec<Held>,
+    passed: Passed,
     from: u32,
 ) -> Result<(u32, Option<NewNodes>), NoMemory>
     ensures { IfOk result (λ p. IfSome p.1 (IsMaking (R.context search.now.rules.now) (S.facts search.now.state.now))) }
 {
     for place in from..tree.len() {
+        if passed.has(place) {
+            continue;
+        }
         let item = tree.item(place);
         match making_by(heap, item, search)? {
             Some(making) => return Ok((place, Some(making))),
@@ -145,11 +150,15 @@ pub(crate) fn first_below_first<A: Allocator + Copy, S: State, R: Rules>(
     heap: Global,
     tree: &Tree<A>,
     search: &StateWithRules<'_, S, R>,
+    passed: Passed,
     from: u32,
 ) -> Result<(u32, Option<NewNodes>), NoMemory>
     ensures { IfOk result (λ p. IfSome p.1 (IsMaking (R.context search.now.rules.now) (S.facts search.now.state.now))) }
 {
     for place in from..tree.len() {
+        if passed.has(place) {
+            continue;
+        }
         match below_first_by(heap, tree.item(place), search)? {
             Some(making) => return Ok((place, Some(making))),
             None => {}
