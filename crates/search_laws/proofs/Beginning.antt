@@ -13,7 +13,7 @@ use Rattle.calculus_specs.specs.Joins.{rep}
 use Rattle.calculus_specs.specs.State.{parent_from, gives_concept, has, has_edge}
 use Rattle.tableau_specs.specs.declared.Item.{Item}
 use Rattle.tableau_specs.specs.Items.{facts_of}
-use Rattle.tableau_specs.specs.Steps.{IsGiven, IsLegal}
+use Rattle.tableau_specs.specs.Steps.{IsGiven, IsLegal, HasPlainClash}
 use Rattle.tableau_specs.specs.Reached.{start, Follows}
 use Rattle.tableau_specs.proofs.Built.{IsBuilt}
 use Rattle.tableau_specs.proofs.Legal.{given_on_first}
@@ -30,7 +30,7 @@ use Rattle.search_laws.proofs.ReuseSetting.{short, long}
 use Rattle.search_laws.proofs.Running.{run_follows, ever_now, given_there}
 use Rattle.search_laws.proofs.Answering.{choice_up}
 use Rattle.search_laws.proofs.FullerStart.{bare_facts}
-use Rattle.search_laws.proofs.FullerSteps.{IsBare, goes_on}
+use Rattle.search_laws.proofs.FullerSteps.{IsBare, plain_down, goes_on}
 use Rattle.search_laws.proofs.KeptSteps.{keeping}
 use Rattle.search_laws.proofs.ParentsAsk.{asked}
 
@@ -159,6 +159,15 @@ module _ (q : Question) (table more : List Shape) (rows : List Row) (good : IsTa
         → was_ever p ((start q.at a b ++ rest) ∷ before)
         ≡ (p (Has q.at a) || (p (Has q.at b) || was_ever p (trail ∷ earlier)))
 
+  -- a clash behind the other start would be one of the beginning
+  clear_behind : (rest : List Item) (earlier : List (List Item))
+      → IsRun (short q table more rows) (start q.at 0 0) ((start q.at 0 0 ++ rest) ∷ earlier)
+      → IsBegun ((start q.at 0 0 ++ rest) ∷ earlier)
+      → ¬ HasPlainClash (short q table more rows) (start q.at 0 0 ++ rest)
+      → ¬ HasPlainClash (long q table more rows) (start q.at a b ++ rest)
+  clear_behind rest earlier run h none clash =
+      none (plain_down q table more rows good a b (facts_of rest) (bare rest earlier run h) clash)
+
   one_more : (before trail : List Item) (earlier : List (List Item)) → IsFollowed earlier before
       → IsRun (short q table more rows) (start q.at 0 0) (trail ∷ before ∷ earlier)
       → IsBegun (trail ∷ before ∷ earlier) → IsFollowed (before ∷ earlier) trail
@@ -241,4 +250,9 @@ one_beginning_runs_on q table more rows a b trail earlier good fits is_first unn
       is_run = f.is_run;
       counted = f.counted;
       puts_same = f.puts_same;
+      clear = λ none.
+          clear_behind q table more rows good fits is_first unnamed a b f.rest earlier
+          (subst (λ (is : List Item). IsRun (short q table more rows) (start q.at 0 0) (is ∷ earlier)) f.splits run)
+          (subst (λ (is : List Item). IsBeginning (long q table more rows) q.at a b (is ∷ earlier)) f.splits h)
+          (λ clash. none (subst (HasPlainClash (short q table more rows)) (sym f.splits) clash));
     }

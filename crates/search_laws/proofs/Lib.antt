@@ -57,5 +57,6 @@ pub mod LongerShapes
 pub mod FullerSteps
 pub mod Beginning
 pub mod ParentsAsk
+pub mod SaysNothing
 pub mod LabelParts
 pub mod Individuals

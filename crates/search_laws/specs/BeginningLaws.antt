@@ -10,10 +10,10 @@ use Rattle.calculus_specs.specs.Rules.{Question}
 use Rattle.calculus_specs.specs.declared.facts.Fact.{Fact}
 use Rattle.calculus_specs.specs.declared.facts.Fact.TheVariants.{Has}
 use Rattle.calculus_specs.specs.Joins.{rep}
-use Rattle.calculus_specs.specs.State.{parent_from, label}
+use Rattle.calculus_specs.specs.State.{parent_from, label, has}
 use Rattle.tableau_specs.specs.declared.Item.{Item}
 use Rattle.tableau_specs.specs.Items.{facts_of}
-use Rattle.tableau_specs.specs.Steps.{SearchContext, HasPlainClash}
+use Rattle.tableau_specs.specs.Steps.{SearchContext, IsSaturated, HasPlainClash}
 use Rattle.tableau_specs.specs.Reached.{FactsHaveNumbers, start, Follows, context_of, IsReached}
 use Rattle.search_laws.specs.Runs.{IsRun, was_ever, puts_at}
 use Rattle.search_laws.specs.ReuseLaws.{IsUnnamed}
@@ -58,18 +58,21 @@ OneBeginningServesMany =
     → GoesOn q (table ++ more) rows a b (length earlier) trail
 
 -- The trail is the start with top alone and some rest, and a run of as many trails goes from the other start to this
--- rest. What its trails ever put is what those of the beginning did, and the two facts of its own start. So what was
--- noted of the beginning need not be noted again.
-pub record RunsOn (q : Question) (table : List Shape) (rows : List Row) (a b : ℕ) (trail : List Item)
+-- rest, over a table that has grown. What its trails ever put is what those of the beginning did, and the two facts of
+-- its own start. So what was noted of the beginning need not be noted again. Its last trail has no plain clash where
+-- that of the beginning has none.
+pub record RunsOn (q : Question) (table more : List Shape) (rows : List Row) (a b : ℕ) (trail : List Item)
     (earlier : List (List Item)) : Type 0 where
   pub rest : List Item
   pub splits : trail ≡ start q.at 0 0 ++ rest
   pub before : List (List Item)
-  pub is_run : IsRun (context_of q table rows) (start q.at a b) ((start q.at a b ++ rest) ∷ before)
+  pub is_run : IsRun (context_of q (table ++ more) rows) (start q.at a b) ((start q.at a b ++ rest) ∷ before)
   pub counted : length before ≡ length earlier
   pub puts_same : (p : Fact ℕ → Bool) → p (Has q.at 0) ≡ false
       → was_ever p ((start q.at a b ++ rest) ∷ before)
       ≡ (p (Has q.at a) || (p (Has q.at b) || was_ever p (trail ∷ earlier)))
+  pub clear : ¬ HasPlainClash (context_of q table rows) trail
+      → ¬ HasPlainClash (context_of q (table ++ more) rows) (start q.at a b ++ rest)
 
 -- Where no axiom speaks of the node in question, and a run is a beginning for another start, the trails of the run,
 -- each behind this start, are a run too, over the same table or one that has grown since.
@@ -80,7 +83,7 @@ OneBeginningRunsOn =
     → IsTable table → IsChoice q.theory table rows → q.at < q.first → IsUnnamed q
     → IsRun (context_of q table rows) (start q.at 0 0) (trail ∷ earlier)
     → IsBeginning (context_of q (table ++ more) rows) q.at a b (trail ∷ earlier)
-    → RunsOn q (table ++ more) rows a b trail earlier
+    → RunsOn q table more rows a b trail earlier
 
 -- whether a concept of this shape asks for nodes below its node
 abbrev pub asks_for_nodes : Shape → Bool
@@ -95,3 +98,15 @@ ParentsHaveAsked = (w : SearchContext) (at k a b : ℕ) (trail : List Item) → 
     → Follows w (start at 0 0) k trail
     → asks_for_nodes (shape_of w.table a) ≡ false → asks_for_nodes (shape_of w.table b) ≡ false
     → ParentsHaveMore w.first a b (facts_of trail)
+
+-- Where a run ends saturated, and its last trail says no more of the node in question than that it has top, and no
+-- axiom speaks of this node, no trail of the run ever said more of it: a row that is used at a node without edges and
+-- with top alone is used there in the last trail too.
+abbrev pub RunsSayNothingThere : Type 0
+RunsSayNothingThere =
+    (q : Question) (table : List Shape) (rows : List Row) (trail : List Item) (earlier : List (List Item))
+    → IsTable table → q.at < q.first → IsUnnamed q
+    → IsRun (context_of q table rows) (start q.at 0 0) (trail ∷ earlier)
+    → IsSaturated (context_of q table rows) trail
+    → ((c : ℕ) → has (facts_of trail) q.at c ≡ true → c ≡ 0)
+    → (c : ℕ) → was_ever (puts_at q.at c) (trail ∷ earlier) ≡ true → c ≡ 0

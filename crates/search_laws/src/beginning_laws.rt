@@ -8,7 +8,8 @@
 //!
 //! - **The same steps are legal** where the beginning says nothing of the node in question, and no axiom speaks of that
 //!   node. No edge begins or ends there, and the node is joined to no other, so that no step looks at its label but for
-//!   blocks. A clash at the node is one of its own start.
+//!   blocks. A clash at the node is one of its own start. Whether a beginning that has ended saturated says anything of
+//!   the node is seen in its last trail.
 //! - **It may block other nodes** once it has the two concepts of its start: those with a label inside the start. Such
 //!   nodes may stand in the trail, as long as nothing was made below them: a step that made nodes there would not be
 //!   legal, and what stands under a blocked node blocks nothing itself. A look at the two concepts excludes this: where
@@ -19,6 +20,7 @@
 //! Parsia, "From Wine to Water: Optimizing Description Logic Reasoning for Nominals", 2006). Here such a beginning
 //! saves work, and no step of the count.
 ghost use Rattle.search_laws.specs.BeginningLaws.{OneBeginningServesMany, OneBeginningRunsOn, ParentsHaveAsked};
+ghost use Rattle.search_laws.specs.BeginningLaws.{RunsSayNothingThere};
 
 /// A run that says nothing of the node in question begins the search for each query on any element whose start has no
 /// clash, if no node with a label inside this start has a node below it.
@@ -27,7 +29,8 @@ pub fn one_beginning_serves_many()
 {}
 
 /// The trails of such a beginning, each behind the other start, are a run of that search. It puts what the beginning
-/// did, and the two facts of its start, so that what was noted of the beginning serves it too.
+/// did, and the two facts of its start, so that what was noted of the beginning serves it too. It has no clash where
+/// the beginning has none.
 pub fn one_beginning_runs_on()
     ensures { OneBeginningRunsOn }
 {}
@@ -35,4 +38,9 @@ pub fn one_beginning_runs_on()
 /// No node with a label inside a start has a node below it where no concept of the start asks for nodes.
 pub fn parents_have_what_asked_for_nodes()
     ensures { ParentsHaveAsked }
+{}
+
+/// A run that ends saturated, and says no more of the node in question than top at its end, never said more of it.
+pub fn runs_say_nothing_there()
+    ensures { RunsSayNothingThere }
 {}

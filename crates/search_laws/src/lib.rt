@@ -17,6 +17,7 @@ mod trail_laws;
 
 pub use beginning_laws::{
     one_beginning_runs_on, one_beginning_serves_many, parents_have_what_asked_for_nodes,
+    runs_say_nothing_there,
 };
 pub use bound_laws::{
     concepts_are_in_the_closure, few_children, few_marks, few_nodes, few_of_each_kind, few_steps,
