@@ -195,6 +195,7 @@ fn outcome_of<A: Allocator + Copy>(search: &Search<'_, A>, end: &End) -> Outcome
     let (end, lines) = match end {
         End::Saturated => ("saturated", 0),
         End::Closed(refutation) => ("closed", refutation.lines().len()),
+        End::Lost => ("lost", 0),
         End::Spent => ("spent", 0),
     };
     Outcome {

@@ -21,6 +21,7 @@ const MANY: u64 = 1_000;
 enum Ending {
     Saturated,
     Closed,
+    Lost,
 }
 
 /// What one search came to.
@@ -162,6 +163,7 @@ fn step_on<A: Allocator + Copy>(search: &mut Search<'_, A>) -> Result<Option<End
             Event::Moved => {}
             Event::Saturated => return Ok(Some(Ending::Saturated)),
             Event::Closed(_) => return Ok(Some(Ending::Closed)),
+            Event::Lost => return Ok(Some(Ending::Lost)),
         }
     }
     Ok(None)
@@ -176,6 +178,7 @@ fn run_on<A: Allocator + Copy>(search: &mut Search<'_, A>) -> Result<Option<Endi
     match search.run(MANY)? {
         End::Saturated => Ok(Some(Ending::Saturated)),
         End::Closed(_) => Ok(Some(Ending::Closed)),
+        End::Lost => Ok(Some(Ending::Lost)),
         End::Spent => Ok(None),
     }
 }

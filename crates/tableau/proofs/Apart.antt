@@ -71,7 +71,7 @@ module _ (p q : Fact ℕ → Bool) (more : (f : Fact ℕ) → p f ≡ true → q
     | inr later ↦ or_right (q f) (list_any q fs) (any_more fs later)
   ]
 
-  ever_more : (run : List (List Item)) → was_ever p run ≡ true → was_ever q run ≡ true
+  pub ever_more : (run : List (List Item)) → was_ever p run ≡ true → was_ever q run ≡ true
   ever_more [] h = h
   ever_more (t ∷ ts) h = elim (or_cases (list_any p (facts_of t)) (was_ever p ts) h) [
     | inl here ↦ or_left (list_any q (facts_of t)) (was_ever q ts) (any_more (facts_of t) here)
@@ -194,7 +194,8 @@ module _ (s : SearchState) (a : ℕ) (limit : IsInLimit s.rules.ontology s.query
   shown_apart : IsShownApart s a
   shown_apart = record {
     follows_not =
-        saturated_does_not_entail s.rules.ontology (member_list s.rules.set) (query_for s a) ends.longer (context_of s).rows
+        saturated_does_not_entail s.rules.ontology (member_list s.rules.set) (query_for s a) ends.longer
+        (context_of s).rows
         s.steps ends.trail (query_in_limit s.rules.ontology s.query a limit lt)
         ends.reached ends.is_saturated;
     cost = record {

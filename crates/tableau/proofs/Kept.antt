@@ -1,6 +1,6 @@
 -- What a search keeps.
 use Rattle.std.proofs.Common.{◌≡◌, ℕ, suc, ◌+◌, ◌<◌, Bool, true, false, cond, not, List, [], ◌∷◌, length, refl, sym, ap}
-use Rattle.std.proofs.Common.{subst, ◌∙◌, arith}
+use Rattle.std.proofs.Common.{subst, ◌∙◌, arith, Option, Some, None}
 use Rattle.shq_terms.specs.declared.axioms.On.{On}
 use Rattle.shq_terms.specs.declared.axioms.On.TheVariants.{Any, Individual}
 use Rattle.shq_terms.specs.declared.axioms.Query.{Query}
@@ -17,7 +17,6 @@ use Rattle.search_state.specs.Entry.{Entry}
 use Rattle.search_state.specs.Trail.{items_of, facts_in}
 use Rattle.search_laws.specs.Runs.{IsRun}
 use Rattle.tableau.specs.Seen.{SeenSets, AreOver, AreSeenIn}
-use Rattle.closed_search.specs.Trace.{begun}
 use Rattle.search_rules.specs.RuleLists.{RuleLists, IsReady, AreNumbersOf, numbers_in, theory_in, context_in}
 use Rattle.search_state.specs.Progress.{ProgressLists, asked_of, asked_by, IsAsked, IsStanding, IsSearching, HasMoved}
 use Rattle.search_state.specs.Stepping.{HasBegun, IsClosed, IsStepped, IsRested, IsSameButBlocks, HasFollowed}
@@ -28,13 +27,17 @@ use Rattle.search_state.specs.declared.stepping.Stepped.TheVariants.{Closed as S
 use Rattle.search_state.specs.declared.stepping.Rested.{Rested}
 use Rattle.search_state.specs.declared.stepping.Rested.TheVariants.{Closed as RestClosed}
 use Rattle.tableau.specs.SearchState.{SearchState, room_for, context_of, trail_of, IsReachedBy, HasRun, IsSameSearch}
-use Rattle.tableau.specs.Steps.{Refutes, Stays, IsAtRefutation, IsEvent, IsEnd, Runs}
+use Rattle.tableau.specs.Steps.{Refutes, Stays, IsAtRefutation, IsLost, IsEvent, IsEnd, Runs}
 use Rattle.tableau.specs.declared.search.Event.{Event}
-use Rattle.tableau.specs.declared.search.Event.TheVariants.{Moved, Saturated, Closed}
+use Rattle.tableau.specs.declared.search.Event.TheVariants.{Moved, Saturated, Closed, Lost}
 use Rattle.tableau.specs.declared.search.End.{End}
-use Rattle.tableau.specs.declared.search.End.TheVariants.{Saturated as RunSaturated, Closed as RunClosed, Spent}
+use Rattle.tableau.specs.declared.search.End.TheVariants.{Saturated as RunSaturated, Closed as RunClosed}
+use Rattle.tableau.specs.declared.search.End.TheVariants.{Lost as RunLost, Spent}
 use Rattle.tableau.specs.Inside.{IsProgressOf, IsKept, IsAtQuestion, IsClosing, HasClosed, IsAdvanced, HasNotedNew}
-use Rattle.tableau.specs.Inside.{IsNotedAfter, IsSettled, IsHalted, goes_on, is_spent}
+use Rattle.tableau.specs.Inside.{IsAdvancedElsewhere, IsNotedElsewhere, goes_on_elsewhere, closing_event, closing_end}
+use Rattle.tableau.specs.Inside.{end_by}
+use Rattle.tableau.specs.Beginning.{IsIdle, IsEventElsewhere}
+use Rattle.tableau.specs.Inside.{HasLost, IsClosedBy, IsNotedAfter, IsSettled, IsHalted, goes_on, is_spent}
 use Rattle.tableau.proofs.Reached.{standing_is_reached}
 use Rattle.tableau.proofs.Noted.{over_after, seen_after}
 
@@ -42,8 +45,8 @@ use Rattle.tableau.proofs.Noted.{over_after, seen_after}
 abbrev asked : RuleLists → Query → Question
 asked rules query = question_in rules.ontology (numbers_in rules) query
 
-abbrev pub state : RuleLists → Query → ℕ → ℕ → ProgressLists → SeenSets → ℕ → Bool → Bool → SearchState
-state rules query sub not_sup p seen steps ended failed = record {
+abbrev pub state : RuleLists → Query → ℕ → ℕ → ProgressLists → SeenSets → ℕ → Bool → Bool → Bool → SearchState
+state rules query sub not_sup p seen steps behind ended failed = record {
   rules = rules;
   query = query;
   sub = sub;
@@ -53,15 +56,17 @@ state rules query sub not_sup p seen steps ended failed = record {
   found_blocks = p.found_blocks;
   seen = seen;
   steps = steps;
+  behind = behind;
   ended = ended;
   failed = failed;
 }
 
 module _ (rules : RuleLists) (query : Query) (sub not_sup : ℕ) (p : ProgressLists) (seen : SeenSets) (steps : ℕ)
-    (query_is : p.query ≡ query)
-    (at_is : p.at ≡ (asked rules query).at) (steps_is : p.steps ≡ steps) where
+    (behind : Bool) (query_is : p.query ≡ query)
+    (at_is : p.at ≡ (asked rules query).at) (steps_is : p.steps ≡ steps)
+    (behind_is : p.behind ≡ behind) where
   pub reached_by : IsStanding (context_in rules) p → (ended failed : Bool)
-      → IsReachedBy (state rules query sub not_sup p seen steps ended failed)
+      → IsReachedBy (state rules query sub not_sup p seen steps behind ended failed)
   reached_by h ended failed =
       let w = context_in rules in
       subst (λ (x : ℕ). IsReached (asked_of w query x) w.table w.rows steps (items_of p.entries)) at_is
@@ -72,8 +77,8 @@ module _ (rules : RuleLists) (query : Query) (sub not_sup : ℕ) (p : ProgressLi
   pub searching_is_kept : IsInLimit rules.ontology query → rules.set.limit ≡ length rules.ontology.axioms
       → AreNumbersOf rules query sub not_sup → p.sub ≡ sub → p.not_sup ≡ not_sup
       → IsSearching (context_in rules) p → (ended failed : Bool)
-      → HasRun (state rules query sub not_sup p seen steps ended failed)
-      → IsKept (state rules query sub not_sup p seen steps ended failed) p
+      → HasRun (state rules query sub not_sup p seen steps behind ended failed)
+      → IsKept (state rules query sub not_sup p seen steps behind ended failed) p
   searching_is_kept limit set numbers s n h ended failed run = record {
     in_limit = limit;
     set = set;
@@ -82,7 +87,14 @@ module _ (rules : RuleLists) (query : Query) (sub not_sup : ℕ) (p : ProgressLi
     reached = λ whole. reached_by h.standing ended failed;
     has_run = λ whole. run;
     blocks = λ whole. h.standing.blocks;
-    progress = λ whole goes. record { query = query_is; at = at_is; sub = s; not_sup = n; steps = steps_is };
+    progress = λ whole goes. record {
+      query = query_is;
+      at = at_is;
+      sub = s;
+      not_sup = n;
+      steps = steps_is;
+      behind = behind_is;
+    };
     searching = λ whole goes. h;
   }
 
@@ -120,12 +132,12 @@ pub begun_is_kept : (rules : RuleLists) (query : Query) (sub not_sup : ℕ) (p :
     → p.at ≡ (asked rules query).at → p.sub ≡ sub → p.not_sup ≡ not_sup
     → AreOver (room_for (length rules.ontology.classes) query.on not_sup) seen
     → AreSeenIn (asked rules query).at rules.table (items_of p.entries ∷ []) seen
-    → IsKept (state rules query sub not_sup p seen 0 false false) p
+    → IsKept (state rules query sub not_sup p seen 0 false false false) p
 begun_is_kept rules query sub not_sup p seen limit set numbers h q at_is s n over seen_is =
     let first : items_of p.entries ≡ start (asked rules query).at sub not_sup =
     h.trail_is ∙ (λ i. start (at_is i) (s i) (n i)) in
-    searching_is_kept rules query sub not_sup p seen 0 q at_is h.no_steps limit set numbers s n h.is_searching false
-    false
+    searching_is_kept rules query sub not_sup p seen 0 false q at_is h.no_steps h.from_nothing limit set numbers s n
+    h.is_searching false false
     (record { earlier = []; is_run = first; counted = refl; are_over = over; are_seen = seen_is })
 
 -- ---- closing
@@ -163,29 +175,66 @@ rest_closing rules old mid limit set at searching s is h =
     closing_from rules old mid limit set at searching (subst (IsRested (context_in rules) old mid) is h)
 
 has_closed : (rules : RuleLists) (old mid new : ProgressLists) (r : RefutationLists)
-    → IsClosed (context_in rules) old mid → new ≡ record mid { trace = begun } → Refutes rules mid.query r
-    → HasClosed rules r old new
-has_closed rules old mid new r h left refutes =
-    subst (λ (p : ProgressLists). HasClosed rules r old p) (sym left) (record {
+    → IsClosed (context_in rules) old mid → IsClosedBy rules mid new (Some r) → HasClosed rules r old new
+has_closed rules old mid new r h by' =
+    subst (λ (p : ProgressLists). HasClosed rules r old p) (sym by'.0) (record {
       entries = h.entries;
       first = h.same.first;
       blocks = h.blocks;
       steps = h.steps;
       has_clash = h.has_clash;
-      refutes = subst (λ (q : Query). Refutes rules q r) h.same.query refutes;
+      refutes = subst (λ (q : Query). Refutes rules q r) h.same.query by'.1;
     })
 
-pub step_closed : (rules : RuleLists) (old mid new : ProgressLists) (r : RefutationLists) (s : Stepped) → s ≡ StepClosed
-    → IsStepped (context_in rules) old mid s → new ≡ record mid { trace = begun } → Refutes rules mid.query r
-    → HasClosed rules r old new
-step_closed rules old mid new r s is h left refutes =
-    has_closed rules old mid new r (subst (IsStepped (context_in rules) old mid) is h) left refutes
+has_lost : (rules : RuleLists) (old mid new : ProgressLists) → IsClosed (context_in rules) old mid
+    → IsClosedBy rules mid new None → HasLost rules old new
+has_lost rules old mid new h by' =
+    subst (HasLost rules old) (sym by'.0) (record {
+      entries = h.entries;
+      first = h.same.first;
+      blocks = h.blocks;
+      steps = h.steps;
+      has_clash = h.has_clash;
+      is_behind = sym h.same.behind ∙ by'.1;
+    })
 
-pub rest_closed : (rules : RuleLists) (old mid new : ProgressLists) (r : RefutationLists) (s : Rested) → s ≡ RestClosed
-    → IsRested (context_in rules) old mid s → new ≡ record mid { trace = begun } → Refutes rules mid.query r
-    → HasClosed rules r old new
-rest_closed rules old mid new r s is h left refutes =
-    has_closed rules old mid new r (subst (IsRested (context_in rules) old mid) is h) left refutes
+-- what closes everything, by what closing came to
+closed_event : (rules : RuleLists) (old mid new : ProgressLists) (found : Option RefutationLists)
+    → IsClosed (context_in rules) old mid → IsClosedBy rules mid new found
+    → IsAdvanced rules old new (closing_event found)
+closed_event rules old mid new (Some r) h by' = has_closed rules old mid new r h by'
+closed_event rules old mid new None h by' = has_lost rules old mid new h by'
+
+pub step_closed : (rules : RuleLists) (old mid new : ProgressLists) (s : Stepped) (found : Option RefutationLists)
+    (e : Event) → s ≡ StepClosed → IsStepped (context_in rules) old mid s → IsClosedBy rules mid new found
+    → e ≡ closing_event found
+    → IsAdvanced rules old new e
+step_closed rules old mid new s found e is h by' e_is =
+    subst (IsAdvanced rules old new) (sym e_is)
+    (closed_event rules old mid new found (subst (IsStepped (context_in rules) old mid) is h) by')
+
+pub rest_closed : (rules : RuleLists) (old mid new : ProgressLists) (s : Rested) (found : Option RefutationLists)
+    (e : End) → s ≡ RestClosed → IsRested (context_in rules) old mid s → IsClosedBy rules mid new found
+    → e ≡ closing_end found
+    → IsSettled rules old new e
+rest_closed rules old mid new s found e is h by' e_is =
+    subst (IsSettled rules old new) (sym e_is)
+    (closed found (subst (IsRested (context_in rules) old mid) is h) by')
+  where
+    closed : (found : Option RefutationLists) → IsClosed (context_in rules) old mid → IsClosedBy rules mid new found
+        → IsSettled rules old new (closing_end found)
+    closed (Some r) h by' = has_closed rules old mid new r h by'
+    closed None h by' = has_lost rules old mid new h by'
+
+-- nothing is noted then
+pub closed_noted : (rules : RuleLists) (old new : ProgressLists) (seen : SeenSets) (found : Option RefutationLists)
+    (e : Event) → e ≡ closing_event found → IsNotedAfter rules old new seen seen e
+closed_noted rules old new seen found e e_is =
+    subst (IsNotedAfter rules old new seen seen) (sym e_is) (none found)
+  where
+    none : (found : Option RefutationLists) → IsNotedAfter rules old new seen seen (closing_event found)
+    none (Some r) = refl
+    none None = refl
 
 -- ---- blocks
 
@@ -194,12 +243,14 @@ pub advanced_first : (rules : RuleLists) (old new : ProgressLists) (e : Event) �
 advanced_first rules old new Moved h = h.1.standing.blocks
 advanced_first rules old new Saturated h = followed_first old new h.0
 advanced_first rules old new (Closed r) h = h.blocks
+advanced_first rules old new Lost h = h.blocks
 
 pub settled_first : (rules : RuleLists) (old new : ProgressLists) (e : End) → IsSettled rules old new e
     → AreFirstBlocks new.first (facts_in new.entries) new.found_blocks
 settled_first rules old new Spent h = h.1.standing.blocks
 settled_first rules old new RunSaturated h = followed_first old new h.0
 settled_first rules old new (RunClosed r) h = h.blocks
+settled_first rules old new RunLost h = h.blocks
 
 -- a step, or a look for one, after which the blocks of all nodes were found
 module _ (rules : RuleLists) (old mid new : ProgressLists) (h : HasFollowed mid new)
@@ -229,6 +280,16 @@ module _ (rules : RuleLists) (old mid new : ProgressLists) (h : HasFollowed mid 
     refutes = a.refutes;
   }
 
+  still_lost : HasLost rules old mid → HasLost rules old new
+  still_lost a = record {
+    entries = entries_are ∙ a.entries;
+    first = ap (λ (q : ProgressLists). q.first) h.same ∙ a.first;
+    blocks = first;
+    steps = steps_are ∙ a.steps;
+    has_clash = subst (λ (es : List Entry). HasClash w (items_of es)) (sym entries_are) a.has_clash;
+    is_behind = a.is_behind;
+  }
+
   pub followed_advanced : (e : Event) → IsAdvanced rules old mid e → IsAdvanced rules old new e
   followed_advanced Moved a = (
     record {
@@ -238,6 +299,7 @@ module _ (rules : RuleLists) (old mid new : ProgressLists) (h : HasFollowed mid 
         first = ap (λ (q : ProgressLists). q.first) h.same ∙ a.0.same.first;
         sub = ap (λ (q : ProgressLists). q.sub) h.same ∙ a.0.same.sub;
         not_sup = ap (λ (q : ProgressLists). q.not_sup) h.same ∙ a.0.same.not_sup;
+        behind = ap (λ (q : ProgressLists). q.behind) h.same ∙ a.0.same.behind;
       };
       standing = still_stands w mid new h.same first a.0.standing;
       is_legal =
@@ -249,6 +311,7 @@ module _ (rules : RuleLists) (old mid new : ProgressLists) (h : HasFollowed mid 
   followed_advanced Saturated a =
       (record { same = still_same a.0.same; current = h.current }, still_saturated a.1)
   followed_advanced (Closed r) a = still_closed r a
+  followed_advanced Lost a = still_lost a
 
   pub followed_settled : (e : End) → IsSettled rules old mid e → IsSettled rules old new e
   followed_settled Spent a = (
@@ -262,16 +325,17 @@ module _ (rules : RuleLists) (old mid new : ProgressLists) (h : HasFollowed mid 
   followed_settled RunSaturated a =
       (record { same = still_same a.0.same; current = h.current }, still_saturated a.1)
   followed_settled (RunClosed r) a = still_closed r a
+  followed_settled RunLost a = still_lost a
 
 -- ---- one call
 
 module _ (rules : RuleLists) (query : Query) (sub not_sup : ℕ) (p p' : ProgressLists) (seen seen' : SeenSets)
-    (steps steps' : ℕ) (ended failed : Bool) where
+    (steps steps' : ℕ) (behind ended failed : Bool) where
   abbrev was : SearchState
-  was = state rules query sub not_sup p seen steps ended failed
+  was = state rules query sub not_sup p seen steps behind ended failed
 
   abbrev now : Bool → SearchState
-  now goes = state rules query sub not_sup p' seen' steps' (not goes) false
+  now goes = state rules query sub not_sup p' seen' steps' behind (not goes) false
 
   module _ (kept : IsKept was p) (whole : failed ≡ false) (goes_still : ended ≡ false) where
     progress_is : IsProgressOf was p
@@ -295,6 +359,13 @@ module _ (rules : RuleLists) (query : Query) (sub not_sup : ℕ) (p p' : Progres
       ended = ap not is;
     }
 
+    lost_stays : HasLost rules p p' → steps' ≡ p'.steps → (goes : Bool) → Stays was (now goes)
+    lost_stays h counts goes = record { entries = h.entries; steps = counts ∙ h.steps ∙ progress_is.steps }
+
+    lost : HasLost rules p p' → (goes : Bool) → goes ≡ false → IsLost (now goes)
+    lost h goes is =
+        record { has_clash = h.has_clash; is_behind = sym progress_is.behind ∙ h.is_behind; ended = ap not is }
+
     pub event_is : (e : Event) → IsAdvanced rules p p' e → steps' ≡ p'.steps → (goes : Bool) → goes ≡ goes_on e
         → IsEvent was (now goes) e
     event_is Moved h counts goes is = record {
@@ -305,6 +376,7 @@ module _ (rules : RuleLists) (query : Query) (sub not_sup : ℕ) (p p' : Progres
     event_is Saturated h counts goes is =
         (same_stays h.0.same counts goes, record { is_saturated = h.1; is_current = h.0.current; ended = ap not is })
     event_is (Closed r) h counts goes is = (closed_stays r h counts goes, refuted r h goes is)
+    event_is Lost h counts goes is = (lost_stays h counts goes, lost h goes is)
 
     pub end_is : (e : End) → IsSettled rules p p' e → steps' ≡ p'.steps → (goes : Bool) → goes ≡ is_spent e
         → IsHalted was (now goes) e
@@ -312,6 +384,7 @@ module _ (rules : RuleLists) (query : Query) (sub not_sup : ℕ) (p p' : Progres
     end_is RunSaturated h counts goes is =
         (same_stays h.0.same counts goes, record { is_saturated = h.1; is_current = h.0.current; ended = ap not is })
     end_is (RunClosed r) h counts goes is = (closed_stays r h counts goes, refuted r h goes is)
+    end_is RunLost h counts goes is = (lost_stays h counts goes, lost h goes is)
 
     -- ---- what is kept after it
 
@@ -367,10 +440,12 @@ module _ (rules : RuleLists) (query : Query) (sub not_sup : ℕ) (p p' : Progres
         → (goes : Bool) → IsKept (now goes) p'
     rested_kept same h seen_is steps_is goes =
         let is = progress_is in
-        searching_is_kept rules query sub not_sup p' seen' steps' (ap (λ (q : ProgressLists). q.query) same ∙ is.query)
+        searching_is_kept rules query sub not_sup p' seen' steps' behind
+        (ap (λ (q : ProgressLists). q.query) same ∙ is.query)
         (ap (λ (q : ProgressLists). q.at) same ∙ is.at)
-        (ap (λ (q : ProgressLists). q.steps) same ∙ is.steps ∙ sym steps_is) kept.in_limit kept.set
-        kept.numbers (ap (λ (q : ProgressLists). q.sub) same ∙ is.sub)
+        (ap (λ (q : ProgressLists). q.steps) same ∙ is.steps ∙ sym steps_is)
+        (ap (λ (q : ProgressLists). q.behind) same ∙ is.behind) kept.in_limit kept.set kept.numbers
+        (ap (λ (q : ProgressLists). q.sub) same ∙ is.sub)
         (ap (λ (q : ProgressLists). q.not_sup) same ∙ is.not_sup) h (not goes) false
         (same_run (ap (λ (q : ProgressLists). q.entries) same) seen_is steps_is goes)
 
@@ -381,8 +456,9 @@ module _ (rules : RuleLists) (query : Query) (sub not_sup : ℕ) (p p' : Progres
     moved_kept moved h noted counts goes =
         let is = progress_is in
         let run = kept.has_run whole in
-        searching_is_kept rules query sub not_sup p' seen' steps' (moved.same.query ∙ is.query) (moved.same.at ∙ is.at)
-        (sym counts) kept.in_limit kept.set kept.numbers (moved.same.sub ∙ is.sub) (moved.same.not_sup ∙ is.not_sup) h
+        searching_is_kept rules query sub not_sup p' seen' steps' behind (moved.same.query ∙ is.query)
+        (moved.same.at ∙ is.at) (sym counts) (moved.same.behind ∙ is.behind) kept.in_limit kept.set kept.numbers
+        (moved.same.sub ∙ is.sub) (moved.same.not_sup ∙ is.not_sup) h
         (not goes) false
         (record {
           earlier = items_of p.entries ∷ run.earlier;
@@ -406,6 +482,22 @@ module _ (rules : RuleLists) (query : Query) (sub not_sup : ℕ) (p p' : Progres
         is
     stepped_kept (Closed r) h noted counts goes is =
         stays_kept h.entries h.first h.blocks noted (counts ∙ h.steps ∙ progress_is.steps) goes is
+    stepped_kept Lost h noted counts goes is =
+        stays_kept h.entries h.first h.blocks noted (counts ∙ h.steps ∙ progress_is.steps) goes is
+
+    pub elsewhere_is : (e : Option Event) → IsAdvancedElsewhere rules p p' e → steps' ≡ p'.steps → (goes : Bool)
+        → goes ≡ goes_on_elsewhere e → IsEventElsewhere was (now goes) e
+    elsewhere_is (Some e) h counts goes is = event_is e h counts goes is
+    elsewhere_is None h counts goes is =
+        (same_stays h.same counts goes, record { goes_on = ap not is; is_clear = h.none })
+
+    pub elsewhere_kept : (e : Option Event) → IsAdvancedElsewhere rules p p' e
+        → IsNotedElsewhere rules p p' seen seen' e
+        → steps' ≡ p'.steps → (goes : Bool) → goes ≡ goes_on_elsewhere e → IsKept (now goes) p'
+    elsewhere_kept (Some e) h noted counts goes is = stepped_kept e h noted counts goes is
+    elsewhere_kept None h noted counts goes is =
+        rested_kept h.same h.searching noted
+        (counts ∙ ap (λ (q : ProgressLists). q.steps) h.same ∙ progress_is.steps) goes
 
     pub settled_kept : (e : End) → IsSettled rules p p' e → seen' ≡ seen → steps' ≡ steps → (goes : Bool)
         → goes ≡ is_spent e → IsKept (now goes) p'
@@ -414,12 +506,14 @@ module _ (rules : RuleLists) (query : Query) (sub not_sup : ℕ) (p p' : Progres
         stays_kept (ap (λ (q : ProgressLists). q.entries) h.0.same) (ap (λ (q : ProgressLists). q.first) h.0.same)
         (followed_first p p' h.0) same counts goes is
     settled_kept (RunClosed r) h same counts goes is = stays_kept h.entries h.first h.blocks same counts goes is
+    settled_kept RunLost h same counts goes is = stays_kept h.entries h.first h.blocks same counts goes is
 
     -- what halts has made no step
     pub halted_steps : (e : End) → IsSettled rules p p' e → p'.steps ≡ steps
     halted_steps Spent h = ap (λ (q : ProgressLists). q.steps) h.0 ∙ progress_is.steps
     halted_steps RunSaturated h = ap (λ (q : ProgressLists). q.steps) h.0.same ∙ progress_is.steps
     halted_steps (RunClosed r) h = h.steps ∙ progress_is.steps
+    halted_steps RunLost h = h.steps ∙ progress_is.steps
 
 -- ---- several steps
 
@@ -456,12 +550,58 @@ pub ends_at_refutation : (fuel : ℕ) (a b c : SearchState) (r : RefutationLists
 ends_at_refutation fuel a b c r e is runs h =
     let event : IsEvent b c (Closed r) = subst (IsEvent b c) is h in (stays_run a b c runs event.0, event.1)
 
+pub ends_lost : (fuel : ℕ) (a b c : SearchState) (e : Event) → e ≡ Lost → Runs a b → IsEvent b c e
+    → IsEnd fuel a c RunLost
+ends_lost fuel a b c e is runs h =
+    let event : IsEvent b c Lost = subst (IsEvent b c) is h in (stays_run a b c runs event.0, event.1)
+
+pub moved_event : (b c : SearchState) (e : Event) → e ≡ Moved → IsEvent b c e → IsEvent b c Moved
+moved_event b c e is h = subst (IsEvent b c) is h
+
+-- a step by which a run ends
+pub event_ends : (fuel : ℕ) (a b c : SearchState) (e : Event) (found : Option End) (end : End) → found ≡ end_by e
+    → found ≡ Some end → Runs a b → IsEvent b c e → IsEnd fuel a c end
+event_ends fuel a b c e found end by' is runs h =
+    ends e (sym by' ∙ is) h
+  where
+    one : (d f : End) → Some d ≡ Some f → IsEnd fuel a c d → IsEnd fuel a c f
+    one d f same k = (let e : d ≡ f = cc in subst (IsEnd fuel a c) e k)
+
+    ends : (e : Event) → end_by e ≡ Some end → IsEvent b c e → IsEnd fuel a c end
+    ends Moved same k = cc
+    ends Saturated same k = one RunSaturated end same (stays_run a b c runs k.0, k.1)
+    ends (Closed r) same k = one (RunClosed r) end same (stays_run a b c runs k.0, k.1)
+    ends Lost same k = one RunLost end same (stays_run a b c runs k.0, k.1)
+
+-- and one by which it does not
+pub event_moves : (b c : SearchState) (e : Event) (found : Option End) → found ≡ end_by e → found ≡ None
+    → IsEvent b c e → IsEvent b c Moved
+event_moves b c e found by' is h = moves e (sym by' ∙ is) h
+  where
+    moves : (e : Event) → end_by e ≡ None → IsEvent b c e → IsEvent b c Moved
+    moves Moved same k = k
+    moves Saturated same k = cc
+    moves (Closed r) same k = cc
+    moves Lost same k = cc
+
+-- no step elsewhere is seen
+pub elsewhere_idle : (a b c : SearchState) (e : Option Event) → e ≡ None → Runs a b → IsEventElsewhere b c e
+    → Runs a c × IsIdle c
+elsewhere_idle a b c e is runs h =
+    let idle : IsEventElsewhere b c None = subst (IsEventElsewhere b c) is h in (stays_run a b c runs idle.0, idle.1)
+
+-- one is seen
+pub elsewhere_event : (b c : SearchState) (e : Option Event) (f : Event) → e ≡ Some f → IsEventElsewhere b c e
+    → IsEvent b c f
+elsewhere_event b c e f is h = subst (IsEventElsewhere b c) is h
+
 pub run_ends : (fuel : ℕ) (a b c : SearchState) (e : End) → Runs a b → b.steps ≡ a.steps + fuel → IsHalted b c e
     → IsEnd fuel a c e
 run_ends fuel a b c Spent runs made h =
     (stays_run a b c runs h.0, record { counted = h.0.steps ∙ made; goes_on = h.1; next = h.2; is_legal = h.3 })
 run_ends fuel a b c RunSaturated runs made h = (stays_run a b c runs h.0, h.1)
 run_ends fuel a b c (RunClosed r) runs made h = (stays_run a b c runs h.0, h.1)
+run_ends fuel a b c RunLost runs made h = (stays_run a b c runs h.0, h.1)
 
 pub same_search : (a b c : SearchState) → IsSameSearch a b → IsSameSearch b c → IsSameSearch a c
 same_search a b c h k = record {
@@ -469,7 +609,5 @@ same_search a b c h k = record {
   query = k.query ∙ h.query;
   sub = k.sub ∙ h.sub;
   not_sup = k.not_sup ∙ h.not_sup;
+  behind = k.behind ∙ h.behind;
 }
-
-pub moved_event : (b c : SearchState) (e : Event) → e ≡ Moved → IsEvent b c e → IsEvent b c Moved
-moved_event b c e is h = subst (IsEvent b c) is h

@@ -4,8 +4,10 @@ pub mod Noting
 pub mod Names
 pub mod Reached
 pub mod Noted
+pub mod NotedBehind
 pub mod Kept
 pub mod Apart
+pub mod Serving
 pub use Rattle.closed_search.proofs.Entailed
 pub use Rattle.closed_search.proofs.Checkable
 pub use Rattle.search_laws.proofs.Last

@@ -205,9 +205,9 @@ module _ (o : Listed) where
           after l ls k ks outs (step k l) refl (All-head Fit l ls fit)
           (λ now. lines_named ls now outs (All-tail Fit l ls fit)) h
 
-pub closing_is_listed : (rules : RuleLists) (p : ProgressLists) → IsClosing rules p
+pub closing_is_listed : (rules : RuleLists) (p : ProgressLists) → IsClosing rules p → p.behind ≡ false
     → list_all (uses_names rules.ontology rules.table) (lines_in p.trace) ≡ true
-closing_is_listed rules p h =
+closing_is_listed rules p h from_nothing =
     let o = rules.ontology in
     let classes = length o.classes in
     let roles = length o.roles in
@@ -220,4 +220,4 @@ closing_is_listed rules p h =
     ap (uses_listed classes roles) h.asked.not_sup_is
     ∙ (allowed_negated classes roles any p.query.sup (allowed o p.query.sup both.1)).0 in
     lines_named o rules p (names_kept o (numbers_in rules) h.in_limit.ontology) p.sub p.not_sup sub not_sup
-    p.trace.lines (start_of (asked_by (context_in rules) p) ∷ []) [] h.fit h.closes
+    p.trace.lines (start_of (asked_by (context_in rules) p) ∷ []) [] h.fit (h.closes from_nothing)

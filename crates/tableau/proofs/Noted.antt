@@ -15,7 +15,8 @@ use Rattle.search_state.specs.Entry.{Entry}
 use Rattle.search_state.specs.Trail.{items_of, item_of}
 use Rattle.search_laws.specs.Runs.{was_ever}
 use Rattle.search_laws.proofs.Last.{steps_put_last}
-use Rattle.tableau.specs.Seen.{SeenSets, holds, no_classes, nothing_seen, gives_class, gives_complement, AreOver}
+use Rattle.tableau.specs.Seen.{SeenSets, holds, no_classes, nothing_seen, gives_class, gives_complement, gives_more}
+use Rattle.tableau.specs.Seen.{AreOver}
 use Rattle.tableau.specs.Seen.{HasNoted, AreSeenIn}
 use Rattle.search_rules.specs.RuleLists.{RuleLists, context_in}
 use Rattle.tableau.specs.Inside.{HasNotedNew}
@@ -41,6 +42,7 @@ seen_at_start at table first count s noted = record {
       let below : a < count = omega (arith, lt, noted.complements.limit) in
       noted.complements.held a below
       ∙ ap (λ (b : Bool). list_any (gives_complement at table a) (facts_of first) || b) (none_held count a);
+  bare = λ still. ap (λ (b : Bool). b || false) (noted.bare still).1;
 }
 
 -- ---- a step
@@ -82,4 +84,9 @@ seen_after rules at old new earlier s s' legal seen noted =
           still_ever (gives_complement at rules.table a) place (context_in rules) (items_of old) (items_of new) earlier
           (holds s.complements a) (holds s'.complements a) legal le last (seen.complements a below)
           (noted.complements.held a below);
+      bare = λ still.
+          let t = noted.bare still in
+          sym
+          (still_ever (gives_more at) place (context_in rules) (items_of old) (items_of new) earlier false false legal
+          le last (sym (seen.bare t.0)) (sym (ap (λ (b : Bool). b || false) t.1)));
     }

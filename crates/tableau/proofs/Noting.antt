@@ -1,9 +1,11 @@
 -- What is noted.
-use Rattle.std.proofs.Common.{◌≡◌, ℕ, zero, suc, ◌+◌, ◌<◌, ◌≤◌, ◌&&◌, ◌||◌, eqb, Bool, true, false, List, [], ◌∷◌, drop}
-use Rattle.std.proofs.Common.{Some, refl, ap, ◌∙◌, sym, subst, arith, inl, inr, eq-eqb}
+use Rattle.std.proofs.Common.{◌≡◌, ℕ, zero, suc, ◌+◌, ◌<◌, ◌≤◌, ◌&&◌, ◌||◌, eqb, not, Bool, true, false, List, [], ◌∷◌}
+use Rattle.std.proofs.Common.{drop}
+use Rattle.std.proofs.Common.{length, Some, refl, ap, ◌∙◌, sym, subst, arith, inl, inr, eq-eqb}
 use Rattle.std.specs.List.{list_any, slice_get}
 use Rattle.std.specs.Prelude.{◌==◌}
-use Rattle.std.proofs.lemmas.Bool.{cases_Bool, eqb-true, false_from_ne_true}
+use Rattle.std.proofs.lemmas.Bool.{cases_Bool, and_parts, eqb-true, false_from_ne_true}
+use Rattle.std.proofs.lemmas.List.{drop_all}
 use Rattle.calculus_specs.specs.Shape.{Shape, shape_of}
 use Rattle.calculus_specs.specs.declared.facts.Fact.{Fact}
 use Rattle.calculus_specs.specs.declared.facts.Fact.TheVariants.{Has}
@@ -12,7 +14,7 @@ use Rattle.tableau_specs.specs.declared.Item.{Item}
 use Rattle.tableau_specs.specs.declared.Item.TheVariants.{Fact as Says, Mark}
 use Rattle.tableau_specs.specs.Items.{facts_of}
 use Rattle.tableau.specs.Seen.{SeenSets, holds, class_of, union_parts, is_one, is_complement, has_complement}
-use Rattle.tableau.specs.Seen.{gives_class, gives_complement, HasGained, HasNoted}
+use Rattle.tableau.specs.Seen.{gives_class, gives_complement, gives_more, HasGained, HasNoted}
 
 -- ---- one set
 
@@ -38,16 +40,21 @@ module _ (old new : Limited) where
 
 module _ (at : ℕ) (table : List Shape) (node concept : ℕ) (old mid new : SeenSets)
     (complement : HasGained (λ a. is_complement table a concept) old.complements mid.complements)
-    (same : mid.at_node ≡ old.at_node) where
+    (same : mid.at_node ≡ old.at_node) (bare_same : mid.bare ≡ old.bare) where
   or_false : (b : Bool) → (b || false) ≡ b
   or_false true = refl
   or_false false = refl
 
+  and_false : (b : Bool) → (b && false) ≡ false
+  and_false true = refl
+  and_false false = refl
+
   -- at the node in question
-  pub noted_there : node ≡ at → HasGained (λ a. is_one a (class_of (shape_of table concept))) mid.at_node new.at_node
+  pub noted_there : node ≡ at → new.bare ≡ (mid.bare && eqb concept 0)
+      → HasGained (λ a. is_one a (class_of (shape_of table concept))) mid.at_node new.at_node
       → HasGained (λ a. has_complement table a (union_parts (shape_of table concept))) mid.complements new.complements
       → HasNoted at table (Has node concept ∷ []) old new
-  noted_there there class parts =
+  noted_there there bare class parts =
       let is_there : (node == at) ≡ true = eq-eqb node at there in
       record {
         at_node = record {
@@ -71,6 +78,12 @@ module _ (at : ℕ) (table : List Shape) (node concept : ℕ) (old mid new : See
               (sym
               (or_false (gives_complement at table a (Has node concept)) ∙ ap (λ (b : Bool). q || (b && p)) is_there));
         };
+        bare = λ still.
+            let t = and_parts mid.bare (eqb concept 0) (sym bare ∙ still) in (
+              sym bare_same ∙ t.0,
+              or_false (gives_more at (Has node concept)) ∙ ap (λ (b : Bool). (node == at) && not b) t.1
+                  ∙ and_false (node == at),
+            );
       }
     where
       turned : (p q b : Bool) → (p || (q || b)) ≡ ((q || p) || b)
@@ -96,20 +109,26 @@ module _ (at : ℕ) (table : List Shape) (node concept : ℕ) (old mid new : See
             sym (or_false (gives_complement at table a (Has node concept)) ∙ ap (λ (b : Bool). q || (b && p)) not_there
             ∙ or_false q))
             complement;
+        bare = λ still. (
+          sym bare_same ∙ still,
+          or_false (gives_more at (Has node concept)) ∙ ap (λ (b : Bool). b && not (concept == 0)) not_there,
+        );
       })
 
 -- facts that have to do with no class
 pub nothing_noted : (at : ℕ) (table : List Shape) (fs : List (Fact ℕ)) (s : SeenSets)
     → ((a : ℕ) → list_any (gives_class at table a) fs ≡ false)
-    → ((a : ℕ) → list_any (gives_complement at table a) fs ≡ false) → HasNoted at table fs s s
-nothing_noted at table fs s class complement = record {
+    → ((a : ℕ) → list_any (gives_complement at table a) fs ≡ false) → list_any (gives_more at) fs ≡ false
+    → HasNoted at table fs s s
+nothing_noted at table fs s class complement more = record {
   at_node = gains_none s.at_node s.at_node _ class refl;
   complements = gains_none s.complements s.complements _ complement refl;
+  bare = λ still. (still, more);
 }
 
 -- ---- one item more of a list, of which the rest is still to be noted
 
-drop_at : {A : Type 0} → (xs : List A) (n : ℕ) (x : A) → slice_get xs n ≡ Some x → drop n xs ≡ x ∷ drop (suc n) xs
+pub drop_at : {A : Type 0} → (xs : List A) (n : ℕ) (x : A) → slice_get xs n ≡ Some x → drop n xs ≡ x ∷ drop (suc n) xs
 drop_at [] n x h = absurd (cc)
 drop_at (y ∷ ys) zero x h = (let e : y ≡ x = cc in ap (λ z. z ∷ ys) e)
 drop_at (y ∷ ys) (suc n) x h = drop_at ys n x h
@@ -186,3 +205,41 @@ notes_one test items from place item old now next read before gained = record {
       one_more (test a) items place item (list_any (test a) (facts_of (drop from items))) (holds now a) (holds next a)
       (holds old a) read (gained.held a (omega (arith, lt, before.limit))) (before.held a lt);
 }
+
+-- how far it is noted whether the node in question was given more than top, up to a place
+abbrev pub IsBareSoFar : ℕ → List Item → ℕ → ℕ → Bool → Bool → Type 0
+IsBareSoFar at items from place old now =
+    now ≡ true
+    → (old ≡ true)
+    × (list_any (gives_more at) (facts_of (drop from items)) ≡ list_any (gives_more at) (facts_of (drop place items)))
+
+or_none : (b : Bool) → (b || false) ≡ b
+or_none true = refl
+or_none false = refl
+
+pub bare_one : (at : ℕ) (items : List Item) (from place : ℕ) (item : Item) (old now next : Bool)
+    → slice_get items place ≡ Some item → IsBareSoFar at items from place old now
+    → (next ≡ true → (now ≡ true) × (list_any (gives_more at) (facts_of (item ∷ [])) ≡ false))
+    → IsBareSoFar at items from (place + 1) old next
+bare_one at items from place item old now next read before noted still =
+    let t = noted still in
+    let b = before t.0 in
+    let k : suc place ≡ place + 1 = omega arith in (
+      b.0,
+      b.1 ∙ ap (λ (is : List Item). list_any (gives_more at) (facts_of is)) (drop_at items place item read)
+          ∙ front item (drop (suc place) items) t.1
+          ∙ ap (λ (n : ℕ). list_any (gives_more at) (facts_of (drop n items))) k,
+    )
+  where
+    front : (i : Item) (is : List Item) → list_any (gives_more at) (facts_of (i ∷ [])) ≡ false
+        → list_any (gives_more at) (facts_of (i ∷ is)) ≡ list_any (gives_more at) (facts_of is)
+    front (Says f) is none =
+        ap (λ (b : Bool). b || list_any (gives_more at) (facts_of is)) (sym (or_none (gives_more at f)) ∙ none)
+    front (Mark c) is none = refl
+
+pub bare_all : (at : ℕ) (items : List Item) (from place : ℕ) (old now : Bool) → length items ≤ place
+    → IsBareSoFar at items from place old now
+    → now ≡ true → (old ≡ true) × (list_any (gives_more at) (facts_of (drop from items)) ≡ false)
+bare_all at items from place old now past so_far still =
+    let t = so_far still in
+    (t.0, t.1 ∙ ap (λ (is : List Item). list_any (gives_more at) (facts_of is)) (drop_all place items past))

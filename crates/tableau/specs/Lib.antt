@@ -1,6 +1,7 @@
 pub mod Seen
 pub mod SearchState
 pub mod Steps
+pub mod Beginning
 pub mod Inside
 pub mod Bounds
 pub use Rattle.search_rules.specs.RuleLists

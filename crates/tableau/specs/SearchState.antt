@@ -17,7 +17,8 @@ use Rattle.tableau.specs.Seen.{SeenSets, AreOver, AreSeenIn}
 
 -- the rules and the query, the numbers of what the query asks, how many first nodes there are, the entries of the
 -- trail, what is known of blocked nodes, the classes with which its run had to do, how many steps were made, whether
--- the search has ended, and whether memory was refused: then nothing more is known of it
+-- the search went on behind the beginning of another one, whether it has ended, and whether memory was refused: then
+-- nothing more is known of it
 pub record SearchState : Type 0 where
   pub rules : RuleLists
   pub query : Query
@@ -28,6 +29,7 @@ pub record SearchState : Type 0 where
   pub found_blocks : Printed
   pub seen : SeenSets
   pub steps : ℕ
+  pub behind : Bool
   pub ended : Bool
   pub failed : Bool
 
@@ -81,12 +83,14 @@ pub record HasBegun (rules : RuleLists) (query : Query) (sub not_sup : ℕ) (s :
   pub not_sup_is : s.not_sup ≡ not_sup
   pub trail_is : trail_of s ≡ start (question_of s).at sub not_sup
   pub no_steps : s.steps ≡ 0
+  pub from_nothing : s.behind ≡ false
   pub goes_on : s.ended ≡ false
   pub whole : s.failed ≡ false
 
--- the same rules, query and numbers
+-- the same rules, query and numbers, and the search began as it did
 pub record IsSameSearch (old new : SearchState) : Type 0 where
   pub rules : new.rules ≡ old.rules
   pub query : new.query ≡ old.query
   pub sub : new.sub ≡ old.sub
   pub not_sup : new.not_sup ≡ old.not_sup
+  pub behind : new.behind ≡ old.behind

@@ -1,5 +1,5 @@
 -- With which classes the run of a search has had to do.
-use Rattle.std.specs.Prelude.{◌≡◌, ℕ, ◌+◌, ◌<◌, ◌==◌, ◌&&◌, ◌||◌, Bool, false, List, [], Option, Some, None}
+use Rattle.std.specs.Prelude.{◌≡◌, ℕ, ◌+◌, ◌<◌, ◌==◌, ◌&&◌, ◌||◌, not, Bool, true, false, List, [], Option, Some, None}
 use Rattle.std.specs.List.{list_any}
 use Rattle.std.specs.FinSet as set
 use Rattle.axiom_sets.specs.Sets.{Limited}
@@ -13,10 +13,12 @@ use Rattle.search_laws.specs.Runs.{was_ever}
 
 -- sets of classes: those that the node in question was given, and those whose complement bears on it: the complement
 -- was given to some node, or is a part of a union that the node in question was given. Class numbers begin at 0 and
--- members at 1, so class a stands in a set as a + 1
+-- members at 1, so class a stands in a set as a + 1. And whether it is known that the node in question was given no
+-- more than top
 pub record SeenSets : Type 0 where
   pub at_node : Limited
   pub complements : Limited
+  pub bare : Bool
 
 -- the class is noted
 abbrev pub holds : Limited → ℕ → Bool
@@ -28,7 +30,11 @@ no_classes count = record { limit = count; members = set.empty }
 
 -- nothing is noted of classes yet
 abbrev pub nothing_seen : ℕ → SeenSets
-nothing_seen count = record { at_node = no_classes count; complements = no_classes count }
+nothing_seen count = record { at_node = no_classes count; complements = no_classes count; bare = true }
+
+-- nothing is kept, and nothing known
+abbrev pub nothing_known : SeenSets
+nothing_known = record { at_node = no_classes 0; complements = no_classes 0; bare = false }
 
 -- the sets are of classes below a count
 pub record AreOver (count : ℕ) (s : SeenSets) : Type 0 where
@@ -104,6 +110,13 @@ gives_complement at table a (Edge r x y) = false
 gives_complement at table a (Apart y z) = false
 gives_complement at table a (Same y z) = false
 
+-- whether the fact gives the node `at` more than top, which is number 0
+abbrev pub gives_more : ℕ → Fact ℕ → Bool
+gives_more at (Has x c) = x == at && not (c == 0)
+gives_more at (Edge r x y) = false
+gives_more at (Apart y z) = false
+gives_more at (Same y z) = false
+
 -- ---- what is noted
 
 -- a set has gained those classes of which a test says so
@@ -115,12 +128,14 @@ pub record HasGained (test : ℕ → Bool) (old new : Limited) : Type 0 where
 pub record HasNoted (at : ℕ) (table : List Shape) (fs : List (Fact ℕ)) (old new : SeenSets) : Type 0 where
   pub at_node : HasGained (λ a. list_any (gives_class at table a) fs) old.at_node new.at_node
   pub complements : HasGained (λ a. list_any (gives_complement at table a) fs) old.complements new.complements
+  pub bare : new.bare ≡ true → (old.bare ≡ true) × (list_any (gives_more at) fs ≡ false)
 
 -- the sets are those of the run, where the node `at` is the one in question, no more and no less, as far as they reach
 pub record AreSeenIn (at : ℕ) (table : List Shape) (run : List (List Item)) (s : SeenSets) : Type 0 where
   pub at_node : (a : ℕ) → a < s.at_node.limit → holds s.at_node a ≡ was_ever (gives_class at table a) run
   pub complements : (a : ℕ) → a < s.complements.limit
       → holds s.complements a ≡ was_ever (gives_complement at table a) run
+  pub bare : s.bare ≡ true → was_ever (gives_more at) run ≡ false
 
 -- whether the run has had to do with class a
 abbrev pub has_seen : SeenSets → ℕ → Bool

@@ -19,9 +19,10 @@ use Rattle.search_state.specs.Trail.{facts_in}
 use Rattle.search_state.specs.Followed.{IsCurrent}
 use Rattle.search_rules.specs.RuleLists.{RuleLists}
 use Rattle.tableau.specs.declared.search.Event.{Event}
-use Rattle.tableau.specs.declared.search.Event.TheVariants.{Moved, Saturated, Closed}
+use Rattle.tableau.specs.declared.search.Event.TheVariants.{Moved, Saturated, Closed, Lost}
 use Rattle.tableau.specs.declared.search.End.{End}
-use Rattle.tableau.specs.declared.search.End.TheVariants.{Saturated as RunSaturated, Closed as RunClosed, Spent}
+use Rattle.tableau.specs.declared.search.End.TheVariants.{Saturated as RunSaturated, Closed as RunClosed}
+use Rattle.tableau.specs.declared.search.End.TheVariants.{Lost as RunLost, Spent}
 use Rattle.closed_search.specs.Named.{NamesNoOther}
 use Rattle.tableau.specs.SearchState.{SearchState, context_of, trail_of}
 
@@ -50,6 +51,13 @@ pub record IsAtRefutation (r : RefutationLists) (s : SearchState) : Type 0 where
   pub refutes : Refutes s.rules s.query r
   pub ended : s.ended ≡ true
 
+-- Its trail has a clash, and no way is left open. It went on behind the beginning of another search, whose choices its
+-- lines do not try out, so that there is no refutation.
+pub record IsLost (s : SearchState) : Type 0 where
+  pub has_clash : HasClash (context_of s) (trail_of s)
+  pub is_behind : s.behind ≡ true
+  pub ended : s.ended ≡ true
+
 -- ---- one step
 
 -- the search makes one legal step, and goes on
@@ -68,6 +76,7 @@ abbrev pub IsEvent : SearchState → SearchState → Event → Type 0
 IsEvent old new Moved = Moves old new
 IsEvent old new Saturated = Stays old new × IsAtModel new
 IsEvent old new (Closed r) = Stays old new × IsAtRefutation r new
+IsEvent old new Lost = Stays old new × IsLost new
 
 -- ---- a run
 
@@ -88,6 +97,7 @@ pub record IsSpent (fuel : ℕ) (old new : SearchState) : Type 0 where
 abbrev pub IsEnd : ℕ → SearchState → SearchState → End → Type 0
 IsEnd fuel old new RunSaturated = Runs old new × IsAtModel new
 IsEnd fuel old new (RunClosed r) = Runs old new × IsAtRefutation r new
+IsEnd fuel old new RunLost = Runs old new × IsLost new
 IsEnd fuel old new Spent = Runs old new × IsSpent fuel old new
 
 -- ---- other queries

@@ -6,17 +6,18 @@ ghost use Rattle.search_rules.specs.RuleLists.{context_in};
 ghost use Rattle.search_state.specs.Followed.{IsCurrent};
 ghost use Rattle.search_state.specs.Progress.{IsSearching};
 ghost use Rattle.tableau.specs.Inside.{IsAtQuestion, IsAdvanced, IsNotedAfter, HasNotedNew, IsSettled, goes_on};
+ghost use Rattle.tableau.specs.Inside.{IsAdvancedElsewhere, IsNotedElsewhere};
 
 use crate::NoMemory;
-use crate::closing::refutation;
+use crate::closing::close;
 use crate::search::{End, Event};
 use crate::seen::SeenClasses;
 use search_rules::SearchRules;
 use search_state::{Progress, Rested, Stepped, Tree};
 use std::alloc::{Allocator, Global};
 
-/// Makes the next step, if there is one, and notes what it put. If it `follows`, or the search ends, it finds the blocks
-/// of all nodes then.
+/// Makes the next step, if there is one, and notes what it put. If it `follows`, or the search ends, it finds the
+/// blocks of all nodes then.
 pub(crate) fn advance<A: Allocator + Copy>(
     heap: Global,
     progress: &mut Progress<'_, A>,
@@ -64,7 +65,37 @@ fn advance_once<A: Allocator + Copy>(
             Ok(Event::Moved)
         }
         Stepped::Saturated => Ok(Event::Saturated),
-        Stepped::Closed => Ok(Event::Closed(refutation(heap, progress, rules)?)),
+        Stepped::Closed => Ok(Event::closed(close(heap, progress, rules)?)),
+    }
+}
+
+/// Makes the next step that is seen elsewhere than at the node in question, if there is one, and notes what it put.
+pub(crate) fn advance_elsewhere<A: Allocator + Copy>(
+    heap: Global,
+    progress: &mut Progress<'_, A>,
+    seen: &mut SeenClasses,
+    rules: &SearchRules<'_>,
+) -> Result<Option<Event>, NoMemory>
+    requires in_limit { IsInLimit rules.now.ontology progress.old.query }
+    requires set { rules.now.set.limit ≡ length rules.now.ontology.axioms }
+    requires at { IsAtQuestion rules.now progress.old }
+    requires searching { IsSearching (context_in rules.now) progress.old }
+    requires countable { progress.old.steps + 1 < 2 ^ 64 }
+    ensures advanced { IfOk result (IsAdvancedElsewhere rules.now progress.old progress.new) }
+    ensures noted { IfOk result (IsNotedElsewhere rules.now progress.old progress.new seen.old seen.new) }
+{
+    let before = progress.tree().len();
+    let found = progress.step_elsewhere(rules)?;
+    match found {
+        Some(stepped) => match stepped {
+            Stepped::Moved => {
+                note_new(progress.tree(), seen, rules, progress.at(), before);
+                Ok(Some(Event::Moved))
+            }
+            Stepped::Saturated => Ok(Some(Event::Saturated)),
+            Stepped::Closed => Ok(Some(Event::closed(close(heap, progress, rules)?))),
+        },
+        None => Ok(None),
     }
 }
 
@@ -117,6 +148,6 @@ fn rest<A: Allocator + Copy>(
     match progress.rest(rules)? {
         Rested::CanMove => Ok(End::Spent),
         Rested::Saturated => Ok(End::Saturated),
-        Rested::Closed => Ok(End::Closed(refutation(heap, progress, rules)?)),
+        Rested::Closed => Ok(End::closed(close(heap, progress, rules)?)),
     }
 }

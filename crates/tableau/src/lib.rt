@@ -6,13 +6,20 @@
 //! over the classes of an ontology: those that the node in question was given, and those whose complements bear on it.
 //! A new fact costs a look at its concept, and a union of the node in question one at each part. A search of which
 //! nothing will be asked is given sets without room, which keep nothing.
+//!
+//! Where axioms speak of many individuals, each search would give all that they say, and follow it up. One search can
+//! do it for many (`beginning`, `behind`): it asks whether anything is in top and not in bottom, and others go on from
+//! where it ended.
 #![tactic(auto)]
 
 mod advancing;
+mod beginning;
+mod behind;
 mod closing;
 mod search;
 mod seen;
 
+pub use beginning::Beginning;
 pub use closed_search::{Refutation, Verdict, check};
 pub use search::{End, Event, Search};
 pub use search_laws::legal_runs_are_bounded;

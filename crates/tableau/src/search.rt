@@ -1,16 +1,22 @@
 // The search.
-ghost use Rattle.std.specs.Prelude.{◌≡◌, ◌+◌, ◌<◌, ◌≤◌, ◌^◌, [], ◌∷◌, true, false, IsTrue, ◌||◌, IfOk, OnOk, OnErr, length};
+ghost use Rattle.std.specs.Prelude.{◌≡◌, ◌+◌, ◌<◌, ◌≤◌, ◌^◌, [], ◌∷◌, true, false, IsTrue, ◌||◌, IfOk, OnOk, OnErr};
+ghost use Rattle.std.specs.Prelude.{length};
+ghost use Rattle.std.specs.Prelude.{IsSome};
 ghost use Rattle.search_rules.specs.Limits.{IsInLimit};
 ghost use Rattle.search_rules.specs.RuleLists.{AreNumbersOf};
 ghost use Rattle.search_state.specs.Trail.{items_of};
 ghost use Rattle.tableau.specs.Seen.{AreOver, AreSeenIn};
 ghost use Rattle.tableau.specs.SearchState.{is_any, room_for, context_of, tree_in, IsReachedBy, HasRun, HasBegun};
 ghost use Rattle.tableau.specs.SearchState.{HasAllBlocks, IsSameSearch};
+ghost use Rattle.tableau.specs.SearchState.{question_of, trail_of};
 ghost use Rattle.tableau.specs.Steps.{IsEvent, IsEnd, IsAtModel, ShowsApart};
+ghost use Rattle.tableau.specs.Beginning.{LastMeets, IsEndAlone, IsEventElsewhere, IsEndElsewhere};
 ghost use Rattle.tableau.specs.Bounds.{HasFewSteps, HasFewMarks};
 ghost use Rattle.tableau.specs.Inside.{goes_on as event_goes_on, is_spent, IsHalted};
+ghost use Rattle.tableau.specs.Inside.{goes_on_elsewhere, closing_event, closing_end, end_by};
 
-use crate::advancing::{advance, settle};
+use crate::advancing::{advance, advance_elsewhere, settle};
+use crate::beginning::meets_other;
 use crate::seen::SeenClasses;
 use crate::{NoMemory, Refutation};
 use axiom_sets::AxiomSet;
@@ -30,6 +36,9 @@ pub enum Event {
     Saturated,
     /// None: each way is closed, and this refutation shows it.
     Closed(Refutation),
+    /// None: no way is left open behind the beginning of another search, with which this one went on. There may be one
+    /// by another alternative of a choice that the beginning made, so that there is no refutation.
+    Lost,
 }
 
 impl Event {
@@ -38,6 +47,28 @@ impl Event {
         ensures { result ≡ event_goes_on self.now }
     {
         matches!(self, Event::Moved)
+    }
+
+    /// What a step comes to that closes everything.
+    pub(crate) fn closed(found: Option<Refutation>) -> Event
+        ensures { result ≡ closing_event found }
+    {
+        match found {
+            Some(refutation) => Event::Closed(refutation),
+            None => Event::Lost,
+        }
+    }
+
+    // How a run ends by this, if it does.
+    fn end(self) -> Option<End>
+        ensures { result ≡ end_by self }
+    {
+        match self {
+            Event::Moved => None,
+            Event::Saturated => Some(End::Saturated),
+            Event::Closed(refutation) => Some(End::Closed(refutation)),
+            Event::Lost => Some(End::Lost),
+        }
     }
 }
 
@@ -48,6 +79,9 @@ pub enum End {
     Saturated,
     /// Each way is closed, and this refutation shows it.
     Closed(Refutation),
+    /// No way is left open behind the beginning of another search, with which this one went on. There may be one by
+    /// another alternative of a choice that the beginning made, so that there is no refutation.
+    Lost,
     /// As many steps as were allowed were made, and one more could be.
     Spent,
 }
@@ -59,22 +93,33 @@ impl End {
     {
         matches!(self, End::Spent)
     }
+
+    /// How a run ends that closes everything.
+    pub(crate) fn closed(found: Option<Refutation>) -> End
+        ensures { result ≡ closing_end found }
+    {
+        match found {
+            Some(refutation) => End::Closed(refutation),
+            None => End::Lost,
+        }
+    }
 }
 
 /// A search whether a query follows from the axioms of a set. The blocks that are known may be those of the first nodes
 /// alone while steps are made; at the end of each call that makes some, those of all nodes are known.
 #[derive(Drop)]
 pub struct Search<'b, A: Allocator> {
-    heap: Global,
-    rules: &'b SearchRules<'b>,
-    query: &'b Query,
-    sub: u32,
-    not_sup: u32,
-    progress: Progress<'b, A>,
-    seen: SeenClasses,
-    steps: u64,
-    ended: bool,
-    failed: bool,
+    pub(crate) heap: Global,
+    pub(crate) rules: &'b SearchRules<'b>,
+    pub(crate) query: &'b Query,
+    pub(crate) sub: u32,
+    pub(crate) not_sup: u32,
+    pub(crate) progress: Progress<'b, A>,
+    pub(crate) seen: SeenClasses,
+    pub(crate) steps: u64,
+    pub(crate) behind: bool,
+    pub(crate) ended: bool,
+    pub(crate) failed: bool,
 }
 
 impl<'b, A: Allocator> Model for Search<'b, A> {
@@ -99,6 +144,7 @@ impl<'b, A: Allocator> Model for Search<'b, A> {
       found_blocks = s.progress.found_blocks;
       seen = s.seen;
       steps = s.steps;
+      behind = s.behind;
       ended = s.ended;
       failed = s.failed;
     } };
@@ -115,6 +161,7 @@ impl<'b, A: Allocator> Model for Search<'b, A> {
       found_blocks = s.progress.found_blocks;
       seen = s.seen;
       steps = s.steps;
+      behind = s.behind;
       ended = s.ended;
       failed = s.failed;
     }) s.progress };
@@ -157,6 +204,7 @@ impl<'b, A: Allocator + Copy> Search<'b, A> {
             progress,
             seen,
             steps: 0,
+            behind: false,
             ended: false,
             failed: false,
         })
@@ -209,9 +257,120 @@ impl<'b, A: Allocator + Copy> Search<'b, A> {
                 Event::Moved => {}
                 Event::Saturated => return Ok(End::Saturated),
                 Event::Closed(refutation) => return Ok(End::Closed(refutation)),
+                Event::Lost => return Ok(End::Lost),
             }
         }
         self.settle()
+    }
+
+    /// Makes steps until the search ends, so many are made, or another first node is met than the one in question: none
+    /// is answered then.
+    ///
+    /// # Errors
+    ///
+    /// Out of memory. The search has failed and ended, and serves no more.
+    pub fn run_alone(&mut self, fuel: u64) -> Result<Option<End>, NoMemory>
+        requires goes_on { self.old.ended ≡ false }
+        requires whole { self.old.failed ≡ false }
+        requires countable { self.old.steps + fuel < 2 ^ 64 }
+        ensures same { IsSameSearch self.old self.new }
+        ensures rises { self.old.steps ≤ self.new.steps }
+        ensures within { self.new.steps ≤ self.old.steps + fuel }
+        ensures end { IfOk result (IsEndAlone fuel self.old self.new) }
+        ensures few_steps { OnOk result (HasFewSteps self.new) }
+        ensures few_marks { OnOk result (HasFewMarks self.new) }
+        ensures whole { OnOk result (self.new.failed ≡ false) }
+        ensures failed { OnErr result (self.new.failed ≡ true) }
+        ensures ended { OnErr result (self.new.ended ≡ true) }
+        ensures current { IfOk result (λ end. IsSome end → HasAllBlocks self.new) }
+    {
+        for _done in 0..fuel {
+            let event = self.advance(false)?;
+            match event.end() {
+                Some(end) => return Ok(Some(end)),
+                None => {
+                    if self.has_met_other() {
+                        return Ok(None);
+                    }
+                }
+            }
+        }
+        let end = self.settle()?;
+        Ok(Some(end))
+    }
+
+    /// Makes steps until the search ends, so many are made, or no other is seen than what a row gives the node in
+    /// question that is used at each node: none is answered then, and there is no plain clash.
+    ///
+    /// # Errors
+    ///
+    /// Out of memory. The search has failed and ended, and serves no more.
+    pub fn run_elsewhere(&mut self, fuel: u64) -> Result<Option<End>, NoMemory>
+        requires goes_on { self.old.ended ≡ false }
+        requires whole { self.old.failed ≡ false }
+        requires countable { self.old.steps + fuel < 2 ^ 64 }
+        ensures same { IsSameSearch self.old self.new }
+        ensures rises { self.old.steps ≤ self.new.steps }
+        ensures within { self.new.steps ≤ self.old.steps + fuel }
+        ensures end { IfOk result (IsEndElsewhere fuel self.old self.new) }
+        ensures few_steps { OnOk result (HasFewSteps self.new) }
+        ensures few_marks { OnOk result (HasFewMarks self.new) }
+        ensures whole { OnOk result (self.new.failed ≡ false) }
+        ensures failed { OnErr result (self.new.failed ≡ true) }
+        ensures ended { OnErr result (self.new.ended ≡ true) }
+    {
+        for _done in 0..fuel {
+            let found = self.advance_elsewhere()?;
+            match found {
+                Some(event) => match event.end() {
+                    Some(end) => return Ok(Some(end)),
+                    None => {}
+                },
+                None => return Ok(None),
+            }
+        }
+        let end = self.settle()?;
+        Ok(Some(end))
+    }
+
+    // Makes the next step that is seen elsewhere than at the node in question, if there is one.
+    fn advance_elsewhere(&mut self) -> Result<Option<Event>, NoMemory>
+        requires goes_on { self.old.ended ≡ false }
+        requires whole { self.old.failed ≡ false }
+        requires countable { self.old.steps + 1 < 2 ^ 64 }
+        ensures same { IsSameSearch self.old self.new }
+        ensures event { IfOk result (IsEventElsewhere self.old self.new) }
+        ensures few_steps { OnOk result (HasFewSteps self.new) }
+        ensures few_marks { OnOk result (HasFewMarks self.new) }
+        ensures whole { OnOk result (self.new.failed ≡ false) }
+        ensures failed { OnErr result (self.new.failed ≡ true) }
+        ensures ended { OnErr result (self.new.ended ≡ true) }
+        ensures kept { OnErr result (self.new.steps ≡ self.old.steps) }
+    {
+        self.failed = true;
+        self.ended = true;
+        let event = advance_elsewhere(self.heap, &mut self.progress, &mut self.seen, self.rules)?;
+        self.steps = self.progress.steps();
+        self.ended = !goes_on_elsewhere(&event);
+        self.failed = false;
+
+        // What bounds the count stands after each step.
+        self.steps();
+        Ok(event)
+    }
+
+    // Whether the last item of the trail is a fact that speaks of another first node than the one in question.
+    fn has_met_other(&self) -> bool
+        ensures { IsTrue result
+            → LastMeets (context_of self.now).first (question_of self.now).at (trail_of self.now) }
+    {
+        let tree = self.progress.tree();
+        let len = tree.len();
+        if len == 0 {
+            return false;
+        }
+        let at = self.rules.node_in_question(self.query);
+        meets_other(tree.item(len - 1), self.rules.first(), at)
     }
 
     // Makes the next step, if there is one. If it `follows`, or the search ends, it finds the blocks of all nodes then.
@@ -342,6 +501,16 @@ impl<'b, A: Allocator + Copy> Search<'b, A> {
     }
 }
 
+// Whether the search goes on after a step elsewhere.
+fn goes_on_elsewhere(event: &Option<Event>) -> bool
+    ensures { result ≡ goes_on_elsewhere event.now }
+{
+    match event {
+        Some(event) => event.goes_on(),
+        None => true,
+    }
+}
+
 // What the first trail puts.
 fn first_seen<A: Allocator + Copy>(
     heap: Global,
@@ -359,7 +528,7 @@ fn first_seen<A: Allocator + Copy>(
 }
 
 // Whether the query is on any element.
-fn is_on_any(query: &Query) -> bool
+pub(crate) fn is_on_any(query: &Query) -> bool
     ensures { result ≡ is_any query.now.on }
 {
     matches!(query.on, On::Any)

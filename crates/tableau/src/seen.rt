@@ -1,10 +1,10 @@
 // The classes with which a run has had to do.
-ghost use Rattle.std.specs.Prelude.{◌≡◌, ℕ, ◌<◌, ◌≤◌, ◌==◌, not, [], ◌∷◌, length, drop, IfOk};
+ghost use Rattle.std.specs.Prelude.{◌≡◌, ℕ, ◌<◌, ◌≤◌, ◌==◌, ◌&&◌, not, [], ◌∷◌, length, drop, IfOk};
 ghost use Rattle.calculus_specs.specs.declared.facts.Fact.TheVariants.{Has};
 ghost use Rattle.calculus_specs.specs.Shape.{shape_of};
 ghost use Rattle.tableau_specs.specs.Items.{facts_of};
 ghost use Rattle.search_state.specs.Trail.{items_of};
-ghost use Rattle.tableau.specs.Seen.{holds, nothing_seen, class_of, complement_of, union_parts, is_one};
+ghost use Rattle.tableau.specs.Seen.{holds, nothing_seen, nothing_known, class_of, complement_of, union_parts, is_one};
 ghost use Rattle.tableau.specs.Seen.{is_complement, has_complement};
 ghost use Rattle.tableau.specs.Seen.{has_seen, HasGained, HasNoted};
 
@@ -24,6 +24,8 @@ use std::marker::Model;
 pub struct SeenClasses {
     at_node: AxiomSet,
     complements: AxiomSet,
+    // Whether it is known that the run has said no more of the node in question than that it has top.
+    bare: bool,
 }
 
 impl Model for SeenClasses {
@@ -36,7 +38,7 @@ impl Model for SeenClasses {
 
     ghost coded = { Prim.hlevel (codes, limited_code) };
 
-    ghost view = { λ s. record { at_node = s.at_node; complements = s.complements } };
+    ghost view = { λ s. record { at_node = s.at_node; complements = s.complements; bare = s.bare } };
 
     ghost invariant = { λ s. s.complements.limit ≡ s.at_node.limit };
 }
@@ -53,6 +55,22 @@ impl SeenClasses {
         Ok(SeenClasses {
             at_node: AxiomSet::empty(alloc, count)?,
             complements: AxiomSet::empty(alloc, count)?,
+            bare: true,
+        })
+    }
+
+    /// Sets without room, of a run of which nothing will be asked.
+    ///
+    /// # Errors
+    ///
+    /// Out of memory.
+    pub fn unknown(alloc: Global) -> Result<SeenClasses, NoMemory>
+        ensures { IfOk result (λ s. s ≡ nothing_known) }
+    {
+        Ok(SeenClasses {
+            at_node: AxiomSet::empty(alloc, 0)?,
+            complements: AxiomSet::empty(alloc, 0)?,
+            bare: false,
         })
     }
 
@@ -100,11 +118,12 @@ impl SeenClasses {
         ensures complements { HasGained (λ a. is_complement (R.context rules.now).table a concept) self.old.complements
             self.new.complements }
         ensures at_node { self.new.at_node ≡ self.old.at_node }
+        ensures bare { self.new.bare ≡ self.old.bare }
     {
         put_complement(&mut self.complements, rules, concept);
     }
 
-    // Notes what a concept of the node in question is besides: a class, or a union.
+    // Notes what a concept of the node in question is besides: a class, or a union, or no more than top.
     fn note_at_node<R: Rules>(&mut self, rules: &R, concept: u32)
         ensures at_node { HasGained (λ a. is_one a (class_of (shape_of (R.context rules.now).table concept)))
             self.old.at_node self.new.at_node }
@@ -112,9 +131,56 @@ impl SeenClasses {
             (λ a. has_complement (R.context rules.now).table a
             (union_parts (shape_of (R.context rules.now).table concept)))
             self.old.complements self.new.complements }
+        ensures bare { self.new.bare ≡ (self.old.bare && concept == 0) }
     {
+        self.bare = self.bare && concept == 0;
         put_if(&mut self.at_node, class_of(rules, concept));
         put_complements(&mut self.complements, rules, parts_of(rules, concept));
+    }
+
+    /// What is noted of a beginning, for a search that goes on from it behind the start of another query, which gives
+    /// the node `at` two concepts. The beginning itself is not looked through.
+    ///
+    /// # Errors
+    ///
+    /// Out of memory.
+    #[tactic(auto, using(crate::proofs::NotedBehind::noted_both))]
+    pub fn behind<R: Rules>(
+        &self,
+        rules: &R,
+        at: u32,
+        sub: u32,
+        not_sup: u32,
+    ) -> Result<SeenClasses, NoMemory>
+        ensures { IfOk result
+            (HasNoted at (R.context rules.now).table (Has at sub ∷ Has at not_sup ∷ []) self.now) }
+    {
+        let mut seen = self.try_clone()?;
+        seen.note_concept(rules, at, at, sub);
+        seen.note_concept(rules, at, at, not_sup);
+        Ok(seen)
+    }
+
+    /// The same sets.
+    ///
+    /// # Errors
+    ///
+    /// Out of memory.
+    pub fn try_clone(&self) -> Result<SeenClasses, NoMemory>
+        ensures { IfOk result (λ s. s ≡ self.now) }
+    {
+        Ok(SeenClasses {
+            at_node: self.at_node.try_clone()?,
+            complements: self.complements.try_clone()?,
+            bare: self.bare,
+        })
+    }
+
+    /// Whether it is known that the run has said no more of the node in question than that it has top.
+    pub fn is_bare(&self) -> bool
+        ensures { result ≡ self.now.bare }
+    {
+        self.bare
     }
 
     /// The classes below the count with which the run has had nothing to do, each number greater by one.
@@ -134,8 +200,8 @@ impl SeenClasses {
     }
 }
 
-// The class that a concept is, if it is one.
-fn class_of<R: Rules>(rules: &R, concept: u32) -> Option<u32>
+/// The class that a concept is, if it is one.
+pub(crate) fn class_of<R: Rules>(rules: &R, concept: u32) -> Option<u32>
     ensures { result ≡ class_of (shape_of (R.context rules.now).table concept) }
 {
     match rules.shape(concept) {
@@ -152,8 +218,8 @@ fn class_of<R: Rules>(rules: &R, concept: u32) -> Option<u32>
     }
 }
 
-// The class in whose complement a concept is, if it is one.
-fn complement_of<R: Rules>(rules: &R, concept: u32) -> Option<u32>
+/// The class in whose complement a concept is, if it is one.
+pub(crate) fn complement_of<R: Rules>(rules: &R, concept: u32) -> Option<u32>
     ensures { result ≡ complement_of (shape_of (R.context rules.now).table concept) }
 {
     match rules.shape(concept) {

@@ -13,7 +13,7 @@ refutation_of-requires-clause-over g c =
     subst (λ (table : List Shape). are_over (length table) (lines_in c.take_trace-trace.result) ≡ true)
     (sym c.concepts.ensures.concepts)
     (subst (λ (t : TraceLists). are_over (length c.args.rules.now.table) (lines_in t) ≡ true)
-    (sym c.take_trace-trace.ensures.trace) (closing_is_over c.args.rules.now c.args.progress.now c.requires))
+    (sym c.take_trace-trace.ensures.trace) (closing_is_over c.args.rules.now c.args.progress.now c.requires.closing))
 
 pub refutation_of-requires-clause-listed : goal.refutation_of-requires-clause-listed
 refutation_of-requires-clause-listed g c =
@@ -25,4 +25,5 @@ refutation_of-requires-clause-listed g c =
     (sym c.concepts.ensures.concepts)
     (subst
     (λ (t : TraceLists). list_all (uses_names c.args.rules.now.ontology c.args.rules.now.table) (lines_in t) ≡ true)
-    (sym c.take_trace-trace.ensures.trace) (closing_is_listed c.args.rules.now c.args.progress.now c.requires)))
+    (sym c.take_trace-trace.ensures.trace)
+    (closing_is_listed c.args.rules.now c.args.progress.now c.requires.closing c.requires.from_nothing)))

@@ -12,12 +12,12 @@ returns-clause-event g c =
     let p = c.advance.new.progress in
     let e = c.in_ok-event.event in
     subst (λ (s : SearchState). IsEvent s
-    (state i.rules.now i.query.now i.sub i.not_sup p c.advance.new.seen c.steps-self-inside.result
+    (state i.rules.now i.query.now i.sub i.not_sup p c.advance.new.seen c.steps-self-inside.result i.behind
     (not c.goes_on.result) false)
     e)
     c.self.view_is
     (event_is i.rules.now i.query.now i.sub i.not_sup i.progress p i.seen c.advance.new.seen i.steps
-    c.steps-self-inside.result i.ended i.failed c.self.invariant whole goes e c.in_ok-event.ensures.advanced
+    c.steps-self-inside.result i.behind i.ended i.failed c.self.invariant whole goes e c.in_ok-event.ensures.advanced
     c.steps-self-inside.ensures c.goes_on.result c.goes_on.ensures)
 
 pub invariant_of-self-2 : goal.invariant_of-self-2
@@ -27,6 +27,6 @@ invariant_of-self-2 g c =
     let goes : i.ended ≡ false = ap (λ (s : SearchState). s.ended) c.self.view_is ∙ c.requires.goes_on in
     let p = c.advance.new.progress in
     stepped_kept i.rules.now i.query.now i.sub i.not_sup i.progress p i.seen c.advance.new.seen i.steps
-    c.steps-self-inside.result i.ended i.failed c.self.invariant whole goes c.in_ok-event.event
+    c.steps-self-inside.result i.behind i.ended i.failed c.self.invariant whole goes c.in_ok-event.event
     c.in_ok-event.ensures.advanced c.in_ok-event.ensures.noted c.steps-self-inside.ensures c.goes_on.result
     c.goes_on.ensures

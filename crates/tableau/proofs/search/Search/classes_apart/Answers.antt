@@ -11,7 +11,8 @@ pub returns : goal.returns
 returns g c =
     let s = c.args.self.now in
     let j = c.self.inside in
-    let i : SearchState = state j.rules.now j.query.now j.sub j.not_sup j.progress j.seen j.steps j.ended j.failed in
+    let i : SearchState =
+    state j.rules.now j.query.now j.sub j.not_sup j.progress j.seen j.steps j.behind j.ended j.failed in
     let classes = c.in_ok-classes.classes in
     let kept = subst (λ (t : SearchState). IsKept t c.self.inside.progress) c.self.view_is c.self.invariant in
     let whole = c.requires.whole in

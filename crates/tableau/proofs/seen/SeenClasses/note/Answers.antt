@@ -1,6 +1,6 @@
 use Rattle.search_state.specs.Trail.{items_of}
 use Rattle.tableau.specs.Seen.{gives_class, gives_complement}
-use Rattle.tableau.proofs.Noting.{notes_one}
+use Rattle.tableau.proofs.Noting.{notes_one, bare_one}
 use Rattle.tableau.proofs.seen.SeenClasses.note.Goals as goal
 
 pub loop-place-preserved : goal.loop-place-preserved
@@ -18,4 +18,7 @@ loop-place-preserved g c =
           notes_one (gives_complement c.args.at table) items c.args.from c.loop-place.place c.item.result
           old.complements was.complements now.complements c.item.ensures c.loop-place.invariant.complements
           c.note_item.ensures.complements;
+      bare =
+          bare_one c.args.at items c.args.from c.loop-place.place c.item.result old.bare was.bare now.bare
+          c.item.ensures c.loop-place.invariant.bare c.note_item.ensures.bare;
     }

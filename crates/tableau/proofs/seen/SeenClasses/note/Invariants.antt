@@ -1,6 +1,6 @@
 use Rattle.search_state.specs.Trail.{items_of}
 use Rattle.tableau.specs.Seen.{gives_class, gives_complement}
-use Rattle.tableau.proofs.Noting.{IsNoting}
+use Rattle.tableau.proofs.Noting.{IsNoting, IsBareSoFar}
 use Rattle.tableau.proofs.seen.SeenClasses.note.Given as goal
 
 abbrev pub invariant-loop-place : goal.invariant-loop-place
@@ -9,4 +9,5 @@ invariant-loop-place g l = record {
       l.fn.self.at_node l.self.at_node;
   complements : IsNoting (gives_complement l.at (g.R.Rules.context l.rules).table) (items_of l.tree.entries) l.from
       l.place l.fn.self.complements l.self.complements;
+  bare : IsBareSoFar l.at (items_of l.tree.entries) l.from l.place l.fn.self.bare l.self.bare;
 }
