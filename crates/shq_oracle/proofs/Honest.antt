@@ -1,6 +1,6 @@
 -- What a search that ends says is honest.
 use Rattle.std.proofs.Common.{◌≡◌, ℕ, zero, suc, ◌+◌, ◌≤◌, List, [], ◌∷◌, ◌++◌, length, take, Some, ap, sym, subst, ◌∙◌}
-use Rattle.std.proofs.Common.{Bool, arith, inl, inr}
+use Rattle.std.proofs.Common.{Bool, true, false, refl, arith, inl, inr}
 use Rattle.std.specs.Prelude.{slice_get, Option, None, Result, Ok, Err, IfOk, IfSome}
 use Rattle.shq_terms.specs.declared.axioms.On.TheVariants.{Any}
 use Rattle.shq_terms.specs.Concept.{name}
@@ -14,7 +14,8 @@ use Rattle.tableau.specs.RefutationLists.{RefutationLists}
 use Rattle.tableau.proofs.CounterModelLaws.{saturated_does_not_entail}
 use Rattle.tableau.specs.SearchState.{SearchState, context_of, trail_of, IsReachedBy, HasBegun, IsSameSearch}
 use Rattle.tableau.specs.declared.search.End.{End}
-use Rattle.tableau.specs.declared.search.End.TheVariants.{Saturated, Closed, Spent as OutOfFuel}
+use Rattle.tableau.specs.declared.search.End.TheVariants.{Saturated, Closed, Lost, Spent as OutOfFuel}
+use Rattle.tableau.specs.Beginning.{BeginningLists, GoesOnFrom}
 use Rattle.tableau.specs.Steps.{IsAtModel, IsAtRefutation, IsEnd, AreLeftOut, ShowsApart}
 use Rattle.run_log.specs.Trails.{TrailLists}
 use Rattle.run_log.specs.HonestLog.{IsAxiomSet, FollowsIn, IsHonestYes, IsHonestNo, GoesOn}
@@ -29,6 +30,7 @@ use Rattle.shq_oracle.specs.declared.tested.Tested.{Tested}
 use Rattle.shq_oracle.specs.ApartLists.{AreApart}
 use Rattle.shq_oracle.specs.Decided.{IsProof, IsFound, IsFoundBy, IsTested, IsTestedBy, EndsTest, HasNumbers, MayGoOn}
 use Rattle.shq_oracle.specs.Decided.{HasEnded}
+use Rattle.shq_oracle.specs.Begun.{is_lost}
 
 -- one item more
 pub taken_one : {X : Type 0} (xs : List X) (n : ℕ) (x : X) → slice_get xs n ≡ Some x
@@ -177,28 +179,64 @@ tested_moved s o set q fuel wanted eo es eq (Ok t) h =
     (subst (λ (v : Listed). IsTested v s.rules.set s.query fuel wanted t) eo h))
 tested_moved s o set q fuel wanted eo es eq (Err e) h = tt
 
--- a search has the numbers with which it began
-pub has_numbers : (r : RuleLists) (q : Query) (sub not_sup : ℕ) (old new : SearchState) → HasBegun r q sub not_sup old
-    → IsSameSearch old new → AreNumbersOf r q sub not_sup → HasNumbers new
-has_numbers r q sub not_sup old new begun same numbers =
-    let rules : r ≡ new.rules = sym (same.rules ∙ begun.rules_are) in
-    let query : q ≡ new.query = sym (same.query ∙ begun.query_is) in
-    let first : sub ≡ new.sub = sym (same.sub ∙ begun.sub_is) in
-    let second : not_sup ≡ new.not_sup = sym (same.not_sup ∙ begun.not_sup_is) in
-    let by_rules : AreNumbersOf new.rules q sub not_sup =
-    subst (λ (v : RuleLists). AreNumbersOf v q sub not_sup) rules numbers in
-    let by_query : AreNumbersOf new.rules new.query sub not_sup =
-    subst (λ (v : Query). AreNumbersOf new.rules v sub not_sup) query by_rules in
-    let by_first : AreNumbersOf new.rules new.query new.sub not_sup =
-    subst (λ (n : ℕ). AreNumbersOf new.rules new.query n not_sup) first by_query in
-    subst (λ (n : ℕ). AreNumbersOf new.rules new.query new.sub n) second by_first
+-- a search has the numbers of its query, where those that it began with are
+pub has_numbers : (r : RuleLists) (q : Query) (sub not_sup : ℕ) (s : SearchState) → s.rules ≡ r → s.query ≡ q
+    → s.sub ≡ sub → s.not_sup ≡ not_sup → AreNumbersOf r q sub not_sup → HasNumbers s
+has_numbers r q sub not_sup s er eq es en numbers =
+    let by_rules : AreNumbersOf s.rules q sub not_sup =
+    subst (λ (v : RuleLists). AreNumbersOf v q sub not_sup) (sym er) numbers in
+    let by_query : AreNumbersOf s.rules s.query sub not_sup =
+    subst (λ (v : Query). AreNumbersOf s.rules v sub not_sup) (sym eq) by_rules in
+    let by_first : AreNumbersOf s.rules s.query s.sub not_sup =
+    subst (λ (n : ℕ). AreNumbersOf s.rules s.query n not_sup) (sym es) by_query in
+    subst (λ (n : ℕ). AreNumbersOf s.rules s.query s.sub n) (sym en) by_first
+
+pub has_numbers_at_start : (r : RuleLists) (q : Query) (sub not_sup : ℕ) (s : SearchState)
+    → HasBegun r q sub not_sup s → AreNumbersOf r q sub not_sup → HasNumbers s
+has_numbers_at_start r q sub not_sup s begun =
+    has_numbers r q sub not_sup s begun.rules_are begun.query_is begun.sub_is begun.not_sup_is
+
+pub has_numbers_begun : (r : RuleLists) (q : Query) (sub not_sup : ℕ) (old new : SearchState)
+    → HasBegun r q sub not_sup old → IsSameSearch old new → AreNumbersOf r q sub not_sup → HasNumbers new
+has_numbers_begun r q sub not_sup old new begun same =
+    has_numbers r q sub not_sup new (same.rules ∙ begun.rules_are) (same.query ∙ begun.query_is)
+    (same.sub ∙ begun.sub_is) (same.not_sup ∙ begun.not_sup_is)
+
+pub has_numbers_behind : (b : BeginningLists) (r : RuleLists) (q : Query) (sub not_sup : ℕ) (old new : SearchState)
+    → GoesOnFrom b r q sub not_sup old → IsSameSearch old new → AreNumbersOf r q sub not_sup → HasNumbers new
+has_numbers_behind b r q sub not_sup old new begun same =
+    has_numbers r q sub not_sup new (same.rules ∙ begun.rules_are) (same.query ∙ begun.query_is)
+    (same.sub ∙ begun.sub_is) (same.not_sup ∙ begun.not_sup_is)
+
+pub has_numbers_still : (old new : SearchState) → IsSameSearch old new → HasNumbers old → HasNumbers new
+has_numbers_still old new same =
+    has_numbers old.rules old.query old.sub old.not_sup new same.rules same.query same.sub same.not_sup
+
+-- a search that began at nothing ends with evidence
+pub not_lost : (fuel : ℕ) (old new : SearchState) (e : End) → old.behind ≡ false → IsSameSearch old new
+    → IsEnd fuel old new e → is_lost e ≡ false
+not_lost fuel old new Saturated nothing same h = refl
+not_lost fuel old new (Closed r) nothing same h = refl
+not_lost fuel old new Lost nothing same (runs, lost) = sym lost.is_behind ∙ same.behind ∙ nothing
+not_lost fuel old new OutOfFuel nothing same h = refl
+
+-- how a search ended that had so much fuel left
+pub ended_on : (fuel left : ℕ) (old new : SearchState) (e : End) → old.steps + left ≡ fuel → IsEnd left old new e
+    → is_lost e ≡ false → HasEnded fuel new e
+ended_on fuel left old new Saturated all (runs, at) h = at
+ended_on fuel left old new (Closed r) all (runs, at) h = at
+ended_on fuel left old new Lost all (runs, lost) h = cc
+ended_on fuel left old new OutOfFuel all (runs, spent) h =
+    (omega (arith, all, spent.counted), (spent.next, spent.is_legal))
 
 -- how a search ended that began with no steps
-pub has_ended : (fuel : ℕ) (old new : SearchState) (e : End) → old.steps ≡ 0 → IsEnd fuel old new e
-    → HasEnded fuel new e
-has_ended fuel old new Saturated zero_steps (runs, at) = at
-has_ended fuel old new (Closed r) zero_steps (runs, at) = at
-has_ended fuel old new OutOfFuel zero_steps (runs, spent) =
+pub has_ended : (fuel : ℕ) (old new : SearchState) (e : End) → old.steps ≡ 0 → old.behind ≡ false
+    → IsSameSearch old new → IsEnd fuel old new e → HasEnded fuel new e
+has_ended fuel old new Saturated zero_steps nothing same (runs, at) = at
+has_ended fuel old new (Closed r) zero_steps nothing same (runs, at) = at
+has_ended fuel old new Lost zero_steps nothing same (runs, lost) =
+    let k : true ≡ false = sym lost.is_behind ∙ same.behind ∙ nothing in cc
+has_ended fuel old new OutOfFuel zero_steps nothing same (runs, spent) =
     (omega (arith, zero_steps, spent.counted), (spent.next, spent.is_legal))
 
 -- with so much fuel at least, or just so much

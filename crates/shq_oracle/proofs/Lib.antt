@@ -1,5 +1,6 @@
 pub mod Honest
 pub mod Adding
+pub mod Serving
 pub use Rattle.tableau.proofs.Counting
 pub use Rattle.tableau.proofs.Left
 pub use Rattle.run_log.proofs.Named

@@ -15,7 +15,7 @@ use Rattle.tableau.specs.CounterModelLaws.{IsCounterModel}
 use Rattle.tableau_specs.specs.declared.Item.{Item}
 use Rattle.tableau_specs.specs.Steps.{IsLegal}
 use Rattle.tableau.specs.declared.search.End.{End}
-use Rattle.tableau.specs.declared.search.End.TheVariants.{Saturated, Closed, Spent as OutOfFuel}
+use Rattle.tableau.specs.declared.search.End.TheVariants.{Saturated, Closed, Lost, Spent as OutOfFuel}
 use Rattle.tableau.specs.RuleLists.{AreNumbersOf}
 use Rattle.tableau.specs.SearchState.{SearchState, context_of, trail_of, IsReachedBy, HasRun}
 use Rattle.tableau.specs.Steps.{IsAtModel, IsAtRefutation, ShowsApart}
@@ -180,8 +180,9 @@ HasNumbers s = AreNumbersOf s.rules s.query s.sub s.not_sup
 abbrev pub MayGoOn : SearchState → Type 0
 MayGoOn s = (next : List Item) × IsLegal (context_of s) (trail_of s) next
 
--- a search that had so much fuel ended so
+-- a search that had so much fuel ended so, and with evidence
 abbrev pub HasEnded : ℕ → SearchState → End → Type 0
 HasEnded fuel s Saturated = IsAtModel s
 HasEnded fuel s (Closed r) = IsAtRefutation r s
+HasEnded fuel s Lost = ⊥
 HasEnded fuel s OutOfFuel = (s.steps ≡ fuel) × MayGoOn s

@@ -7,12 +7,13 @@ ghost use Rattle.tableau.specs.Steps.{IsAtModel, IsAtRefutation};
 ghost use Rattle.run_log.specs.HonestLog.{IsAxiomSet};
 ghost use Rattle.shq_oracle.specs.Decided.{IsFound, IsFoundBy, MayGoOn, HasEnded};
 
+use crate::kept::KeptRules;
 use crate::{Answer, KeptTrail, NoMemory, TestEnd};
 use bumpalo::Bump;
 use model_builder::{Tree, build};
 use shq_terms::Query;
 use std::alloc::{Allocator, Global};
-use tableau::{End, Refutation, Search, SearchRules};
+use tableau::{End, Refutation, Search};
 use tableau_specs::Item;
 
 /// What a search answers, in how many steps, and how its test ended.
@@ -28,18 +29,18 @@ pub(crate) struct Found {
 #[tactic(auto, using(crate::proofs::Honest::moved, crate::proofs::Honest::has_ended))]
 pub(crate) fn search(
     alloc: Global,
-    rules: &mut SearchRules<'_>,
+    kept: &mut KeptRules<'_>,
     query: &Query,
     fuel: u64,
 ) -> Result<Found, NoMemory>
-    requires set { IsAxiomSet rules.old.ontology rules.old.set }
-    requires in_limit { IsInLimit rules.old.ontology query.now }
-    ensures found { IfOk result (IsFound rules.old.ontology rules.old.set query.now fuel) }
-    ensures same { rules.new.ontology ≡ rules.old.ontology }
+    requires set { IsAxiomSet kept.old.ontology kept.old.set }
+    requires in_limit { IsInLimit kept.old.ontology query.now }
+    ensures found { IfOk result (IsFound kept.old.ontology kept.old.set query.now fuel) }
+    ensures same { kept.new.ontology ≡ kept.old.ontology }
 {
-    let (sub, not_sup) = rules.numbers_of(alloc, query)?;
+    let (sub, not_sup) = kept.numbers_of(alloc, query)?;
     let arena = Bump::new(alloc);
-    let mut search = Search::new_in(&arena, alloc, rules, query, sub, not_sup)?;
+    let mut search = Search::new_in(&arena, alloc, kept.rules(), query, sub, not_sup)?;
     let end = search.run(fuel)?;
     found_by(alloc, &search, query, fuel, end)
 }
@@ -65,6 +66,7 @@ fn found_by<A: Allocator + Copy>(
     match end {
         End::Saturated => with_model(alloc, search, query),
         End::Closed(refutation) => with_refutation(search, refutation),
+        End::Lost => unreachable!(),
         End::Spent => with_trail(alloc, search),
     }
 }

@@ -3,7 +3,6 @@ ghost use Rattle.std.specs.Prelude.{◌≡◌, ◌↔◌, ◌+◌, ◌<◌, ◌�
 ghost use Rattle.std.specs.Prelude.{Some, OnErr};
 ghost use Rattle.run_log.specs.declared.entry.Entry.TheVariants.{Test};
 ghost use Rattle.std.specs.List.{list_any};
-ghost use Rattle.axiom_sets.specs.Sets.{IsWithin};
 ghost use Rattle.model_builder.specs.Limits.{IsOntologyInLimit, IsInLimit};
 ghost use Rattle.run_log.specs.Entries.{spent_of, is_spent, IsAnswered};
 ghost use Rattle.run_log.specs.HonestLog.{IsAxiomSet, IsHonestEntry};
@@ -12,13 +11,13 @@ ghost use Rattle.shq_oracle.specs.Decided.{IsOutcome, AddsTest, AddsShown, Notes
 ghost use Rattle.shq_oracle.specs.ApartLists.{query_of, entry_of, classes_of, AreApart, IsAbout, MayNote};
 
 use crate::found::{Found, search};
-use crate::tested::{Tested, test};
+use crate::kept::KeptRules;
+use crate::tested::Tested;
 use crate::{Answer, Apart, Entry, NoMemory, Outcome, RunLog, Shown, TestEnd};
 use axiom_sets::AxiomSet;
 use shq_terms::{Ontology, Query};
 use std::alloc::Global;
 use std::marker::Model;
-use tableau::SearchRules;
 
 /// Answers whether queries follow from sets of an ontology's axioms, within a budget of steps, and keeps the log of it.
 ///
@@ -29,7 +28,7 @@ pub struct Oracle<'a> {
     ontology: &'a Ontology,
     budget: u32,
     log: RunLog,
-    rules: Option<SearchRules<'a>>,
+    rules: Option<KeptRules<'a>>,
 }
 
 impl<'a> Model for Oracle<'a> {
@@ -146,7 +145,7 @@ impl<'a> Oracle<'a> {
     {
         let fuel = self.left();
         let mut rules = self.take_rules(set)?;
-        let tested = test(self.alloc, &mut rules, query, fuel, false);
+        let tested = rules.test(self.alloc, query, fuel, false);
         self.keep_rules(rules);
         self.note_outcome(set, query, tested?)
     }
@@ -174,7 +173,7 @@ impl<'a> Oracle<'a> {
     {
         let fuel = self.left();
         let mut rules = self.take_rules(set)?;
-        let tested = test(self.alloc, &mut rules, query, fuel, true);
+        let tested = rules.test(self.alloc, query, fuel, true);
         self.keep_rules(rules);
         self.note_shown(set, query, tested?)
     }
@@ -224,7 +223,7 @@ impl<'a> Oracle<'a> {
     }
 
     // The rules of the set: those that were kept, where they are of this set. Nothing that contracts see changes.
-    fn take_rules(&mut self, set: &AxiomSet) -> Result<SearchRules<'a>, NoMemory>
+    fn take_rules(&mut self, set: &AxiomSet) -> Result<KeptRules<'a>, NoMemory>
         requires limit { set.now.limit ≡ length self.old.ontology.axioms }
         requires in_limit { IsOntologyInLimit self.old.ontology }
         ensures ontology { IfOk result (λ r. r.ontology ≡ self.old.ontology) }
@@ -233,11 +232,11 @@ impl<'a> Oracle<'a> {
         ensures same { self.new ≡ self.old }
     {
         let _limit = set.limit();
-        rules_of(self.alloc, self.rules.take(), self.ontology, set)
+        KeptRules::of(self.alloc, self.rules.take(), self.ontology, set)
     }
 
     // Keeps rules for the next question about their set. Nothing that contracts see changes.
-    fn keep_rules(&mut self, rules: SearchRules<'a>)
+    fn keep_rules(&mut self, rules: KeptRules<'a>)
         requires { rules.ontology ≡ self.old.ontology }
         ensures { self.new ≡ self.old }
     {
@@ -412,43 +411,6 @@ impl<'a> Oracle<'a> {
         self.log.push(Entry::Test(asked, query, steps, ended))?;
         Ok(())
     }
-}
-
-// The rules of the axioms of the set: those that were kept, where they are of this set.
-fn rules_of<'a>(
-    alloc: Global,
-    kept: Option<SearchRules<'a>>,
-    ontology: &'a Ontology,
-    set: &AxiomSet,
-) -> Result<SearchRules<'a>, NoMemory>
-    requires kept { IfSome kept (λ r. r.ontology ≡ ontology.now) }
-    requires within { IsWithin (length ontology.now.axioms) set.now.members }
-    requires in_limit { IsOntologyInLimit ontology.now }
-    ensures ontology { IfOk result (λ r. r.ontology ≡ ontology.entry.now) }
-    ensures set { IfOk result (λ r. r.set ≡ set.now) }
-{
-    match kept {
-        Some(rules) => rules_again(alloc, rules, ontology, set),
-        None => SearchRules::build(alloc, ontology, set),
-    }
-}
-
-fn rules_again<'a>(
-    alloc: Global,
-    rules: SearchRules<'a>,
-    ontology: &'a Ontology,
-    set: &AxiomSet,
-) -> Result<SearchRules<'a>, NoMemory>
-    requires kept { rules.ontology ≡ ontology.now }
-    requires within { IsWithin (length ontology.now.axioms) set.now.members }
-    requires in_limit { IsOntologyInLimit ontology.now }
-    ensures ontology { IfOk result (λ r. r.ontology ≡ ontology.entry.now) }
-    ensures set { IfOk result (λ r. r.set ≡ set.now) }
-{
-    if *rules.set() == *set {
-        return Ok(rules);
-    }
-    SearchRules::build(alloc, ontology, set)
 }
 
 // An equal query.

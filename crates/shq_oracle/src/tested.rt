@@ -1,15 +1,18 @@
 // What the outcome of one search is.
 ghost use Rattle.std.specs.Prelude.{◌≡◌, ◌≤◌, ℕ, Bool, true, false, IfOk, IfSome};
 ghost use Rattle.model_builder.specs.Limits.{IsInLimit};
+ghost use Rattle.tableau.specs.RuleLists.{AreNumbersOf};
 ghost use Rattle.tableau.specs.Steps.{IsAtModel, IsAtRefutation, AreLeftOut, ShowsApart};
 ghost use Rattle.run_log.specs.HonestLog.{IsAxiomSet};
+ghost use Rattle.shq_oracle.specs.Begun.{IsServed};
 ghost use Rattle.shq_oracle.specs.Decided.{IsTested, IsTestedBy, HasNumbers, MayGoOn, HasEnded};
 
+use crate::beginning::KnownBeginning;
 use crate::found::kept_trail;
 use crate::{NoMemory, Outcome, TestEnd};
 use axiom_sets::AxiomSet;
 use bumpalo::Bump;
-use shq_terms::Query;
+use shq_terms::{On, Query};
 use std::alloc::{Allocator, Global};
 use tableau::{End, Refutation, Search, SearchRules};
 
@@ -23,31 +26,100 @@ pub(crate) struct Tested {
     pub(crate) ended: TestEnd,
 }
 
-/// Searches with these rules whether the query follows, by at most so many steps, and makes no model. Where it is wanted,
-/// what the search shows of further classes is kept. The tree of the search lies in an arena of its own, which is let go
-/// at the end.
-#[tactic(auto, using(crate::proofs::Honest::tested_moved, crate::proofs::Honest::has_ended, crate::proofs::Honest::has_numbers))]
+/// Searches by these rules whether the query follows, by at most so many steps, and makes no model. Where it is wanted,
+/// what a search shows of further classes is kept. The numbers are those of what the query asks. The tree of a search
+/// lies in an arena of its own, which is let go at the end.
 pub(crate) fn test(
     alloc: Global,
-    rules: &mut SearchRules<'_>,
+    rules: &SearchRules<'_>,
+    known: &mut KnownBeginning,
     query: &Query,
+    numbers: (u32, u32),
     fuel: u64,
     wants_apart: bool,
 ) -> Result<Tested, NoMemory>
-    requires set { IsAxiomSet rules.old.ontology rules.old.set }
-    requires in_limit { IsInLimit rules.old.ontology query.now }
-    ensures tested { IfOk result (IsTested rules.old.ontology rules.old.set query.now fuel wants_apart) }
-    ensures same { rules.new.ontology ≡ rules.old.ontology }
+    requires numbers { AreNumbersOf rules.now query.now numbers.0 numbers.1 }
+    requires set { IsAxiomSet rules.now.ontology rules.now.set }
+    requires in_limit { IsInLimit rules.now.ontology query.now }
+    requires served { IsServed rules.now known.old }
+    ensures tested { IfOk result (IsTested rules.now.ontology rules.now.set query.now fuel wants_apart) }
+    ensures served { IsServed rules.now known.new }
 {
-    let (sub, not_sup) = rules.numbers_of(alloc, query)?;
     let arena = Bump::new(alloc);
-    let mut search = Search::new_in(&arena, alloc, rules, query, sub, not_sup)?;
-    let end = search.run(fuel)?;
-    tested_by(alloc, &search, fuel, end, wants_apart)
+    let mut search = Search::new_in(&arena, alloc, rules, query, numbers.0, numbers.1)?;
+    match query.on {
+        On::Individual(_) => run_on(alloc, &mut search, fuel, wants_apart),
+        On::Any if numbers.0 == 0 && numbers.1 == 0 => {
+            begin(alloc, &mut search, known, fuel, wants_apart)
+        }
+        On::Any => {
+            if let Some(end) = search.run_alone(fuel)? {
+                return tested_by(alloc, &search, fuel, end, wants_apart);
+            }
+            known.seek(alloc, rules, fuel)?;
+            match known.test(alloc, rules, query, numbers, fuel, wants_apart)? {
+                Some(tested) => Ok(tested),
+                None => run_on(alloc, &mut search, fuel, wants_apart),
+            }
+        }
+    }
 }
 
-// The outcome of a search that ended so, with this fuel.
-fn tested_by<A: Allocator + Copy>(
+// The outcome of a search that begins, and asks whether anything is in top and not in bottom. What it did before it
+// turned to the node in question is kept as a beginning of others.
+fn begin<A: Allocator + Copy>(
+    alloc: Global,
+    search: &mut Search<'_, A>,
+    known: &mut KnownBeginning,
+    fuel: u64,
+    wants_apart: bool,
+) -> Result<Tested, NoMemory>
+    requires begun { search.old.steps ≡ 0 }
+    requires whole { search.old.failed ≡ false }
+    requires goes_on { search.old.ended ≡ false }
+    requires from_nothing { search.old.behind ≡ false }
+    requires numbers { HasNumbers search.old }
+    requires set { IsAxiomSet search.old.rules.ontology search.old.rules.set }
+    requires in_limit { IsInLimit search.old.rules.ontology search.old.query }
+    requires served { IsServed search.old.rules known.old }
+    ensures tested { IfOk result (IsTestedBy search.old fuel wants_apart) }
+    ensures served { IsServed search.old.rules known.new }
+{
+    match search.run_elsewhere(fuel)? {
+        Some(end) => tested_by(alloc, search, fuel, end, wants_apart),
+        None => {
+            known.keep(search)?;
+            run_on(alloc, search, fuel, wants_apart)
+        }
+    }
+}
+
+// The outcome of a search that goes on from where it stands.
+fn run_on<A: Allocator + Copy>(
+    alloc: Global,
+    search: &mut Search<'_, A>,
+    fuel: u64,
+    wants_apart: bool,
+) -> Result<Tested, NoMemory>
+    requires whole { search.old.failed ≡ false }
+    requires goes_on { search.old.ended ≡ false }
+    requires from_nothing { search.old.behind ≡ false }
+    requires numbers { HasNumbers search.old }
+    requires set { IsAxiomSet search.old.rules.ontology search.old.rules.set }
+    requires in_limit { IsInLimit search.old.rules.ontology search.old.query }
+    requires within { search.old.steps ≤ fuel }
+    ensures { IfOk result (IsTestedBy search.old fuel wants_apart) }
+{
+    let left = fuel - search.steps();
+    let end = search.run(left)?;
+    tested_by(alloc, search, fuel, end, wants_apart)
+}
+
+/// The outcome of a search that ended so, with this fuel.
+///
+/// # Errors
+/// Memory may be refused.
+pub(crate) fn tested_by<A: Allocator + Copy>(
     alloc: Global,
     search: &Search<'_, A>,
     fuel: u64,
@@ -65,6 +137,7 @@ fn tested_by<A: Allocator + Copy>(
     match end {
         End::Saturated => with_no(search, wants_apart),
         End::Closed(refutation) => with_yes(search, refutation),
+        End::Lost => unreachable!(),
         End::Spent => with_trail(alloc, search),
     }
 }

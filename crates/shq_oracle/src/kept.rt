@@ -1,0 +1,153 @@
+// The rules that serve one question after the other.
+ghost use Rattle.std.specs.Prelude.{◌≡◌, true, IsTrue, length, IfOk, IfSome};
+ghost use Rattle.axiom_sets.specs.Sets.{IsWithin};
+ghost use Rattle.model_builder.specs.Limits.{IsOntologyInLimit, IsInLimit};
+ghost use Rattle.tableau.specs.RuleLists.{AreNumbersOf, IsGrown};
+ghost use Rattle.run_log.specs.HonestLog.{IsAxiomSet};
+ghost use Rattle.shq_oracle.specs.Decided.{IsTested};
+
+use crate::NoMemory;
+use crate::beginning::KnownBeginning;
+use crate::tested::{Tested, test};
+use axiom_sets::AxiomSet;
+use shq_terms::{Ontology, Query};
+use std::alloc::Global;
+use std::marker::Model;
+use tableau::SearchRules;
+
+/// The rules of a set of axioms, and what is known of a beginning of searches by them. Contracts see the rules.
+#[derive(Drop)]
+pub(crate) struct KeptRules<'a> {
+    rules: SearchRules<'a>,
+    beginning: KnownBeginning,
+}
+
+impl<'a> Model for KeptRules<'a> {
+    ghost use Rattle.std.specs.Coded.{codes};
+    ghost use Rattle.shq_terms.specs.Code.{concept_code};
+    ghost use Rattle.axiom_sets.specs.Sets.{limited_code};
+    ghost use Rattle.tableau.specs.RuleLists.{RuleLists};
+    ghost use Rattle.shq_oracle.specs.Begun.{IsServed};
+
+    ghost Value = { RuleLists };
+
+    ghost coded = { Prim.hlevel (codes, concept_code, limited_code) };
+
+    ghost view = { λ k. k.rules };
+
+    ghost invariant = { λ k. IsServed k.rules k.beginning };
+}
+
+impl<'a> KeptRules<'a> {
+    /// The rules of the axioms of a set: those that were kept, where they are of this set.
+    ///
+    /// # Errors
+    /// Memory may be refused.
+    pub(crate) fn of(
+        alloc: Global,
+        kept: Option<KeptRules<'a>>,
+        ontology: &'a Ontology,
+        set: &AxiomSet,
+    ) -> Result<KeptRules<'a>, NoMemory>
+        requires kept { IfSome kept (λ k. k.ontology ≡ ontology.now) }
+        requires within { IsWithin (length ontology.now.axioms) set.now.members }
+        requires in_limit { IsOntologyInLimit ontology.now }
+        ensures ontology { IfOk result (λ k. k.ontology ≡ ontology.entry.now) }
+        ensures set { IfOk result (λ k. k.set ≡ set.now) }
+    {
+        match kept {
+            Some(kept) => kept.again(alloc, ontology, set),
+            None => KeptRules::build(alloc, ontology, set),
+        }
+    }
+
+    // These, where they are of the set, or new ones.
+    fn again(
+        self,
+        alloc: Global,
+        ontology: &'a Ontology,
+        set: &AxiomSet,
+    ) -> Result<KeptRules<'a>, NoMemory>
+        requires kept { self.ontology ≡ ontology.now }
+        requires within { IsWithin (length ontology.now.axioms) set.now.members }
+        requires in_limit { IsOntologyInLimit ontology.now }
+        ensures ontology { IfOk result (λ k. k.ontology ≡ ontology.entry.now) }
+        ensures set { IfOk result (λ k. k.set ≡ set.now) }
+    {
+        if *self.rules.set() == *set {
+            return Ok(self);
+        }
+        KeptRules::build(alloc, ontology, set)
+    }
+
+    // New rules.
+    fn build(
+        alloc: Global,
+        ontology: &'a Ontology,
+        set: &AxiomSet,
+    ) -> Result<KeptRules<'a>, NoMemory>
+        requires within { IsWithin (length ontology.now.axioms) set.now.members }
+        requires in_limit { IsOntologyInLimit ontology.now }
+        ensures ontology { IfOk result (λ k. k.ontology ≡ ontology.entry.now) }
+        ensures set { IfOk result (λ k. k.set ≡ set.now) }
+    {
+        Ok(KeptRules {
+            rules: SearchRules::build(alloc, ontology, set)?,
+            beginning: KnownBeginning::Unmet,
+        })
+    }
+
+    /// The rules.
+    pub(crate) fn rules(&self) -> &SearchRules<'a>
+        ensures { result.now ≡ self.now }
+    {
+        &self.rules
+    }
+
+    /// The numbers of what a query asks ([`SearchRules::numbers_of`]).
+    ///
+    /// # Errors
+    /// Memory may be refused.
+    #[tactic(auto, using(crate::proofs::Serving::served_still))]
+    pub(crate) fn numbers_of(
+        &mut self,
+        alloc: Global,
+        query: &Query,
+    ) -> Result<(u32, u32), NoMemory>
+        requires in_limit { IsInLimit self.old.ontology query.now }
+        ensures numbers { IfOk result (λ p. AreNumbersOf self.new query.now p.0 p.1) }
+        ensures grown { IsGrown self.old self.new }
+    {
+        self.rules.numbers_of(alloc, query)
+    }
+
+    /// Searches whether a query follows, by at most so many steps, and makes no model. Where it is wanted, what the
+    /// search shows of further classes is kept.
+    ///
+    /// # Errors
+    /// Memory may be refused.
+    #[tactic(auto, using(crate::proofs::Serving::tested_grown))]
+    pub(crate) fn test(
+        &mut self,
+        alloc: Global,
+        query: &Query,
+        fuel: u64,
+        wants_apart: bool,
+    ) -> Result<Tested, NoMemory>
+        requires set { IsAxiomSet self.old.ontology self.old.set }
+        requires in_limit { IsInLimit self.old.ontology query.now }
+        ensures tested { IfOk result (IsTested self.old.ontology self.old.set query.now fuel wants_apart) }
+        ensures same { self.new.ontology ≡ self.old.ontology }
+    {
+        let numbers = self.numbers_of(alloc, query)?;
+        test(
+            alloc,
+            &self.rules,
+            &mut self.beginning,
+            query,
+            numbers,
+            fuel,
+            wants_apart,
+        )
+    }
+}
