@@ -1,7 +1,10 @@
 -- Verdicts and certificates in every world.
 use Rattle.std.proofs.Common.{◌≡◌, ℕ, List, ◌++◌, get_or, refl, ap, sym, ◌∙◌, arith}
+use Rattle.shq_terms.specs.declared.axioms.Axiom.{Axiom}
+use Rattle.shq_terms.specs.declared.axioms.Query.{Query as Asked}
 use Rattle.pinpointing_specs.specs.Truth.{Entails}
 use Rattle.all_worlds.specs.Worlds.{World}
+use Rattle.search_starts.specs.Laws.{FollowsInAll}
 use Rattle.answers_everywhere.proofs.Everywhere.{questions}
 use Rattle.decision_jobs.specs.Laws.{HaveAsked}
 use Rattle.decision_jobs.proofs.Exclusive.{yes_follows, no_does_not_follow}
@@ -15,9 +18,10 @@ use Rattle.classification_jobs.specs.Status.TheVariants.{Done, Undecided}
 use Rattle.ontology_jobs.specs.Entry.{Entry}
 use Rattle.ontology_jobs.proofs.Done.{decided}
 use Rattle.ontology_jobs.proofs.Accepted.{follows as accepted_follows, does_not_follow as accepted_does_not}
-use Rattle.runs_everywhere.specs.Laws.{BeginsWithLine, YesFollowsIn, NoFailsInAFiniteWorld}
+use Rattle.runs_everywhere.specs.Laws.{BeginsWithLine, FailsInAFiniteWorld, YesFollowsIn, NoFailsInAFiniteWorld}
 use Rattle.runs_everywhere.specs.Laws.{AcceptedQueriesFollowIn, AcceptedQueriesFailInAFiniteWorld}
 use Rattle.runs_everywhere.proofs.Worlds.{fails, of_question}
+use Rattle.runs_everywhere.proofs.Carried.{of_asked, of_read}
 
 -- ---- what is decided
 
@@ -54,54 +58,29 @@ module _ {d : Type 0} (w : World d) where
   pub yes_holds : YesFollowsIn w
   yes_holds question budget bytes out log answer begins =
       let t = decided question budget bytes out log answer in
-      let asked = yes_by question budget bytes out log t begins t.decision refl in
-      record {
-        ontology = asked.ontology;
-        query = asked.query;
-        is_question = asked.is_question;
-        what_holds =
-            (of_question w question bytes asked.ontology asked.query asked.is_question).all.0 asked.what_holds;
-      }
+      let h = yes_by question budget bytes out log t begins t.decision refl in
+      of_asked Entails (FollowsInAll w) question bytes h
+      ((of_question w question bytes h.ontology h.query h.is_question).all.0 h.what_holds)
 
   pub accepted_holds : AcceptedQueriesFollowIn w
   accepted_holds query bytes log answer =
-      let found = accepted_follows query bytes log answer in
-      record {
-        document = found.document;
-        kept = found.kept;
-        end = found.end;
-        counts = found.counts;
-        asked = found.asked;
-        is_document = found.is_document;
-        is_query = found.is_query;
-        what_holds =
-            (questions w bytes found.document found.kept found.end found.is_document (follows query) found.counts
-            found.asked found.is_query).all.0 found.what_holds;
-      }
+      let h = accepted_follows query bytes log answer in
+      of_read Entails (FollowsInAll w) query bytes h
+      ((questions w bytes h.document h.kept h.end h.is_document (follows query) h.counts h.asked h.is_query).all.0
+      h.what_holds)
 
 -- ---- in a finite world
+
+abbrev DoesNotFollow : List Axiom → Asked → Type 0
+DoesNotFollow axioms q = ¬ Entails axioms q
 
 pub no_fails : NoFailsInAFiniteWorld
 no_fails question budget bytes out log answer begins =
     let t = decided question budget bytes out log answer in
-    let asked = no_by question budget bytes out log t begins t.decision refl in
-    record {
-      ontology = asked.ontology;
-      query = asked.query;
-      is_question = asked.is_question;
-      what_holds = fails _ asked.query asked.what_holds;
-    }
+    let h = no_by question budget bytes out log t begins t.decision refl in
+    of_asked DoesNotFollow FailsInAFiniteWorld question bytes h (fails _ h.query h.what_holds)
 
 pub accepted_fails : AcceptedQueriesFailInAFiniteWorld
 accepted_fails query bytes log answer =
-    let found = accepted_does_not query bytes log answer in
-    record {
-      document = found.document;
-      kept = found.kept;
-      end = found.end;
-      counts = found.counts;
-      asked = found.asked;
-      is_document = found.is_document;
-      is_query = found.is_query;
-      what_holds = fails _ found.asked found.what_holds;
-    }
+    let h = accepted_does_not query bytes log answer in
+    of_read DoesNotFollow FailsInAFiniteWorld query bytes h (fails _ h.asked h.what_holds)

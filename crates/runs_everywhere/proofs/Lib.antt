@@ -1,4 +1,5 @@
 mod Worlds
+mod Carried
 mod Sets
 mod Classes
 mod Decided

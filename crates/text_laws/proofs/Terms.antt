@@ -315,7 +315,7 @@ stand_none = (refl, tt)
 pub stand_one : (p : Phrase) → Stands p → AllStand (one p)
 stand_one p first = stand_more p none first stand_none
 
-stand_two : (p q : Phrase) → Stands p → Stands q → AllStand (two p q)
+pub stand_two : (p q : Phrase) → Stands p → Stands q → AllStand (two p q)
 stand_two p q first second = stand_more p (one q) first (stand_one q second)
 
 stand_three : (p q r : Phrase) → Stands p → Stands q → Stands r → AllStand (three p q r)

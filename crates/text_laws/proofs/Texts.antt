@@ -47,7 +47,7 @@ abbrev pub AllText : List Phrase → Type 0
 AllText [] = Unit {0}
 AllText (p ∷ ps) = IsText p × AllText ps
 
-lines_utf8 : (ps : List Phrase) → AllText ps → IsUtf8 (lines_text ps)
+pub lines_utf8 : (ps : List Phrase) → AllText ps → IsUtf8 (lines_text ps)
 lines_utf8 [] h = IsUtf8-nil
 lines_utf8 (p ∷ ps) h =
     IsUtf8-append (line (text_of p)) (lines_text ps)
@@ -61,7 +61,7 @@ document_phrases o =
     ++ (declarations (codes "ObjectProperty") o.roles
     ++ (declarations (codes "NamedIndividual") o.individuals ++ axiom_phrases o o.axioms))
 
-lines_append : (ps qs : List Phrase) → lines_text (ps ++ qs) ≡ lines_text ps ++ lines_text qs
+pub lines_append : (ps qs : List Phrase) → lines_text (ps ++ qs) ≡ lines_text ps ++ lines_text qs
 lines_append [] qs = refl
 lines_append (p ∷ ps) qs =
     ap (λ l. line (text_of p) ++ l) (lines_append ps qs)
@@ -209,10 +209,10 @@ module _ (o : Listed) (names : AreSpelled o) where
 
 -- ---- how deep they nest
 
-abbrev Nests : ℕ → List Phrase → Type 0
+abbrev pub Nests : ℕ → List Phrase → Type 0
 Nests n ps = nesting_all (lines_items n ps) ≤ 63
 
-append_nests : (n : ℕ) (ps qs : List Phrase) → Nests n ps → ((m : ℕ) → Nests m qs) → Nests n (ps ++ qs)
+pub append_nests : (n : ℕ) (ps qs : List Phrase) → Nests n ps → ((m : ℕ) → Nests m qs) → Nests n (ps ++ qs)
 append_nests n [] qs first second = second n
 append_nests n (p ∷ ps) qs first second =
     let others : nesting_all (lines_items (n + 1) (ps ++ qs)) ≤ 63 =

@@ -7,6 +7,7 @@ use Rattle.workload.specs.WorkloadText.{kernel_text, groups_text, group_text, wo
 use Rattle.ofn_writer.specs.Canonical.{iri_text, line}
 use Rattle.text_laws.proofs.Phrases.{Phrase, word, call, text_of, lines_text}
 use Rattle.text_laws.proofs.Terms.{two, three}
+use Rattle.text_laws.proofs.Texts.{lines_append}
 use Rattle.workload.specs.WorkloadAxioms.{prefix_iri_of_workloads}
 
 -- a name behind the empty prefix
@@ -97,12 +98,6 @@ group_written k =
     ++ (line (two_written (decimal k) i)
     ++ (line (all_written (decimal k) i) ++ (line (either_written (decimal k) i) ++ []))))
     ∙ four (line (text.some_text k)) (line (text.two_text k)) (line (text.all_text k)) (line (text.either_text k))
-
-lines_append : (ps qs : List Phrase) → lines_text (ps ++ qs) ≡ lines_text ps ++ lines_text qs
-lines_append [] qs = refl
-lines_append (p ∷ ps) qs =
-    ap (λ l. line (text_of p) ++ l) (lines_append ps qs)
-    ∙ sym (append_assoc (line (text_of p)) (lines_text ps) (lines_text qs))
 
 -- ---- the whole text
 

@@ -8,14 +8,12 @@ use Rattle.std.specs.Str.Parse.{AllDigits}
 use Rattle.std.proofs.lemmas.Bool.{and_parts, and_from}
 use Rattle.std.proofs.lemmas.Fmt.{decimal_is_IsNumeral, IsAscii-decimal}
 use Rattle.std.proofs.lemmas.Grind.{common_steps}
-use Rattle.std.proofs.lemmas.Str.{IsUtf8-append, IsUtf8-nil, IsUtf8-from_ascii}
+use Rattle.std.proofs.lemmas.Str.{IsUtf8-append, IsUtf8-from_ascii}
 use Rattle.std.proofs.lemmas.Str.Parse.{digit_from_value}
 use Rattle.ofn_tree.specs.Lexemes.{is_name_byte}
-use Rattle.ofn_tree.specs.Items.{nesting_all}
-use Rattle.ofn_writer.specs.Canonical.{line}
-use Rattle.text_laws.proofs.Phrases.{Phrase, word, call, text_of, can_stand, all_can_stand, lines_text, lines_items}
-use Rattle.text_laws.proofs.Terms.{one, two, three, Stands, AllStand, stands_call, stand_more, stand_one, low_text}
-use Rattle.text_laws.proofs.Texts.{AllText, text_utf8}
+use Rattle.text_laws.proofs.Phrases.{Phrase, word, call, can_stand, all_can_stand, lines_text}
+use Rattle.text_laws.proofs.Terms.{two, three, Stands, stands_call, stand_more, stand_two, low_text}
+use Rattle.text_laws.proofs.Texts.{AllText, Nests, lines_utf8, append_nests}
 use Rattle.workload.proofs.Lines.{local_word, sub_phrase, both_phrase, kernel_phrases, some_phrase, two_phrase}
 use Rattle.workload.proofs.Lines.{all_phrase, either_phrase, group_phrases, workload_phrases, opened, header}
 
@@ -53,12 +51,9 @@ lettered b d plain low digits = (
   IsUtf8-append (58 ∷ (b ∷ [])) d low digits.utf8,
 )
 
-two_stand : (p q : Phrase) → Stands p → Stands q → AllStand (two p q)
-two_stand p q first second = stand_more p (one q) first (stand_one q second)
-
 pub sub_stands : (local : List ℕ) (p : Phrase) → Stands (local_word local) → Stands p → Stands (sub_phrase local p)
 sub_stands local p first second =
-    stands_call (codes "SubClassOf") (two (local_word local) p) refl refl (two_stand (local_word local) p first second)
+    stands_call (codes "SubClassOf") (two (local_word local) p) refl refl (stand_two (local_word local) p first second)
 
 module _ (d : List ℕ) (digits : AreDigits d) where
   a_stands : Stands (local_word (65 ∷ d))
@@ -87,7 +82,7 @@ module _ (d : List ℕ) (digits : AreDigits d) where
       sub_stands (65 ∷ d) (call (codes "ObjectSomeValuesFrom") (two (local_word (codes "r")) (local_word (66 ∷ d))))
       a_stands
       (stands_call (codes "ObjectSomeValuesFrom") (two (local_word (codes "r")) (local_word (66 ∷ d))) refl refl
-      (two_stand (local_word (codes "r")) (local_word (66 ∷ d)) r_stands b_stands))
+      (stand_two (local_word (codes "r")) (local_word (66 ∷ d)) r_stands b_stands))
 
   two_stands : Stands (two_phrase d)
   two_stands =
@@ -97,20 +92,20 @@ module _ (d : List ℕ) (digits : AreDigits d) where
       (stands_call (codes "ObjectMinCardinality")
       (three (word (codes "2")) (local_word (codes "s")) (local_word (66 ∷ d))) refl refl
       (stand_more (word (codes "2")) (two (local_word (codes "s")) (local_word (66 ∷ d))) number_stands
-      (two_stand (local_word (codes "s")) (local_word (66 ∷ d)) s_stands b_stands)))
+      (stand_two (local_word (codes "s")) (local_word (66 ∷ d)) s_stands b_stands)))
 
   all_stands : Stands (all_phrase d)
   all_stands =
       sub_stands (66 ∷ d) (call (codes "ObjectAllValuesFrom") (two (local_word (codes "r")) (local_word (67 ∷ d))))
       b_stands
       (stands_call (codes "ObjectAllValuesFrom") (two (local_word (codes "r")) (local_word (67 ∷ d))) refl refl
-      (two_stand (local_word (codes "r")) (local_word (67 ∷ d)) r_stands c_stands))
+      (stand_two (local_word (codes "r")) (local_word (67 ∷ d)) r_stands c_stands))
 
   either_stands : Stands (either_phrase d)
   either_stands =
       sub_stands (67 ∷ d) (call (codes "ObjectUnionOf") (two (local_word (65 ∷ d)) (local_word (68 ∷ d)))) c_stands
       (stands_call (codes "ObjectUnionOf") (two (local_word (65 ∷ d)) (local_word (68 ∷ d))) refl refl
-      (two_stand (local_word (65 ∷ d)) (local_word (68 ∷ d)) a_stands d_stands))
+      (stand_two (local_word (65 ∷ d)) (local_word (68 ∷ d)) a_stands d_stands))
 
 -- ---- lines
 
@@ -146,7 +141,7 @@ kernel_both : (u v w : List ℕ) → Stands (local_word u) → Stands (local_wor
 kernel_both u v w first second third =
     sub_stands u (both_phrase v w) first
     (stands_call (codes "ObjectIntersectionOf") (two (local_word v) (local_word w)) refl refl
-    (two_stand (local_word v) (local_word w) second third))
+    (stand_two (local_word v) (local_word w) second third))
 
 kernel_stands : LinesStand kernel_phrases
 kernel_stands =
@@ -159,7 +154,7 @@ kernel_stands =
     let p2 : Stands (local_word (codes "P2")) = short_word (codes "P2") refl refl in
     let roles : Stands (call (codes "SubObjectPropertyOf") (two (local_word (codes "s")) (local_word (codes "r")))) =
     stands_call (codes "SubObjectPropertyOf") (two (local_word (codes "s")) (local_word (codes "r"))) refl refl
-    (two_stand (local_word (codes "s")) (local_word (codes "r")) (short_word (codes "s") refl refl)
+    (stand_two (local_word (codes "s")) (local_word (codes "r")) (short_word (codes "s") refl refl)
     (short_word (codes "r") refl refl)) in
     more_lines _ _ (kernel_name (codes "Q0") (codes "Q1") q0 q1)
     (more_lines _ _ (kernel_both (codes "Q0") (codes "Q1") (codes "P0") q0 q1 p0)
@@ -185,28 +180,12 @@ lines_stand (suc n) few =
 
 -- ---- UTF-8
 
-lines_utf8 : (ps : List Phrase) → AllText ps → IsUtf8 (lines_text ps)
-lines_utf8 [] h = IsUtf8-nil
-lines_utf8 (p ∷ ps) h =
-    IsUtf8-append (line (text_of p)) (lines_text ps)
-    (IsUtf8-append (text_of p) (10 ∷ []) (text_utf8 p h.0) (low_text (10 ∷ []) refl)) (lines_utf8 ps h.1)
-
 pub opened_utf8 : (ps : List Phrase) → AllText ps → IsUtf8 (opened (lines_text ps))
 opened_utf8 ps h =
     IsUtf8-append header (lines_text ps ++ (41 ∷ (10 ∷ []))) (low_text header refl)
     (IsUtf8-append (lines_text ps) (41 ∷ (10 ∷ [])) (lines_utf8 ps h) (low_text (41 ∷ (10 ∷ [])) refl))
 
 -- ---- brackets
-
-abbrev pub Nests : ℕ → List Phrase → Type 0
-Nests n ps = nesting_all (lines_items n ps) ≤ 63
-
-both_nest : (n : ℕ) (ps qs : List Phrase) → Nests n ps → ((m : ℕ) → Nests m qs) → Nests n (ps ++ qs)
-both_nest n [] qs first second = second n
-both_nest n (p ∷ ps) qs first second =
-    let others : nesting_all (lines_items (n + 1) (ps ++ qs)) ≤ 63 =
-    both_nest (n + 1) ps qs (omega (arith, first)) second in
-    omega (arith, first, others)
 
 kernel_nests : (n : ℕ) → Nests n kernel_phrases
 kernel_nests n = omega arith
@@ -216,4 +195,4 @@ group_nests k n = omega arith
 
 pub lines_nest : (n m : ℕ) → Nests m (workload_phrases n)
 lines_nest zero m = kernel_nests m
-lines_nest (suc n) m = both_nest m (workload_phrases n) (group_phrases (n + 1)) (lines_nest n m) (group_nests (n + 1))
+lines_nest (suc n) m = append_nests m (workload_phrases n) (group_phrases (n + 1)) (lines_nest n m) (group_nests (n + 1))
