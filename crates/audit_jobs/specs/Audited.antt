@@ -65,8 +65,8 @@ pub record IsJudgedOn (query bytes : List ℕ) (v : AuditVerdict) : Type 0 where
   pub is_audit : audit_after both rest ≡ Ok audit
   pub judged : IsJudged both asked audit v
 
--- a document and a query are read, and the text behind the document is no audit; this is its first malformed line, with
--- which no audit begins, or behind whose lines one is missing
+-- a document and a query are read, and the text behind the document is no audit: this is the number of its first
+-- malformed line, with which no audit begins, or that of the line after the last if a line is missing
 pub record IsMalformedOn (query bytes : List ℕ) (n : ℕ) : Type 0 where
   pub both : Listed
   pub asked : Asked

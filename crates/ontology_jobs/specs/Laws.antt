@@ -85,8 +85,9 @@ UndecidedSpendsAll = (r : Request) (bytes out : List ℕ) (log : List Entry) →
 
 -- ---- out of memory
 
--- No test of what the words asked for ended with the budget spent. Nothing is said of a session, nor of the searches
--- for justifications: once the budget is spent, these still take memory for the answers that they have found by then.
+-- No test in the log ended with the budget spent. Nothing is said of a session, nor of the searches for
+-- justifications: after the budget is spent, a session still takes memory for its line `undecided`, and these searches
+-- take it for the sets that they have found by then.
 abbrev pub SpendsNoTest : Request → List Entry → Type 0
 SpendsNoTest (on_input (check query)) log = list_any is_spent log ≡ false
 SpendsNoTest (on_input (audit query)) log = list_any is_spent log ≡ false

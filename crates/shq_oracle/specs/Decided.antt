@@ -102,8 +102,8 @@ pub record EndsAtModel (o : Listed) (s : Limited) (q : Query) (steps : ℕ) (sea
   pub at_model : IsAtModel search
 
 -- The further classes that a test with this outcome hands out. Where the query does not follow, they are just those
--- that its search has left out; but none are handed out where the search asks for more than whether anything is in the
--- subclass, nor with another outcome.
+-- that a search over the same set and query leaves out which ends at a model after as many steps as the test took. None
+-- are handed out where the search asks for more than whether anything is in the subclass, nor with another outcome.
 abbrev pub AreFurther : Listed → Limited → Query → ℕ → Outcome → Option Limited → Type 0
 AreFurther o s q steps (Yes u) classes = classes ≡ None
 AreFurther o s q steps No classes = (search : SearchState) × EndsAtModel o s q steps search × ShowsApart search classes
