@@ -14,8 +14,8 @@ pub fn entailment_is_of_finite_worlds()
     ensures { EntailmentIsOfFiniteWorlds }
 {}
 
-/// Where a finite interpretation meets the axioms and some element of it is a counter-example, there is a world in which
-/// the query does not follow.
+/// Where a finite interpretation meets the axioms and some element of it is a counter-example, there is a world in
+/// which the query does not follow.
 pub fn counter_models_refute_in_a_world()
     ensures { CounterModelsRefuteInAWorld }
 {}

@@ -19,8 +19,8 @@ pub fn refutations_hold_by_all_everywhere<W: World>()
     ensures { RefutationsHoldByAllIn W.world }
 {}
 
-/// In every world, where lines are a refutation without any individual, it follows from the axioms of these numbers that
-/// each member of the one class is in the other, whatever they assert of individuals.
+/// In every world, where lines are a refutation without any individual, it follows from the axioms of these numbers
+/// that each member of the one class is in the other, whatever they assert of individuals.
 pub fn refutations_on_any_hold_everywhere<W: World>()
     ensures { RefutationsOnAnyHoldIn W.world }
 {}

@@ -1,10 +1,10 @@
 //! Worlds over any domain, finite or not, as the OWL 2 Direct Semantics (section 2) has them: what a refutation proves
 //! holds in each of them.
 //!
-//! Elsewhere an axiom is met or not by a finite interpretation, and what follows is so in all of these (`Entails`). Here
-//! the domain is any type. A finite interpretation is a world in which all means the same, so that what follows in every
-//! world follows in all finite ones, and a finite counter-model refutes a query in every sense; and where lines are a
-//! valid refutation, its query follows in every world.
+//! Elsewhere an axiom is met or not by a finite interpretation, and what follows is so in all of these (`Entails`).
+//! Here the domain is any type. A finite interpretation is a world in which all means the same, so that what follows in
+//! every world follows in all finite ones, and a finite counter-model refutes a query in every sense; and where lines
+//! are a valid refutation, its query follows in every world.
 //!
 //! A clause cannot say "for every domain". A law that is generic over `World` says it: it is proved once, of any domain
 //! and of any world over it.

@@ -43,7 +43,8 @@ use Rattle.audit_file.proofs.ListedSets.{line_within}
 use Rattle.audit_file.proofs.Room.{next_set}
 use Rattle.audit_file.proofs.TextBack.{set_row, set_back, count_back}
 use Rattle.audit_file.proofs.Cut.{refutation_ends, model_ends}
-use Rattle.audit_file.proofs.Fronts.{at_lines, IsFront, Ends, IsLast, both_front, both_last, line_front, done_front, times_front}
+use Rattle.audit_file.proofs.Fronts.{at_lines, IsFront, Ends, IsLast, both_front, both_last, line_front, done_front}
+use Rattle.audit_file.proofs.Fronts.{times_front}
 use Rattle.audit_file.proofs.Fronts.{blank_last, mapped_last}
 use Rattle.audit_file.proofs.BlockFront.{HasEnd, body_has, line_has, block_front}
 

@@ -40,7 +40,8 @@ use Rattle.audit_file.specs.AuditLists.{AuditLists, justified_sets, repaired_set
 use Rattle.audit_file.specs.AuditLists.{follows, with_justification, with_repair, empty_audit}
 use Rattle.audit_file.specs.AuditText.{Ahead, Reads, read_on, line_from, line_read, block_len, block_read, times, fixed}
 use Rattle.audit_file.specs.Following.{can_follow}
-use Rattle.audit_file.specs.AuditText.{up_to, count_line, count_in, numbers_set, set_line, later_set, set_in, refutation_read}
+use Rattle.audit_file.specs.AuditText.{up_to, count_line, count_in, numbers_set, set_line, later_set, set_in}
+use Rattle.audit_file.specs.AuditText.{refutation_read}
 use Rattle.audit_file.specs.AuditText.{model_read, justification_read, repair_read, justifications_read, repairs_read}
 use Rattle.audit_file.specs.AuditText.{closed, audit_in}
 use Rattle.audit_file.specs.Written.{set_text, count_text, justification_text, repair_text, justifications_text}

@@ -12,9 +12,10 @@ use Rattle.audit_file.specs.AuditText.{audit_in}
 abbrev pub audit_of : Listed → List (List ℕ) → Option AuditLists
 audit_of o ls = result_ok (audit_in o ls)
 
--- The number that is found where lines are no audit is that of the first malformed line: some audit begins with the lines
--- before it, and none with these and it; or it would stand after the last line, and some audit begins with all lines. A
--- line that announces more sets than can follow in the order of sets is malformed, since no audit begins with it.
+-- The number that is found where lines are no audit is that of the first malformed line: some audit begins with the
+-- lines before it, and none with these and it; or it would stand after the last line, and some audit begins with all
+-- lines. A line that announces more sets than can follow in the order of sets is malformed, since no audit begins with
+-- it.
 abbrev pub AuditsTellMalformed : Type 0
 AuditsTellMalformed = (o : Listed) (ls : List (List ℕ)) (n : ℕ) → length o.axioms + 1 < 2 ^ 32 → audit_in o ls ≡ Err n
     → IsFirstMalformed 1 (audit_of o) ls n

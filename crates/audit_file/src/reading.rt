@@ -108,7 +108,8 @@ fn read_justification(
     more: u32,
 ) -> Result<(), AuditFault>
     requires { AreOfAxioms ontology.now audit.old }
-    ensures read { OnOk result (justification_read ontology.now more audit.old reader.old ≡ Ok (audit.new, reader.new)) }
+    ensures read { OnOk result (justification_read ontology.now more audit.old reader.old
+        ≡ Ok (audit.new, reader.new)) }
     ensures of_axioms { OnOk result (AreOfAxioms ontology.now audit.new) }
     ensures fault { IfErr result (IsFaultBy (justification_read ontology.now more audit.old reader.old)) }
 {

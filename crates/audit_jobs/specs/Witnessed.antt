@@ -58,8 +58,9 @@ pub record IsWitnessed (o : Listed) (q : Asked) (f : Found) (rs : List Refutatio
 abbrev pub IsOfAll : Listed → NumberSet → Type 0
 IsOfAll o m = m ≡ numbers_to (length o.axioms)
 
--- The log shows each justification and each repair: a test found that the query follows from just the axioms of the one,
--- and one that it does not follow from a set that has each axiom but those of the other, which is one of the nodes.
+-- The log shows each justification and each repair: a test found that the query follows from just the axioms of the
+-- one, and one that it does not follow from a set that has each axiom but those of the other, which is one of the
+-- nodes.
 pub record ShowsEvidence (o : Listed) (q : Asked) (log : List Entry) : Type 0 where
   pub justifications : (j : NumberSet) → IsJustification o.axioms q j → IsShownYes log q j
   pub repairs : (r : NumberSet) → IsRepair o.axioms q r → IsShownNo log q (numbers_to (length o.axioms)) r

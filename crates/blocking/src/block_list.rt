@@ -1,5 +1,6 @@
 // The blocks of a tree's nodes, and what is known of each node.
-ghost use Rattle.std.specs.Prelude.{◌≡◌, ℕ, ◌+◌, ◌%◌, ◌==◌, ◌&&◌, ◌<◌, ◌≤◌, length, true, false, List, [], ◌∷◌, ◌↔◌, IsTrue, IfSome, OnOk, OnErr};
+ghost use Rattle.std.specs.Prelude.{◌≡◌, ℕ, ◌+◌, ◌%◌, ◌==◌, ◌&&◌, ◌<◌, ◌≤◌, length, true, false, List, [], ◌∷◌, ◌↔◌};
+ghost use Rattle.std.specs.Prelude.{IsTrue, IfSome, OnOk, OnErr};
 ghost use Rattle.std.specs.Prelude.{slice_index_or};
 ghost use Rattle.std.specs.List.{list_all};
 ghost use Rattle.std.specs.FinSet as set;
@@ -8,10 +9,12 @@ ghost use Rattle.calculus_specs.specs.Joins.{rep};
 ghost use Rattle.calculus_specs.specs.State.{node_count_from, has as has_concept, label as label_of, is_label_part};
 ghost use Rattle.calculus_specs.specs.State.{parent_from};
 ghost use Rattle.tableau_specs.specs.declared.Block.TheVariants.{Clear, By, Under};
-ghost use Rattle.tableau_specs.specs.Blocked.{is_parent_clear, may_block, is_clear as is_clear_of, blocks_to, block_of, blocked_from};
+ghost use Rattle.tableau_specs.specs.Blocked.{is_parent_clear, may_block, is_clear as is_clear_of, blocks_to, block_of};
+ghost use Rattle.tableau_specs.specs.Blocked.{blocked_from};
 ghost use Rattle.completion_tree.specs.Trail.{facts_in};
 ghost use Rattle.blocking.specs.Followed.{no_prints, printed_first, IsPrintWithin, IsBound, blocked_among};
-ghost use Rattle.blocking.specs.Followed.{AreSound, IsLabelKnown, IsFollowed, AreBlocksBelow, AreFirstBlocks, IsCurrent};
+ghost use Rattle.blocking.specs.Followed.{AreSound, IsLabelKnown, IsFollowed, AreBlocksBelow, AreFirstBlocks};
+ghost use Rattle.blocking.specs.Followed.{IsCurrent};
 ghost use Rattle.blocking.specs.Hinted.{known_at, known_of, known_with, is_among, IsHint, IsHintBound, IsShown};
 
 use crate::hints::{Hints, Known};
@@ -294,8 +297,8 @@ fn hint_of<A: Allocator + Copy>(tree: &Tree<A>, node: u32, block: Block) -> Bloc
 }
 
 // A number below which no node blocks this one but maybe one that has changed: the node that blocked it before, or its
-// own number. There is none where its label has changed, where the node that blocked it has, or where its parent was not
-// clear.
+// own number. There is none where its label has changed, where the node that blocked it has, or where its parent was
+// not clear.
 fn bound_of(hints: &Hints, node: u32, is_known: bool) -> Option<u32>
     requires { IsTrue is_known → node < length hints.now.known }
     ensures known { IfSome result (λ b. IsTrue is_known) }

@@ -1,5 +1,6 @@
 // What each node had when its block was found last, so that most blocks need not be looked for anew.
-ghost use Rattle.std.specs.Prelude.{◌≡◌, ℕ, ◌<◌, ◌≤◌, ◌^◌, length, take, [], ◌∷◌, ◌++◌, slice_index, IsTrue, IfOk, OnOk, OnErr};
+ghost use Rattle.std.specs.Prelude.{◌≡◌, ℕ, ◌<◌, ◌≤◌, ◌^◌, length, take, [], ◌∷◌, ◌++◌, slice_index, IsTrue, IfOk};
+ghost use Rattle.std.specs.Prelude.{OnOk, OnErr};
 ghost use Rattle.std.specs.Prelude.{slice_set};
 ghost use Rattle.lane_sieve.specs.Words.{places};
 ghost use Rattle.blocking.specs.Hinted.{known_at, known_of, known_with, is_among, no_hints, IsShown, IsHint, IsHintAt};

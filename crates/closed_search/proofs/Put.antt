@@ -12,7 +12,8 @@ use Rattle.lane_sieve.proofs.Ranges.{any-passing}
 use Rattle.axiom_sets.specs.Sets.{Limited, IsWithin, member_list}
 use Rattle.shq_terms.specs.declared.axioms.Numbered.{Numbered}
 use Rattle.calculus_specs.specs.Line.{Line}
-use Rattle.closed_search.specs.Named.{uses_axiom, is_role_number, names_axiom, takes_role, IsPut, ArePut, IsPutting}
+use Rattle.refutation_truth.specs.Meeting.{is_role_number}
+use Rattle.closed_search.specs.Named.{uses_axiom, names_axiom, takes_role, IsPut, ArePut, IsPutting}
 
 pub outside : (s : Limited) (k : ℕ) → IsWithin s.limit s.members → (k < 1) ⊎ (s.limit < k)
     → false ≡ sets.contains s.members k

@@ -32,7 +32,8 @@ use Rattle.search_trace.proofs.Named.{same_run}
 use Rattle.closed_search.specs.Finished.{IsNumbered}
 use Rattle.search_trace.specs.Trace.{TraceLists, lines_in}
 use Rattle.closed_search.specs.Refuted.{concept_is_listed, uses_names, CloseAll, IsWrittenRefutation}
-use Rattle.closed_search.specs.Named.{uses_axiom, is_role_number, names_axiom, NamesAxioms, NamesNoOther}
+use Rattle.refutation_truth.specs.Meeting.{is_role_number}
+use Rattle.closed_search.specs.Named.{uses_axiom, names_axiom, NamesAxioms, NamesNoOther}
 use Rattle.closed_search.proofs.SameTheory.{ask_the_same, have_same_parts}
 use Rattle.closed_search.proofs.Listed.{have_parts, shapes_listed, lines_listed, concepts_listed}
 use Rattle.closed_search.proofs.Nodes.{closing_has_nodes, have_nodes}

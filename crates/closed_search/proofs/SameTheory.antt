@@ -18,7 +18,7 @@ use Rattle.shq_terms.specs.declared.axioms.Query.{Query}
 use Rattle.shq_terms.specs.Listed.{Listed}
 use Rattle.calculus_specs.specs.Rows.{is_among, part_at}
 use Rattle.calculus_specs.specs.Rules.{Question}
-use Rattle.refutation_truth.specs.Meeting.{is_role_axiom}
+use Rattle.refutation_truth.specs.Meeting.{is_role_axiom, says_of_roles, is_role_number}
 use Rattle.refutation_truth.specs.Parts.{part_in}
 use Rattle.refutation_truth.specs.RoleAxioms.{role_part, role_part_at, role_axioms}
 use Rattle.refutation_truth.specs.RoleAxiom.{RoleAxiom}
@@ -31,7 +31,7 @@ use Rattle.calculus_specs.specs.Line.Line.{start_line, and_line, or_line, all_li
 use Rattle.calculus_specs.specs.Line.Line.{some_line, least_line, choose_line, pair_line, bottom_line, clash_line}
 use Rattle.calculus_specs.specs.Line.Line.{most_line, fact_line, differ_line}
 use Rattle.search_trace.specs.Named.{AskTheSame, HaveSamePart}
-use Rattle.closed_search.specs.Named.{says_of_roles, is_role_number, uses_axiom, NamesAxioms}
+use Rattle.closed_search.specs.Named.{uses_axiom, NamesAxioms}
 
 -- ---- roles
 

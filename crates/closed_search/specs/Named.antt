@@ -1,12 +1,11 @@
 -- The axioms that a refutation names: of those of a set, the role axioms and those that stand in its lines.
-use Rattle.std.specs.Prelude.{◌≡◌, ℕ, ◌-◌, ◌==◌, ◌&&◌, ◌||◌, Bool, true, false, List, length, Option, Some, None}
-use Rattle.std.specs.Prelude.{slice_get}
+use Rattle.std.specs.Prelude.{◌≡◌, ℕ, ◌==◌, ◌&&◌, ◌||◌, Bool, true, false, List, length, Option, Some, None}
 use Rattle.std.specs.List.{list_any}
 use Rattle.std.specs.FinSet as sets
 use Rattle.lane_sieve.specs.Sets.{NumberSet}
 use Rattle.axiom_sets.specs.Sets.{Limited}
 use Rattle.shq_terms.specs.declared.axioms.Numbered.{Numbered}
-use Rattle.refutation_truth.specs.Meeting.{is_role_axiom}
+use Rattle.refutation_truth.specs.Meeting.{is_role_number}
 use Rattle.calculus_specs.specs.Line.{Line}
 use Rattle.calculus_specs.specs.Line.Line.{start_line, and_line, or_line, all_line, carry_line, row_line, range_line}
 use Rattle.calculus_specs.specs.Line.Line.{some_line, least_line, choose_line, pair_line, bottom_line, clash_line}
@@ -38,15 +37,6 @@ is_axiom k (Some a) = a == k
 -- whether the axiom of this number stands in the line
 abbrev pub uses_axiom : ℕ → Line → Bool
 uses_axiom k line = is_axiom k (axiom_of line)
-
--- there is an axiom, and it is one of roles
-abbrev pub says_of_roles : Option Numbered → Bool
-says_of_roles None = false
-says_of_roles (Some n) = is_role_axiom n.axiom
-
--- whether the axiom of this number, from 1, is a role axiom
-abbrev pub is_role_number : List Numbered → ℕ → Bool
-is_role_number axioms k = says_of_roles (slice_get axioms (k - 1))
 
 -- whether a refutation over the set that has these lines names the axiom
 abbrev pub names_axiom : List Numbered → NumberSet → List Line → ℕ → Bool

@@ -2,9 +2,9 @@
 ghost use Rattle.std.specs.Prelude.{◌≡◌, ◌≤◌, ◌==◌, true, IfOk, length, map};
 ghost use Rattle.std.specs.FinSet as sets;
 ghost use Rattle.axiom_sets.specs.Sets.{member_list};
-ghost use Rattle.refutation_truth.specs.Meeting.{is_role_axiom as says_of_roles_alone};
+ghost use Rattle.refutation_truth.specs.Meeting.{is_role_axiom as says_of_roles_alone, is_role_number};
 ghost use Rattle.search_trace.specs.RuleLine.{line_of};
-ghost use Rattle.closed_search.specs.Named.{axiom_of, uses_axiom, is_role_number, takes_role, IsPut, ArePut};
+ghost use Rattle.closed_search.specs.Named.{axiom_of, uses_axiom, takes_role, IsPut, ArePut};
 ghost use Rattle.closed_search.specs.Named.{NamesAxioms};
 
 use crate::NoMemory;

@@ -87,8 +87,8 @@ impl Session {
     ///
     /// A text that is refused changes nothing, and the answer says why. A query is tested at most once, by at most the
     /// steps that are left of the budget, where no earlier test of the log answers it. The log begins with the entries
-    /// that the session has seen, which are those of the lines before, or it has fewer: then it is another log, and what
-    /// was seen is forgotten.
+    /// that the session has seen, which are those of the lines before, or it has fewer: then it is another log, and
+    /// what was seen is forgotten.
     ///
     /// # Errors
     /// Memory may be refused. The session has ended then, as after `Spent`, and the log is honest all the same.

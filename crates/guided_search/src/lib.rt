@@ -8,9 +8,9 @@
 //! - **It is sound.** Each step from a trail of which a world is a model leaves a trail of which it is one, and of a
 //!   trail with a clash no world is.
 //! - **It is complete, where a search can begin.** From a trail without a closed tableau a legal step leads to another
-//!   one, and a choice to such an alternative: those before it have closed tableaux, so that a search can go back to it.
-//!   A clash stands in no such trail. So a run that is guided by this never ends in a clash; it ends, since legal runs
-//!   are bounded, and what it ends in is saturated and describes a finite counter-model (`search_laws`).
+//!   one, and a choice to such an alternative: those before it have closed tableaux, so that a search can go back to
+//!   it. A clash stands in no such trail. So a run that is guided by this never ends in a clash; it ends, since legal
+//!   runs are bounded, and what it ends in is saturated and describes a finite counter-model (`search_laws`).
 //! - So a query that has no counter-model follows in every world: the finite model property of the language, from right
 //!   to left.
 #![tactic(auto)]

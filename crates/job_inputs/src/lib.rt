@@ -8,8 +8,9 @@
 //! - **Answers.** Each job answers a status and one text. A document or a query that is refused is answered in the same
 //!   way by each of them: with the sort of the refusal, what is wrong, and where. Longer answers are put together of
 //!   bytes, numbers and sets of axioms (`pieces`).
-//! - **Jobs.** A [`Job`] says what it reads of the bytes, and how it answers that. [`answer_to`] does what all jobs have
-//!   in common: it reads, answers what is refused, lets the job answer the rest, and says so where memory is refused.
+//! - **Jobs.** A [`Job`] says what it reads of the bytes, and how it answers that. [`answer_to`] does what all jobs
+//!   have in common: it reads, answers what is refused, lets the job answer the rest, and says so where memory is
+//!   refused.
 #![tactic(auto)]
 
 mod asking;

@@ -65,8 +65,10 @@ ShowsJob (realize budget) bytes out log = OnDocument (λ o. ShowsClasses o log �
 ShowsJob (instances class budget) bytes out log = OnClass class bytes (λ o c. ShowsInstances o c log)
 ShowsJob (reasons class budget) bytes out log = OnClass class bytes (ShowsReasons log)
 ShowsJob (session budget) bytes out log = OnScript (ShowsLines out log) bytes
-ShowsJob (pinpoint wanted statement budget) bytes out log = OnQuestion (λ o q. ShowsAll o q log) (follows statement) bytes
-ShowsJob (evidence statement budget) bytes out log = OnQuestion (λ o q. ShowsEvidence o q log) (follows statement) bytes
+ShowsJob (pinpoint wanted statement budget) bytes out log =
+    OnQuestion (λ o q. ShowsAll o q log) (follows statement) bytes
+ShowsJob (evidence statement budget) bytes out log =
+    OnQuestion (λ o q. ShowsEvidence o q log) (follows statement) bytes
 
 -- an answer that is done is shown by the log
 abbrev pub DoneAnswersAreShown : Type 0

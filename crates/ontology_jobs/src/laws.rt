@@ -40,10 +40,10 @@ pub fn no_memory_spends_no_test()
     ensures { NoMemorySpendsNoTest }
 {}
 
-/// An answer that is done is shown by the log. The one test of a question ended as is printed. For each two classes, each
-/// individual and class, each justification and each repair, a test in the log found what is answered of it, or chains of
-/// such tests lead to it, or a counter-model to one shows it. Each printed answer to a query of a script is that of a test
-/// up to then. A verification tests nothing.
+/// An answer that is done is shown by the log. The one test of a question ended as is printed. For each two classes,
+/// each individual and class, each justification and each repair, a test in the log found what is answered of it, or
+/// chains of such tests lead to it, or a counter-model to one shows it. Each printed answer to a query of a script is
+/// that of a test up to then. A verification tests nothing.
 pub fn done_answers_are_shown()
     ensures { DoneAnswersAreShown }
 {}

@@ -28,8 +28,8 @@ abbrev pub IsToldIn : {d : Type 0} → World d → State → List ℕ → List �
 IsToldIn w s l answer = (text : List ℕ) (both : Listed) (q : Asked) → request l ≡ asks text
     → IsQueryOn s.context s.ontology text both q → IsYesIn w s q answer ⊎ IsNoIn w s q answer
 
--- from a state on, these lines are answered one after another, and queries so; they leave a state, and the answers are a
--- text
+-- from a state on, these lines are answered one after another, and queries so; they leave a state, and the answers are
+-- a text
 pub data HasToldIn {d : Type 0} (w : World d) (start : State) : List (List ℕ) → State → List ℕ → Type 0 where
   nothing : HasToldIn w start [] start []
   one_more : (ls : List (List ℕ)) (s : State) (text : List ℕ) (l : List ℕ) (next : State) (answer : List ℕ)

@@ -43,8 +43,8 @@ with_sup q sup = record { theory = q.theory; sub = q.sub; sup = sup; first = q.f
 
 -- A search whether anything is in `sub` begins with a node that is in `sub` and in top. Where no axiom speaks of that
 -- node, and its run ends saturated and has nothing to do with whether the node is in class a, as many legal steps end
--- saturated in the search whether `sub` is in a, by the same rows and over the same table, or one with the complement of
--- a besides.
+-- saturated in the search whether `sub` is in a, by the same rows and over the same table, or one with the complement
+-- of a besides.
 abbrev pub OneRunAnswersMore : Type 0
 OneRunAnswersMore =
     (q : Question) (table : List Shape) (rows : List Row) (number k a : ℕ) (trail : List Item)

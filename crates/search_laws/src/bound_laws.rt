@@ -9,8 +9,8 @@
 //! - Each first node, one for each individual and one more, is the root of a **tree** of the nodes that are made below
 //!   it, also where some of them are joined to first nodes later. New nodes are made below clear nodes. What a node has
 //!   when nodes are made below it, no node above it had when nodes were made below that one: that one would have it all
-//!   still, or the first node would that it was joined to, and would block the lower one. So the nodes of **a path** had
-//!   different sets of concepts, and are at most 2 ^ c + 1.
+//!   still, or the first node would that it was joined to, and would block the lower one. So the nodes of **a path**
+//!   had different sets of concepts, and are at most 2 ^ c + 1.
 //! - What a node has asked for stays met, also where its new nodes are joined to others, since 'at least' is read
 //!   through joins. So a node makes new nodes once at most for each of its concepts, at most g at a time: c * g
 //!   **children**, and (c * g + 1) ^ (2 ^ c + 2) **nodes** in each tree.
@@ -83,8 +83,8 @@ pub fn few_steps()
     ensures { FewSteps }
 {}
 
-/// The bounds of a search over axioms: on all its steps, first where no individual is listed and then with any number of
-/// them, on its nodes, on its steps before it first goes back, and on its marks.
+/// The bounds of a search over axioms: on all its steps, first where no individual is listed and then with any number
+/// of them, on its nodes, on its steps before it first goes back, and on its marks.
 pub fn legal_runs_are_bounded()
     ensures { LegalRunsAreBounded }
 {}

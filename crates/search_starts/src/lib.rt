@@ -4,9 +4,9 @@
 //!
 //! Entailment speaks of finite interpretations alone. A search for a counter-example to a query can begin: there is a
 //! table of the concepts that it may need, those of the closure (`search_laws`), with a row for each part of an axiom.
-//! So a question without a finite counter-model has a closed tableau, which holds in every world (`guided_search`). That
-//! there is the one or the other is said as "not neither", since the logic of the proofs has no law of the excluded
-//! middle.
+//! So a question without a finite counter-model has a closed tableau, which holds in every world (`guided_search`).
+//! That there is the one or the other is said as "not neither", since the logic of the proofs has no law of the
+//! excluded middle.
 //!
 //! The table is filled concept by concept, each after its parts. It is a table of normal trees, so each concept of the
 //! closure is shown to be one (`specs/Normal.antt`), from the limits of an ontology. That it is there is said as "it is

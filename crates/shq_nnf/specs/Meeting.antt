@@ -1,7 +1,8 @@
 -- What it is that a finite interpretation meets a part of an axiom, and that a fact is true in it.
-use Rattle.std.specs.Prelude.{ℕ, Bool, true, false, not, eqb, List}
+use Rattle.std.specs.Prelude.{ℕ, ◌-◌, Bool, true, false, not, eqb, List, Option, Some, None, slice_get}
 use Rattle.std.specs.List.{list_all}
 use Rattle.shq_meaning.specs.Axiom.{Axiom}
+use Rattle.shq_meaning.specs.Numbered.{Numbered}
 use Rattle.shq_meaning.specs.Axiom.TheVariants.{SubClassOf, EquivalentClasses, DisjointClasses, DisjointUnion, SubRole}
 use Rattle.shq_meaning.specs.Axiom.TheVariants.{EquivalentRoles, Domain, Range, Functional, Transitive, Member, Pair}
 use Rattle.shq_meaning.specs.Axiom.TheVariants.{SameAll, Different}
@@ -45,6 +46,15 @@ is_role_axiom (Member c a) = false
 is_role_axiom (Pair r a b) = false
 is_role_axiom (SameAll as_) = false
 is_role_axiom (Different as_) = false
+
+-- there is an axiom, and it is one of roles
+abbrev pub says_of_roles : Option Numbered → Bool
+says_of_roles None = false
+says_of_roles (Some n) = is_role_axiom n.axiom
+
+-- whether the axiom of this number, from 1, is a role axiom
+abbrev pub is_role_number : List Numbered → ℕ → Bool
+is_role_number axioms k = says_of_roles (slice_get axioms (k - 1))
 
 -- whether the axiom says something of individuals
 abbrev pub is_assertion : Axiom → Bool

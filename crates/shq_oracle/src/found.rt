@@ -24,8 +24,8 @@ pub(crate) struct Found {
     pub(crate) ended: TestEnd,
 }
 
-/// Searches with these rules whether the query follows, by at most so many steps. The tree of the search lies in an arena
-/// of its own, which is let go at the end.
+/// Searches with these rules whether the query follows, by at most so many steps. The tree of the search lies in an
+/// arena of its own, which is let go at the end.
 #[tactic(auto, using(crate::proofs::Honest::moved, crate::proofs::Honest::has_ended))]
 pub(crate) fn search(
     alloc: Global,

@@ -18,8 +18,8 @@
 //! (the pseudo-models of Haarslev, Möller and Turhan, "Exploiting Pseudo Models for TBox and ABox Reasoning in
 //! Expressive Description Logics", 2001).
 //!
-//! What a search derives from the axioms alone is computed once and kept until a query about another set is asked. Where
-//! axioms speak of individuals, so is the beginning that all searches for tests on any element have in common
+//! What a search derives from the axioms alone is computed once and kept until a query about another set is asked.
+//! Where axioms speak of individuals, so is the beginning that all searches for tests on any element have in common
 //! (`beginning`).
 #![tactic(auto)]
 

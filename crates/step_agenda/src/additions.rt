@@ -52,8 +52,8 @@ pub(crate) fn first_addition<A: Allocator + Copy, S: State, R: Rules>(
     (end, None)
 }
 
-/// The first rank from `from` on and below `to`, in the order of nearness, of a first node to which a row that is used at
-/// each node adds a concept, and what; or `to`.
+/// The first rank from `from` on and below `to`, in the order of nearness, of a first node to which a row that is used
+/// at each node adds a concept, and what; or `to`.
 pub(crate) fn first_general<S: State, R: Rules>(
     search: &StateWithRules<'_, S, R>,
     nearness: &Nearness,

@@ -161,10 +161,10 @@ impl Agenda {
         self.looks = self.looks.wrapping_add(count);
     }
 
-    /// A step that can be made whatever is blocked, where one is seen at the facts that were not looked at before. These
-    /// are the phases of a look, in their order; the first step that one of them finds is taken, of each the oldest.
-    /// Given facts that are not near the node in question come after what follows from those that are; where none is
-    /// near, all of them come behind all other phases.
+    /// A step that can be made whatever is blocked, where one is seen at the facts that were not looked at before.
+    /// These are the phases of a look, in their order; the first step that one of them finds is taken, of each the
+    /// oldest. Given facts that are not near the node in question come after what follows from those that are; where
+    /// none is near, all of them come behind all other phases.
     ///
     /// # Errors
     ///

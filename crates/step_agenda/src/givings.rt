@@ -5,8 +5,8 @@ ghost use Rattle.step_finders.specs.Giving.{IsGiving};
 use crate::nearness::Nearness;
 use step_finders::{Given, Rules, State, StateWithRules, is_so};
 
-/// The first rank from `from` on and below `to`, in the order of nearness, of a given fact that is not so, and the fact;
-/// or `to`.
+/// The first rank from `from` on and below `to`, in the order of nearness, of a given fact that is not so, and the
+/// fact; or `to`.
 pub(crate) fn first_giving<S: State, R: Rules>(
     search: &StateWithRules<'_, S, R>,
     nearness: &Nearness,
