@@ -9,9 +9,9 @@ ghost use Rattle.edit_session.specs.Places.{IsFoundAt, IsFoundIn};
 ghost use Rattle.edit_session.specs.Asking.{IsRecalled, outcome_of};
 
 use crate::inclusion::is_part;
-use crate::prints::query_print;
+use crate::prints::{kept_print, query_print};
 use axiom_sets::AxiomSet;
-use shq_oracle::{Entry, Outcome, TestEnd};
+use shq_oracle::{Entry, KeptSet, Outcome, TestEnd};
 use shq_terms::{NoMemory, NumberList, Query};
 use std::alloc::Global;
 
@@ -140,7 +140,7 @@ fn file_entry(
     ensures filed { OnOk result (IsFiledAt places.new.items entry.now place) }
 {
     match entry {
-        Entry::Test(_, query, _, _) => file(alloc, places, query_print(query), place),
+        Entry::Test(_, query, _, _) => file(alloc, places, kept_print(query), place),
         Entry::Node(_) => Ok(()),
     }
 }
@@ -225,12 +225,12 @@ fn answer_of<'a>(entry: &'a Entry, query: &Query, live: &AxiomSet) -> Option<&'a
 }
 
 // Whether a test of a set that ended so tells whether its query follows from the live axioms.
-fn answers(set: &AxiomSet, end: &TestEnd, live: &AxiomSet) -> bool
+fn answers(set: &KeptSet, end: &TestEnd, live: &AxiomSet) -> bool
     ensures { IsTrue result ↔ EndAnswers set.now end.now live.now }
 {
     match end {
-        TestEnd::Yes(found) => is_part(found, live),
-        TestEnd::No => is_part(live, set),
+        TestEnd::Yes(found) => is_part(found.set(), live),
+        TestEnd::No => is_part(live, set.set()),
         TestEnd::Spent(_) => false,
     }
 }
@@ -306,7 +306,7 @@ fn told_by(end: &TestEnd) -> Result<Outcome, NoMemory>
     ensures { IfOk result (λ v. v ≡ outcome_of end.now) }
 {
     Ok(match end {
-        TestEnd::Yes(found) => Outcome::Yes(found.try_clone()?),
+        TestEnd::Yes(found) => Outcome::Yes(found.copied()?),
         TestEnd::No => Outcome::No,
         TestEnd::Spent(_) => Outcome::Undecided,
     })

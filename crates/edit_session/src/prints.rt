@@ -3,6 +3,7 @@ ghost use Rattle.std.specs.Prelude.{◌≡◌};
 ghost use Rattle.shq_terms.specs.Concept.{parts_of};
 ghost use Rattle.edit_session.specs.Prints.{mixed, with_concept, with_parts, with_on, query_print};
 
+use shq_oracle::KeptQuery;
 use shq_terms::{Concept, Node, On, Query};
 
 // How many prints there are: a prime number, so that sums of multiples spread.
@@ -12,9 +13,23 @@ const PRINTS: u64 = 4093;
 pub(crate) fn query_print(query: &Query) -> u32
     ensures { result ≡ query_print query.now }
 {
-    let sub = with_concept(0, &query.sub);
-    let both = with_concept(sub, &query.sup);
-    with_on(both, query.on)
+    print_of(&query.sub, &query.sup, query.on)
+}
+
+/// The print of a query that an entry keeps.
+pub(crate) fn kept_print(query: &KeptQuery) -> u32
+    ensures { result ≡ query_print query.now }
+{
+    print_of(query.sub(), query.sup(), query.on())
+}
+
+// The print of the query of these parts.
+fn print_of(sub: &Concept, sup: &Concept, on: On) -> u32
+    ensures { result ≡ with_on (with_concept (with_concept 0 sub.now) sup.now) on }
+{
+    let first = with_concept(0, sub);
+    let both = with_concept(first, sup);
+    with_on(both, on)
 }
 
 // The print with one number more.

@@ -11,7 +11,7 @@ ghost use Rattle.query_asker.specs.Memory.{IsInSome, Recalls};
 use crate::NoMemory;
 use axiom_sets::AxiomSet;
 use set_questions::{Antichain, Reply, place_of_part};
-use shq_oracle::{Entry, TestEnd};
+use shq_oracle::{Entry, KeptSet, TestEnd};
 use std::alloc::Global;
 
 /// What the entries of a log found, as far as they were seen: the smallest sets of axioms from which the query
@@ -108,7 +108,7 @@ fn put_found(yes: &mut Antichain, no: &mut Antichain, entry: &Entry) -> Result<(
 fn put_end(
     yes: &mut Antichain,
     no: &mut Antichain,
-    asked: &AxiomSet,
+    asked: &KeptSet,
     ended: &TestEnd,
 ) -> Result<(), NoMemory>
     requires yes_limits { (u : Limited) → Contains (yes_by ended.now) u
@@ -125,8 +125,8 @@ fn put_end(
     ensures no_still { OnErr result (kept_sets no.new ≡ kept_sets no.old) }
 {
     match ended {
-        TestEnd::Yes(found) => yes.put(found.try_clone()?),
-        TestEnd::No => no.put(asked.try_clone()?),
+        TestEnd::Yes(found) => yes.put(found.copied()?),
+        TestEnd::No => no.put(asked.copied()?),
         TestEnd::Spent(_) => Ok(()),
     }
 }

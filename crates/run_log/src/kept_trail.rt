@@ -10,8 +10,15 @@ use std::marker::Model;
 use tableau_specs::Item;
 
 /// The trail of a search, copied out: its facts and marks, and the shapes through which its concept numbers are read.
+///
+/// Its lists lie behind one pointer, since each entry of a log has the room for a trail, and at most one has a trail.
 #[derive(Drop)]
 pub struct KeptTrail {
+    lists: Box<Lists>,
+}
+
+#[derive(Drop)]
+struct Lists {
     items: Vec<Item>,
     shapes: Vec<OwnedShape>,
 }
@@ -26,7 +33,10 @@ impl Model for KeptTrail {
 
     ghost coded = { Prim.hlevel codes };
 
-    ghost view = { λ t. record { items = t.items.items; table = map form_of_owned t.shapes.items } };
+    ghost view = { λ t. record {
+      items = t.lists.value.items.items;
+      table = map form_of_owned t.lists.value.shapes.items;
+    } };
 }
 
 impl KeptTrail {
@@ -40,21 +50,23 @@ impl KeptTrail {
         ensures { IfOk result (λ t. t ≡ record { items = items.items; table = concepts.now }) }
     {
         let shapes = copies(alloc, concepts)?;
-        Ok(KeptTrail { items, shapes })
+        Ok(KeptTrail {
+            lists: Box::new(alloc, Lists { items, shapes })?,
+        })
     }
 
     /// The facts and marks, in order.
     pub fn items(&self) -> &[Item]
         ensures { result.now ≡ self.now.items }
     {
-        &self.items
+        &self.lists.items
     }
 
     /// How many concepts have a shape. Their numbers are those below this.
     pub fn shape_count(&self) -> usize
         ensures { result ≡ length self.now.table }
     {
-        self.shapes.len()
+        self.lists.shapes.len()
     }
 
     /// The shape of a concept.
@@ -62,7 +74,7 @@ impl KeptTrail {
         requires { concept < length self.now.table }
         ensures { form_of result ≡ shape_of self.now.table concept }
     {
-        self.shapes[concept].shape()
+        self.lists.shapes[concept].shape()
     }
 }
 

@@ -1,8 +1,10 @@
 // The log of a run.
-ghost use Rattle.std.specs.Prelude.{◌≡◌, ◌+◌, ◌^◌, ◌<◌, [], ◌∷◌, ◌++◌, OnOk, OnErr};
+ghost use Rattle.std.specs.Prelude.{◌≡◌, ◌+◌, ◌^◌, ◌<◌, [], ◌∷◌, ◌++◌, IfOk, OnOk, OnErr};
 ghost use Rattle.run_log.specs.Entries.{cost_of, spent_of};
 
-use crate::{Entry, NoMemory};
+use crate::{Entry, KeptQuery, KeptSet, NoMemory};
+use pinpointing_specs::AxiomSet;
+use shq_terms::Query;
 use std::alloc::Global;
 use std::marker::Model;
 
@@ -53,6 +55,49 @@ impl RunLog {
         ensures { result ≡ spent_of self.now }
     {
         self.spent
+    }
+
+    /// The set for the next entry, which shares it with the latest one if that is a test of the same set.
+    ///
+    /// # Errors
+    /// Memory may be refused.
+    pub fn keep_set(&self, alloc: Global, set: &AxiomSet) -> Result<KeptSet, NoMemory>
+        ensures { IfOk result (λ kept. kept ≡ set.now) }
+    {
+        match self.latest_set() {
+            Some(latest) => latest.shared_or_copied(alloc, set),
+            None => KeptSet::new(alloc, set.try_clone()?),
+        }
+    }
+
+    /// The query for the next entry, which shares what it asks about with the latest one if that is a test that asks
+    /// about the same class expression.
+    ///
+    /// # Errors
+    /// Memory may be refused.
+    pub fn keep_query(&self, alloc: Global, query: &Query) -> Result<KeptQuery, NoMemory>
+        ensures { IfOk result (λ kept. kept ≡ query.now) }
+    {
+        match self.latest_query() {
+            Some(latest) => latest.shared_or_copied(alloc, query),
+            None => KeptQuery::new(alloc, query),
+        }
+    }
+
+    // The set of the latest entry, if that is a test.
+    fn latest_set(&self) -> Option<&KeptSet> {
+        match self.entries.last()? {
+            Entry::Test(set, _, _, _) => Some(set),
+            Entry::Node(_) => None,
+        }
+    }
+
+    // The query of the latest entry, if that is a test.
+    fn latest_query(&self) -> Option<&KeptQuery> {
+        match self.entries.last()? {
+            Entry::Test(_, query, _, _) => Some(query),
+            Entry::Node(_) => None,
+        }
     }
 
     /// Puts an entry last. What is spent with it fits 64 bits.

@@ -8,7 +8,7 @@ ghost use Rattle.run_log.specs.HonestLog.{IsAxiomSet};
 ghost use Rattle.shq_oracle.specs.Decided.{IsFound, IsFoundBy, MayGoOn, HasEnded};
 
 use crate::kept::KeptRules;
-use crate::{Answer, KeptTrail, NoMemory, TestEnd};
+use crate::{Answer, KeptSet, KeptTrail, NoMemory, TestEnd};
 use bumpalo::Bump;
 use model_builder::{Tree, build};
 use shq_terms::Query;
@@ -65,7 +65,7 @@ fn found_by<A: Allocator + Copy>(
     prove!(steps <= fuel);
     match end {
         End::Saturated => with_model(alloc, search, query),
-        End::Closed(refutation) => with_refutation(search, refutation),
+        End::Closed(refutation) => with_refutation(alloc, search, refutation),
         End::Lost => unreachable!(),
         End::Spent => with_trail(alloc, search),
     }
@@ -100,6 +100,7 @@ fn with_model<A: Allocator + Copy>(
 
 // What is found by a search that ended at a refutation.
 fn with_refutation<A: Allocator + Copy>(
+    alloc: Global,
     search: &Search<'_, A>,
     refutation: Refutation,
 ) -> Result<Found, NoMemory>
@@ -109,7 +110,7 @@ fn with_refutation<A: Allocator + Copy>(
     ensures { IfOk result (λ f. (fuel : ℕ) → search.now.steps ≤ fuel → IsFoundBy search.now fuel f) }
 {
     let steps = search.steps();
-    let used = refutation.axioms_used().try_clone()?;
+    let used = kept_axioms(alloc, &refutation)?;
     Ok(Found {
         answer: Answer::Entailed(refutation),
         steps,
@@ -130,6 +131,14 @@ fn with_trail<A: Allocator + Copy>(alloc: Global, search: &Search<'_, A>) -> Res
         steps,
         ended: TestEnd::Spent(trail),
     })
+}
+
+/// The axioms that a refutation uses, copied out.
+pub(crate) fn kept_axioms(alloc: Global, refutation: &Refutation) -> Result<KeptSet, NoMemory>
+    ensures { IfOk result (λ used. used ≡ refutation.now.axioms) }
+{
+    let used = refutation.axioms_used().try_clone()?;
+    KeptSet::new(alloc, used)
 }
 
 /// The trail of a search, copied out.

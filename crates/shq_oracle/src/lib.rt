@@ -35,6 +35,6 @@ pub use answer::{Answer, Outcome, Shown};
 pub use apart::Apart;
 pub use model_builder::Interp;
 pub use oracle::Oracle;
-pub use run_log::{Entry, KeptTrail, RunLog, TestEnd};
+pub use run_log::{Entry, KeptQuery, KeptSet, KeptTrail, RunLog, TestEnd};
 pub use shq_terms::NoMemory;
 pub use tableau::{Verdict, check};

@@ -406,20 +406,9 @@ impl<'a> Oracle<'a> {
         ensures same_budget { self.new.budget ≡ self.old.budget }
         ensures unchanged { OnErr result (self.new.log ≡ self.old.log) }
     {
-        let asked = set.try_clone()?;
-        let query = copy_of(self.alloc, query)?;
+        let asked = self.log.keep_set(self.alloc, set)?;
+        let query = self.log.keep_query(self.alloc, query)?;
         self.log.push(Entry::Test(asked, query, steps, ended))?;
         Ok(())
     }
-}
-
-// An equal query.
-fn copy_of(alloc: Global, query: &Query) -> Result<Query, NoMemory>
-    ensures { IfOk result (λ copy. copy ≡ query.now) }
-{
-    Ok(Query {
-        sub: query.sub.try_clone(alloc)?,
-        sup: query.sup.try_clone(alloc)?,
-        on: query.on,
-    })
 }

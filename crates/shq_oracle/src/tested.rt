@@ -8,7 +8,7 @@ ghost use Rattle.shq_oracle.specs.Begun.{IsServed};
 ghost use Rattle.shq_oracle.specs.Decided.{IsTested, IsTestedBy, HasNumbers, MayGoOn, HasEnded};
 
 use crate::beginning::KnownBeginning;
-use crate::found::kept_trail;
+use crate::found::{kept_axioms, kept_trail};
 use crate::{NoMemory, Outcome, TestEnd};
 use axiom_sets::AxiomSet;
 use bumpalo::Bump;
@@ -136,7 +136,7 @@ pub(crate) fn tested_by<A: Allocator + Copy>(
 {
     match end {
         End::Saturated => with_no(search, wants_apart),
-        End::Closed(refutation) => with_yes(search, refutation),
+        End::Closed(refutation) => with_yes(alloc, search, refutation),
         End::Lost => unreachable!(),
         End::Spent => with_trail(alloc, search),
     }
@@ -183,6 +183,7 @@ fn classes_apart<A: Allocator + Copy>(
 
 // The outcome of a search that ended at a refutation.
 fn with_yes<A: Allocator + Copy>(
+    alloc: Global,
     search: &Search<'_, A>,
     refutation: Refutation,
 ) -> Result<Tested, NoMemory>
@@ -194,7 +195,7 @@ fn with_yes<A: Allocator + Copy>(
 {
     let steps = search.steps();
     let used = refutation.axioms_used().try_clone()?;
-    let logged = refutation.axioms_used().try_clone()?;
+    let logged = kept_axioms(alloc, &refutation)?;
     Ok(Tested {
         outcome: Outcome::Yes(used),
         apart: None,
