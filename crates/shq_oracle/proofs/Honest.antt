@@ -29,8 +29,7 @@ use Rattle.shq_oracle.specs.declared.found.Found.{Found}
 use Rattle.shq_oracle.specs.declared.tested.Tested.{Tested}
 use Rattle.shq_oracle.specs.ApartLists.{AreApart}
 use Rattle.shq_oracle.specs.Decided.{IsProof, IsFound, IsFoundBy, IsTested, IsTestedBy, EndsTest, HasNumbers, MayGoOn}
-use Rattle.shq_oracle.specs.Decided.{HasEnded}
-use Rattle.shq_oracle.specs.Begun.{is_lost}
+use Rattle.shq_oracle.specs.Decided.{HasEnded, is_lost}
 
 -- one item more
 pub taken_one : {X : Type 0} (xs : List X) (n : ℕ) (x : X) → slice_get xs n ≡ Some x

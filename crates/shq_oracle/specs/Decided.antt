@@ -186,3 +186,10 @@ HasEnded fuel s Saturated = IsAtModel s
 HasEnded fuel s (Closed r) = IsAtRefutation r s
 HasEnded fuel s Lost = ⊥
 HasEnded fuel s OutOfFuel = (s.steps ≡ fuel) × MayGoOn s
+
+-- whether a search ended without evidence
+abbrev pub is_lost : End → Bool
+is_lost Lost = true
+is_lost Saturated = false
+is_lost (Closed r) = false
+is_lost OutOfFuel = false

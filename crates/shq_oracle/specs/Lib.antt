@@ -1,7 +1,6 @@
 pub mod OracleLists
 pub mod ApartLists
 pub mod Decided
-pub mod Begun
 pub use Rattle.run_log.specs.Theory
 pub use Rattle.model_builder.specs.Limits
 pub use Rattle.run_log.specs.HonestLog

@@ -7,27 +7,27 @@ ghost use Rattle.run_log.specs.HonestLog.{IsAxiomSet};
 ghost use Rattle.shq_oracle.specs.Decided.{IsTested};
 
 use crate::NoMemory;
-use crate::beginning::KnownBeginning;
 use crate::tested::{Tested, test};
 use axiom_sets::AxiomSet;
 use shq_terms::{Ontology, Query};
 use std::alloc::Global;
 use std::marker::Model;
-use tableau::SearchRules;
+use tableau::{Beginning, SearchRules};
 
-/// The rules of a set of axioms, and what is known of a beginning of searches by them. Contracts see the rules.
+/// The rules of a set of axioms, and a beginning of searches by them, if one is kept. Contracts see the rules.
 #[derive(Drop)]
 pub(crate) struct KeptRules<'a> {
     rules: SearchRules<'a>,
-    beginning: KnownBeginning,
+    beginning: Option<Beginning>,
 }
 
 impl<'a> Model for KeptRules<'a> {
+    ghost use Rattle.std.specs.Prelude.{IfSome};
     ghost use Rattle.std.specs.Coded.{codes};
     ghost use Rattle.shq_terms.specs.Code.{concept_code};
     ghost use Rattle.axiom_sets.specs.Sets.{limited_code};
     ghost use Rattle.tableau.specs.RuleLists.{RuleLists};
-    ghost use Rattle.shq_oracle.specs.Begun.{IsServed};
+    ghost use Rattle.tableau.specs.Beginning.{Serves};
 
     ghost Value = { RuleLists };
 
@@ -35,7 +35,7 @@ impl<'a> Model for KeptRules<'a> {
 
     ghost view = { λ k. k.rules };
 
-    ghost invariant = { λ k. IsServed k.rules k.beginning };
+    ghost invariant = { λ k. IfSome k.beginning (Serves k.rules) };
 }
 
 impl<'a> KeptRules<'a> {
@@ -93,7 +93,7 @@ impl<'a> KeptRules<'a> {
     {
         Ok(KeptRules {
             rules: SearchRules::build(alloc, ontology, set)?,
-            beginning: KnownBeginning::Unmet,
+            beginning: None,
         })
     }
 

@@ -2,19 +2,19 @@
 ghost use Rattle.std.specs.Prelude.{◌≡◌, ◌≤◌, ℕ, Bool, true, false, IfOk, IfSome};
 ghost use Rattle.model_builder.specs.Limits.{IsInLimit};
 ghost use Rattle.tableau.specs.RuleLists.{AreNumbersOf};
+ghost use Rattle.tableau.specs.Beginning.{Serves};
 ghost use Rattle.tableau.specs.Steps.{IsAtModel, IsAtRefutation, AreLeftOut, ShowsApart};
 ghost use Rattle.run_log.specs.HonestLog.{IsAxiomSet};
-ghost use Rattle.shq_oracle.specs.Begun.{IsServed};
 ghost use Rattle.shq_oracle.specs.Decided.{IsTested, IsTestedBy, HasNumbers, MayGoOn, HasEnded};
 
-use crate::beginning::KnownBeginning;
+use crate::beginning::test_behind;
 use crate::found::{kept_axioms, kept_trail};
 use crate::{NoMemory, Outcome, TestEnd};
 use axiom_sets::AxiomSet;
 use bumpalo::Bump;
 use shq_terms::{On, Query};
 use std::alloc::{Allocator, Global};
-use tableau::{End, Refutation, Search, SearchRules};
+use tableau::{Beginning, End, Refutation, Search, SearchRules};
 
 /// The outcome of a search, what it shows of further classes if that was asked for, in how many steps, and how its test
 /// ended.
@@ -32,7 +32,7 @@ pub(crate) struct Tested {
 pub(crate) fn test(
     alloc: Global,
     rules: &SearchRules<'_>,
-    known: &mut KnownBeginning,
+    beginning: &mut Option<Beginning>,
     query: &Query,
     numbers: (u32, u32),
     fuel: u64,
@@ -41,23 +41,22 @@ pub(crate) fn test(
     requires numbers { AreNumbersOf rules.now query.now numbers.0 numbers.1 }
     requires set { IsAxiomSet rules.now.ontology rules.now.set }
     requires in_limit { IsInLimit rules.now.ontology query.now }
-    requires served { IsServed rules.now known.old }
+    requires served { IfSome beginning.old (Serves rules.now) }
     ensures tested { IfOk result (IsTested rules.now.ontology rules.now.set query.now fuel wants_apart) }
-    ensures served { IsServed rules.now known.new }
+    ensures served { IfSome beginning.new (Serves rules.now) }
 {
     let arena = Bump::new(alloc);
     let mut search = Search::new_in(&arena, alloc, rules, query, numbers.0, numbers.1)?;
     match query.on {
         On::Individual(_) => run_on(alloc, &mut search, fuel, wants_apart),
         On::Any if numbers.0 == 0 && numbers.1 == 0 => {
-            begin(alloc, &mut search, known, fuel, wants_apart)
+            begin(alloc, &mut search, beginning, fuel, wants_apart)
         }
         On::Any => {
             if let Some(end) = search.run_alone(fuel)? {
                 return tested_by(alloc, &search, fuel, end, wants_apart);
             }
-            known.seek(alloc, rules, fuel)?;
-            match known.test(alloc, rules, query, numbers, fuel, wants_apart)? {
+            match test_behind(alloc, rules, beginning, query, numbers, fuel, wants_apart)? {
                 Some(tested) => Ok(tested),
                 None => run_on(alloc, &mut search, fuel, wants_apart),
             }
@@ -70,7 +69,7 @@ pub(crate) fn test(
 fn begin<A: Allocator + Copy>(
     alloc: Global,
     search: &mut Search<'_, A>,
-    known: &mut KnownBeginning,
+    beginning: &mut Option<Beginning>,
     fuel: u64,
     wants_apart: bool,
 ) -> Result<Tested, NoMemory>
@@ -81,14 +80,14 @@ fn begin<A: Allocator + Copy>(
     requires numbers { HasNumbers search.old }
     requires set { IsAxiomSet search.old.rules.ontology search.old.rules.set }
     requires in_limit { IsInLimit search.old.rules.ontology search.old.query }
-    requires served { IsServed search.old.rules known.old }
+    requires served { IfSome beginning.old (Serves search.old.rules) }
     ensures tested { IfOk result (IsTestedBy search.old fuel wants_apart) }
-    ensures served { IsServed search.old.rules known.new }
+    ensures served { IfSome beginning.new (Serves search.old.rules) }
 {
     match search.run_elsewhere(fuel)? {
         Some(end) => tested_by(alloc, search, fuel, end, wants_apart),
         None => {
-            known.keep(search)?;
+            *beginning = search.beginning()?;
             run_on(alloc, search, fuel, wants_apart)
         }
     }
