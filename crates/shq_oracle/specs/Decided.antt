@@ -1,5 +1,5 @@
 -- What the answer to a question is, and what the log says of it.
-use Rattle.std.specs.Prelude.{◌≡◌, ℕ, ◌≤◌, ◌<◌, Bool, true, false, IsTrue, List, [], ◌∷◌, ◌++◌, Option, None, IfSome}
+use Rattle.std.specs.Prelude.{◌≡◌, ℕ, ◌≤◌, ◌<◌, Bool, true, false, IsTrue, List, [], ◌∷◌, ◌++◌, Option, None, Some, IfSome}
 use Rattle.lane_sieve.specs.Sets.{IsPart}
 use Rattle.axiom_sets.specs.Sets.{Limited, member_list}
 use Rattle.shq_terms.specs.Listed.{Listed}
@@ -186,6 +186,17 @@ HasEnded fuel s Saturated = IsAtModel s
 HasEnded fuel s (Closed r) = IsAtRefutation r s
 HasEnded fuel s Lost = ⊥
 HasEnded fuel s OutOfFuel = (s.steps ≡ fuel) × MayGoOn s
+
+-- a search has found no outcome, and may go on: it is whole, and has made no more steps than it may
+pub record IsGoingOn (fuel : ℕ) (s : SearchState) : Type 0 where
+  pub whole : s.failed ≡ false
+  pub goes_on : s.ended ≡ false
+  pub within : s.steps ≤ fuel
+
+-- where no outcome was found, the search may go on
+abbrev pub MayRunOn : ℕ → SearchState → Option Tested → Type 0
+MayRunOn fuel s None = IsGoingOn fuel s
+MayRunOn fuel s (Some t) = Unit {0}
 
 -- whether a search ended without evidence
 abbrev pub is_lost : End → Bool

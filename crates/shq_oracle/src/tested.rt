@@ -3,9 +3,10 @@ ghost use Rattle.std.specs.Prelude.{◌≡◌, ◌≤◌, ℕ, Bool, true, false
 ghost use Rattle.model_builder.specs.Limits.{IsInLimit};
 ghost use Rattle.tableau.specs.RuleLists.{AreNumbersOf};
 ghost use Rattle.tableau.specs.Beginning.{Serves};
+ghost use Rattle.tableau.specs.SearchState.{HasBegun, IsSameSearch};
 ghost use Rattle.tableau.specs.Steps.{IsAtModel, IsAtRefutation, AreLeftOut, ShowsApart};
 ghost use Rattle.run_log.specs.HonestLog.{IsAxiomSet};
-ghost use Rattle.shq_oracle.specs.Decided.{IsTested, IsTestedBy, HasNumbers, MayGoOn, HasEnded};
+ghost use Rattle.shq_oracle.specs.Decided.{IsTested, IsTestedBy, HasNumbers, MayGoOn, MayRunOn, HasEnded};
 
 use crate::beginning::test_behind;
 use crate::found::{kept_axioms, kept_trail};
@@ -26,9 +27,10 @@ pub(crate) struct Tested {
     pub(crate) ended: TestEnd,
 }
 
-/// Searches by these rules whether the query follows, by at most so many steps, and makes no model. Where it is wanted,
-/// what a search shows of further classes is kept. The numbers are those of what the query asks. The tree of a search
-/// lies in an arena of its own, which is let go at the end.
+/// Searches by these rules whether the query follows, and makes no model. The search that answers has at most so many
+/// steps; those of a search that is left for a beginning are not counted. Where it is wanted, what a search shows of
+/// further classes is kept. The numbers are those of what the query asks. The tree of a search lies in an arena of its
+/// own, which is let go at the end.
 pub(crate) fn test(
     alloc: Global,
     rules: &SearchRules<'_>,
@@ -52,15 +54,71 @@ pub(crate) fn test(
         On::Any if numbers.0 == 0 && numbers.1 == 0 => {
             begin(alloc, &mut search, beginning, fuel, wants_apart)
         }
-        On::Any => {
-            if let Some(end) = search.run_alone(fuel)? {
-                return tested_by(alloc, &search, fuel, end, wants_apart);
-            }
-            match test_behind(alloc, rules, beginning, query, numbers, fuel, wants_apart)? {
-                Some(tested) => Ok(tested),
-                None => run_on(alloc, &mut search, fuel, wants_apart),
-            }
+        On::Any => alone_first(
+            alloc,
+            &mut search,
+            rules,
+            beginning,
+            query,
+            numbers,
+            fuel,
+            wants_apart,
+        ),
+    }
+}
+
+// The outcome of a search on any element that begins. Once it meets an individual, one that goes on from a beginning
+// may end in its place.
+fn alone_first<A: Allocator + Copy>(
+    alloc: Global,
+    search: &mut Search<'_, A>,
+    rules: &SearchRules<'_>,
+    beginning: &Option<Beginning>,
+    query: &Query,
+    numbers: (u32, u32),
+    fuel: u64,
+    wants_apart: bool,
+) -> Result<Tested, NoMemory>
+    requires begun { HasBegun rules.now query.now numbers.0 numbers.1 search.old }
+    requires numbers { AreNumbersOf rules.now query.now numbers.0 numbers.1 }
+    requires set { IsAxiomSet rules.now.ontology rules.now.set }
+    requires in_limit { IsInLimit rules.now.ontology query.now }
+    requires served { IfSome beginning.now (Serves rules.now) }
+    ensures { IfOk result (IsTested rules.now.ontology rules.now.set query.now fuel wants_apart) }
+{
+    if let Some(tested) = tested_alone(alloc, search, fuel, wants_apart)? {
+        return Ok(tested);
+    }
+    match test_behind(alloc, rules, beginning, query, numbers, fuel, wants_apart)? {
+        Some(tested) => Ok(tested),
+        None => run_on(alloc, search, fuel, wants_apart),
+    }
+}
+
+// The outcome of a search that begins, if it ends before it meets an individual other than the node in question.
+fn tested_alone<A: Allocator + Copy>(
+    alloc: Global,
+    search: &mut Search<'_, A>,
+    fuel: u64,
+    wants_apart: bool,
+) -> Result<Option<Tested>, NoMemory>
+    requires begun { search.old.steps ≡ 0 }
+    requires whole { search.old.failed ≡ false }
+    requires goes_on { search.old.ended ≡ false }
+    requires from_nothing { search.old.behind ≡ false }
+    requires numbers { HasNumbers search.old }
+    requires set { IsAxiomSet search.old.rules.ontology search.old.rules.set }
+    requires in_limit { IsInLimit search.old.rules.ontology search.old.query }
+    ensures same { IsSameSearch search.old search.new }
+    ensures tested { IfOk result (λ t. IfSome t (IsTestedBy search.old fuel wants_apart)) }
+    ensures going_on { IfOk result (MayRunOn fuel search.new) }
+{
+    match search.run_alone(fuel)? {
+        Some(end) => {
+            let tested = tested_by(alloc, search, fuel, end, wants_apart)?;
+            Ok(Some(tested))
         }
+        None => Ok(None),
     }
 }
 
