@@ -92,7 +92,7 @@ module _ (q : Question) (table : List Shape) (rows : List Row) (home number a : 
     (fits : IsChoice q.theory table rows) (have : FactsHaveNumbers q table) (is_first : q.at < q.first)
     (number_listed : number < length table) (number_reads : tree_of table number ≡ normal_form q.sub)
     (Leaves : List (List Item) → Type 0)
-    (out : (run : List (List Item)) → Leaves run → LeavesOut q.at table run a)
+    (out : (run : List (List Item)) → Leaves run → LeavesOut q.first q.at table run a)
     (shorter : (trail : List Item) (earlier : List (List Item)) → Leaves (trail ∷ earlier) → Leaves earlier)
     (set_of : (more : List Shape) (n : ℕ) → IsTable (table ++ more) → shape_of (table ++ more) n ≡ not_name a
     → (rest : List Item) (earlier : List (List Item))
@@ -154,7 +154,8 @@ module _ (q : Question) (table : List Shape) (rows : List Row) (home number a : 
 pub one_run_answers_more : OneRunAnswersMore
 one_run_answers_more q table rows number k a trail earlier good fits have is_first unnamed lt reads run steps sat out =
     subst (EndsSaturated table rows a (with_sup q (name a))) steps
-    (answered q table rows q.at number a good fits have is_first lt reads (λ r. LeavesOut q.at table r a) (λ r h. h)
-    (λ t e h. leaves_out_before q.at table a t e h)
+    (answered q table rows q.at number a good fits have is_first lt reads (λ r. LeavesOut q.first q.at table r a)
+    (λ r h. h)
+    (λ t e h. leaves_out_before q.first q.at table a t e h)
     (λ more n longer shape_n. unnamed_setting q table more rows good fits n a shape_n number lt is_first unnamed) trail
     earlier run sat out)

@@ -73,7 +73,7 @@ pub record IsBare (q : Question) (table more : List Shape) (a b : ℕ) (gs : Lis
   pub start_is_clear : ¬ IsPlainClash q.first q.theory.below (table ++ more) (full_facts q.at a b [])
 
 -- the last fact gives its node its concept
-last_puts_at : (is : List Item) (x d : ℕ) → list_any (puts_at x d) (facts_of (is ++ Says (Has x d) ∷ [])) ≡ true
+pub last_puts_at : (is : List Item) (x d : ℕ) → list_any (puts_at x d) (facts_of (is ++ Says (Has x d) ∷ [])) ≡ true
 last_puts_at is x d =
     ap (list_any (puts_at x d)) (facts_of-snoc is (Has x d)) ∙ any-snoc (puts_at x d) (facts_of is) (Has x d)
     ∙ or_right (list_any (puts_at x d) (facts_of is)) (eqb x x && eqb d d) (self_has x d)

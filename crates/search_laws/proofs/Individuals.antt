@@ -24,7 +24,7 @@ use Rattle.search_laws.specs.ReuseLaws.{EndsSaturated, about, OneRunAnswersOfInd
 use Rattle.search_laws.proofs.Root.{merged_root, merged_stays}
 use Rattle.search_laws.proofs.Turned.{old_facts}
 use Rattle.search_laws.proofs.ReuseSetting.{short, IsSetting}
-use Rattle.search_laws.proofs.Running.{leaves_out_before, is_complement, not_top, now_listed, was_put, none_has}
+use Rattle.search_laws.proofs.Running.{leaves_out_before, is_complement, not_top, now_listed, was_put, besides}
 use Rattle.search_laws.proofs.Running.{lacks_class, no_part}
 use Rattle.search_laws.proofs.Answering.{complement_tree, zero_tree, answered}
 
@@ -105,10 +105,10 @@ module _ (table : List Shape) (good : IsTable table) (c s e : ℕ) (is : has_fil
 
 -- ---- the law
 
-at_before : (at : ℕ) (table : List Shape) (a : ℕ) (trail : List Item) (earlier : List (List Item))
-    → LeavesOutAt at table (trail ∷ earlier) a → LeavesOutAt at table earlier a
-at_before at table a trail earlier h = record {
-  leaves_out = leaves_out_before at table a trail earlier h.leaves_out;
+at_before : (first at : ℕ) (table : List Shape) (a : ℕ) (trail : List Item) (earlier : List (List Item))
+    → LeavesOutAt first at table (trail ∷ earlier) a → LeavesOutAt first at table earlier a
+at_before first at table a trail earlier h = record {
+  leaves_out = leaves_out_before first at table a trail earlier h.leaves_out;
   is_never_joined =
       (none_of (list_any (joins_node at) (facts_of trail)) (was_ever (joins_node at) earlier) h.is_never_joined).1;
   complement_is_no_filler = λ c s e ever.
@@ -122,7 +122,7 @@ module _ (q : Question) (table more : List Shape) (rows : List Row) (good : IsTa
     (shape_n : shape_of (table ++ more) n ≡ not_name a) (home : ℕ) (is_first : q.at < q.first) (rest : List Item)
     (earlier : List (List Item))
     (run : IsRun (short q table more rows) (start home 0 0) ((start home 0 0 ++ rest) ∷ earlier))
-    (h : LeavesOutAt q.at table ((start home 0 0 ++ rest) ∷ earlier) a) where
+    (h : LeavesOutAt q.first q.at table ((start home 0 0 ++ rest) ∷ earlier) a) where
   abbrev now : List (Fact ℕ)
   now = old_facts home q.at 0 n (facts_of rest)
 
@@ -158,7 +158,9 @@ module _ (q : Question) (table more : List Shape) (rows : List Row) (good : IsTa
     no_part =
         no_part q table more rows good fits n a shape_n home 0 good.has_top rest earlier run h.leaves_out alone.stays
         alone.alone;
-    none = none_has q table more rows good fits n a shape_n home 0 good.has_top rest earlier run h.leaves_out;
+    besides =
+        besides q table more rows good fits n a shape_n home 0 good.has_top rest earlier run h.leaves_out alone.stays
+        alone.alone;
   }
 
 pub one_run_answers_of_individuals : OneRunAnswersOfIndividuals
@@ -166,7 +168,7 @@ one_run_answers_of_individuals q table rows k at a trail earlier good fits have 
     let asked = about q at (name a) in
     subst (EndsSaturated table rows a asked) steps
     (answered asked table rows q.at 0 a good fits have is_first good.has_top (zero_tree table good)
-    (λ r. LeavesOutAt at table r a) (λ r h. h.leaves_out) (λ t e h. at_before at table a t e h)
+    (λ r. LeavesOutAt q.first at table r a) (λ r h. h.leaves_out) (λ t e h. at_before q.first at table a t e h)
     (λ more n longer shape_n rest e r h. individual_setting asked table more rows good longer fits n a shape_n q.at
     is_first rest e r h) trail
     earlier run sat out)

@@ -43,6 +43,7 @@ pub mod InLimit
 pub mod Assertions
 pub mod CounterModelLaws
 pub mod Turned
+pub mod TurnedBlocks
 pub mod Root
 pub mod LongerGiven
 pub mod ReuseSetting

@@ -30,29 +30,40 @@ use Rattle.search_laws.proofs.Level.{level, fresh_old, fresh_new}
 
 -- ---- labels
 
--- the node to which a fact gives what a node has
-record Giver (d : ℕ) (fs : List (Fact ℕ)) : Type 0 where
-  node : ℕ
-  gives : list_any (is_has node d) fs ≡ true
+-- the node to which a fact gives what a node has, whose representative is `at`
+pub record Giver (m : ℕ → ℕ) (at d : ℕ) (fs : List (Fact ℕ)) : Type 0 where
+  pub node : ℕ
+  pub stands : m node ≡ at
+  pub gives : list_any (is_has node d) fs ≡ true
 
-giver : (m : ℕ → ℕ) (at d : ℕ) (fs : List (Fact ℕ)) → list_any (gives_concept (λ e. eqb e d) m at) fs ≡ true
-    → Giver d fs
+pub giver : (m : ℕ → ℕ) (at d : ℕ) (fs : List (Fact ℕ)) → list_any (gives_concept (λ e. eqb e d) m at) fs ≡ true
+    → Giver m at d fs
 giver m at d [] h = cc
 giver m at d (Has y e ∷ fs) h =
     elim (or_cases (eqb (m y) at && eqb e d) (list_any (gives_concept (λ c. eqb c d) m at) fs) h) [
-      | inl here ↦ record {
-        node = y;
-        gives =
-            or_left (eqb y y && eqb e d) (list_any (is_has y d) fs)
-            (and_from (eqb y y) (eqb e d) (eq-eqb y y refl) (and_parts (eqb (m y) at) (eqb e d) here).1);
-      }
+      | inl here ↦
+          let t = and_parts (eqb (m y) at) (eqb e d) here in
+          record {
+            node = y;
+            stands = eqb-true (m y) at t.0;
+            gives =
+                or_left (eqb y y && eqb e d) (list_any (is_has y d) fs)
+                (and_from (eqb y y) (eqb e d) (eq-eqb y y refl) t.1);
+          }
       | inr later ↦
           let r = giver m at d fs later in
-          record { node = r.node; gives = or_right (eqb y r.node && eqb e d) (list_any (is_has r.node d) fs) r.gives }
+          record {
+            node = r.node;
+            stands = r.stands;
+            gives = or_right (eqb y r.node && eqb e d) (list_any (is_has r.node d) fs) r.gives;
+          }
     ]
-giver m at d (Edge r y z ∷ fs) h = let g = giver m at d fs h in record { node = g.node; gives = g.gives }
-giver m at d (Apart y z ∷ fs) h = let g = giver m at d fs h in record { node = g.node; gives = g.gives }
-giver m at d (Same y z ∷ fs) h = let g = giver m at d fs h in record { node = g.node; gives = g.gives }
+giver m at d (Edge r y z ∷ fs) h =
+    let g = giver m at d fs h in record { node = g.node; stands = g.stands; gives = g.gives }
+giver m at d (Apart y z ∷ fs) h =
+    let g = giver m at d fs h in record { node = g.node; stands = g.stands; gives = g.gives }
+giver m at d (Same y z ∷ fs) h =
+    let g = giver m at d fs h in record { node = g.node; stands = g.stands; gives = g.gives }
 
 -- what a node has, other than top, is in the list
 pub had_in : (ds : List ℕ) (fs : List (Fact ℕ)) (x d : ℕ) → AreIn ds fs → has fs x d ≡ true → ¬ (d ≡ 0)

@@ -1,10 +1,10 @@
 -- The same steps are legal, and the same ends saturated, where the node in question has the complement of a class from
 -- the start. The table may have grown by then.
 use Rattle.std.proofs.Common.{◌≡◌, ℕ, ◌<◌, ◌&&◌, Bool, true, false, List, ◌++◌, length, Option, Some, None, refl, ap}
-use Rattle.std.proofs.Common.{◌∙◌, ◌⊎◌, sym, subst, inl, inr, eq-eqb}
+use Rattle.std.proofs.Common.{◌∙◌, ◌⊎◌, sym, subst, inl, inr, eqb, eq-eqb}
 use Rattle.std.specs.List.{list_all, range_with_len, All, Contains}
 use Rattle.std.proofs.lemmas.List.{get_or_default}
-use Rattle.std.proofs.lemmas.Bool.{cases_Bool}
+use Rattle.std.proofs.lemmas.Bool.{cases_Bool, and_from}
 use Rattle.calculus_specs.specs.Concept.{Concept, name}
 use Rattle.calculus_specs.specs.Shape.{Shape, shape_of, IsTable}
 use Rattle.calculus_specs.specs.Shape.Shape.{bottom, name as name_shape, not_name, union, some_of, all_of}
@@ -31,11 +31,12 @@ use Rattle.tableau_specs.specs.Steps.MayBranch.{on_union, on_filler, on_pair}
 use Rattle.tableau_specs.specs.Reached.{context_of}
 use Rattle.tableau_specs.proofs.Listed.{most_listed}
 use Rattle.tableau_specs.proofs.PlainClash.{successor_has_edge}
-use Rattle.search_laws.specs.Runs.{puts, has_filler}
+use Rattle.search_laws.specs.Runs.{puts_at, has_filler}
 use Rattle.search_laws.proofs.Rising.{self_has}
 use Rattle.search_laws.proofs.LongerShapes.{same_shape, shape_up, shape_down, complement_up, complement_down}
 use Rattle.search_laws.proofs.Turned.{old_facts, new_facts, has_listed, has_up, has_cases, has_other, label_alike}
-use Rattle.search_laws.proofs.Turned.{HaveAsBefore, filled_same, run_same, block_same}
+use Rattle.search_laws.proofs.Turned.{HaveAsBefore, filled_same, run_same}
+use Rattle.search_laws.proofs.TurnedBlocks.{HaveBesides, block_same}
 
 module _ (q : Question) (table more : List Shape) (rows : List Row) where
   abbrev pub short : SearchContext
@@ -58,7 +59,7 @@ pub record IsSetting (q : Question) (table more : List Shape) (home sub n a : �
   pub lacks_class : (c : ℕ) → has (old_facts home q.at sub n gs) q.at c ≡ true → ¬ (shape_of table c ≡ name_shape a)
   pub no_part : (c : ℕ) (parts : List ℕ) → has (old_facts home q.at sub n gs) q.at c ≡ true
       → shape_of table c ≡ union parts → ¬ Contains parts n
-  pub none : (x : ℕ) → has (old_facts home q.at sub n gs) x n ≡ false
+  pub besides : HaveBesides q.first q.at n (old_facts home q.at sub n gs)
 
 module _ (q : Question) (table more : List Shape) (rows : List Row) (good : IsTable table) (n a : ℕ)
     (shape_n : shape_of (table ++ more) n ≡ not_name a) where
@@ -216,7 +217,8 @@ module _ (q : Question) (table more : List Shape) (rows : List Row) (good : IsTa
       is_node = h.is_node;
       is_rep = h.is_rep;
       is_clear =
-          block_same q.first home q.at sub n gs set.moves set.stays set.is_first set.alone set.none x ∙ h.is_clear;
+          block_same q.first home q.at sub n gs set.moves set.stays set.is_first set.alone set.besides x h.is_rep
+          ∙ h.is_clear;
     }
 
     open_down : (x : ℕ) → IsOpen (long q table more rows) new x → IsOpen (short q table more rows) old x
@@ -224,7 +226,7 @@ module _ (q : Question) (table more : List Shape) (rows : List Row) (good : IsTa
       is_node = h.is_node;
       is_rep = h.is_rep;
       is_clear =
-          sym (block_same q.first home q.at sub n gs set.moves set.stays set.is_first set.alone set.none x)
+          sym (block_same q.first home q.at sub n gs set.moves set.stays set.is_first set.alone set.besides x h.is_rep)
           ∙ h.is_clear;
     }
 
@@ -309,11 +311,13 @@ module _ (q : Question) (table more : List Shape) (rows : List Row) (good : IsTa
 
     -- ---- given facts
 
-    -- a fact that does not give the complement is so as before
-    pub so_same : (f : Fact ℕ) → puts n f ≡ false → is_so new f ≡ is_so old f
+    -- a fact that does not give the node in question the complement is so as before
+    pub so_same : (f : Fact ℕ) → puts_at q.at n f ≡ false → is_so new f ≡ is_so old f
     so_same (Has x c) other =
         has_other q.first home q.at sub n gs set.moves set.stays x c
-        (λ root. (let k = eq-eqb c n (sym root.1) in cc))
+        (λ root. (let k =
+        and_from (eqb x q.at) (eqb c n) (eq-eqb x q.at (set.alone x root.0)) (eq-eqb c n (sym root.1)) in
+        cc))
     so_same (Edge r x y) other = refl
     so_same (Apart x y) other = refl
     so_same (Same x y) other = refl

@@ -1,9 +1,11 @@
 -- A whole run.
-use Rattle.std.proofs.Common.{◌≡◌, ℕ, suc, ◌<◌, ◌&&◌, eqb, ltb, Bool, true, false, List, [], ◌∷◌, ◌++◌, length, refl}
+use Rattle.std.proofs.Common.{◌≡◌, ℕ, suc, ◌<◌, ◌&&◌, ◌||◌, eqb, ltb, Bool, true, false, List, [], ◌∷◌, ◌++◌, length, refl}
 use Rattle.std.proofs.Common.{ap, ◌∙◌, sym, subst, arith, inl, inr, eq-eqb, Contains}
 use Rattle.std.specs.List.{list_any, All}
 use Rattle.std.proofs.lemmas.List.{get_or_append_left}
 use Rattle.std.proofs.lemmas.Bool.{cases_Bool, or_cases, or_left, or_right, and_parts, and_from, eqb-true, ltb-true}
+use Rattle.std.proofs.lemmas.Bool.{false_from_ne_true}
+use Rattle.std.proofs.lemmas.List.Elements.{All-weaker, All-head, All-tail}
 use Rattle.calculus_specs.specs.Shape.{Shape, shape_of, IsTable}
 use Rattle.calculus_specs.specs.Shape.Shape.{top, name as name_shape, not_name, union}
 use Rattle.calculus_specs.specs.Rows.{Row, IsChoice}
@@ -13,17 +15,22 @@ use Rattle.calculus_specs.specs.declared.facts.Fact.TheVariants.{Has, Edge, Apar
 use Rattle.calculus_specs.specs.Joins.{rep}
 use Rattle.calculus_specs.specs.Reading.{are_listed}
 use Rattle.calculus_specs.specs.State.{gives_concept, has}
+use Rattle.calculus_specs.proofs.Joined.{rep-le}
 use Rattle.tableau_specs.specs.declared.Item.{Item}
 use Rattle.tableau_specs.specs.Items.{facts_of}
 use Rattle.tableau_specs.specs.Steps.{IsLegal}
 use Rattle.tableau_specs.specs.Reached.{start, Follows}
 use Rattle.tableau_specs.proofs.Listed.{ItemListed, facts_listed, follows_listed, start_listed, disjunct_listed}
 use Rattle.tableau_specs.proofs.Reached.{reached_built}
-use Rattle.search_laws.specs.Runs.{IsRun, was_ever, puts, puts_at, LeavesOut}
+use Rattle.search_laws.specs.Runs.{IsRun, was_ever, puts, puts_at, HasItsOwn, SetsApart, LeavesOut}
 use Rattle.search_laws.specs.ReuseLaws.{IsUnnamed}
 use Rattle.search_laws.proofs.Root.{IsRooted, built_rooted, end_is_other}
 use Rattle.search_laws.proofs.LongerGiven.{given_avoids}
+use Rattle.search_laws.proofs.First.{rep-rep}
+use Rattle.search_laws.proofs.Paths.{giver}
+use Rattle.search_laws.proofs.Rising.{any_more, is_has}
 use Rattle.search_laws.proofs.Turned.{old_facts, has_listed}
+use Rattle.search_laws.proofs.TurnedBlocks.{HaveBesides}
 use Rattle.search_laws.proofs.ReuseSetting.{short, long, IsSetting}
 use Rattle.search_laws.proofs.Stepping.{turned}
 
@@ -41,18 +48,38 @@ pub ever_now : (p : Fact ℕ → Bool) (trail : List Item) (earlier : List (List
     → was_ever p (trail ∷ earlier) ≡ true
 ever_now p trail earlier h = or_left (list_any p (facts_of trail)) (was_ever p earlier) h
 
-pub leaves_out_before : (at : ℕ) (table : List Shape) (a : ℕ) (trail : List Item) (earlier : List (List Item))
-    → LeavesOut at table (trail ∷ earlier) a → LeavesOut at table earlier a
-leaves_out_before at table a trail earlier h = record {
+never_before : (p : Fact ℕ → Bool) (trail : List Item) (earlier : List (List Item))
+    → was_ever p (trail ∷ earlier) ≡ false → was_ever p earlier ≡ false
+never_before p trail earlier none = false_from_ne_true (was_ever p earlier) (λ ever.
+    (let k : was_ever p (trail ∷ earlier) ≡ true = or_right (list_any p (facts_of trail)) (was_ever p earlier) ever in
+    cc))
+
+pub leaves_out_before : (first at : ℕ) (table : List Shape) (a : ℕ) (trail : List Item) (earlier : List (List Item))
+    → LeavesOut first at table (trail ∷ earlier) a → LeavesOut first at table earlier a
+leaves_out_before first at table a trail earlier h = record {
   class_is_not_there =
       λ c e. h.class_is_not_there c
       (or_right (list_any (puts_at at c) (facts_of trail)) (was_ever (puts_at at c) earlier) e);
   unions_there_lack_complement =
       λ c d parts e. h.unions_there_lack_complement c d parts
       (or_right (list_any (puts_at at c) (facts_of trail)) (was_ever (puts_at at c) earlier) e);
-  complement_is_never_put =
-      λ c e. h.complement_is_never_put c (or_right (list_any (puts c) (facts_of trail)) (was_ever (puts c) earlier) e);
+  complement_is_not_there =
+      λ c e. h.complement_is_not_there c
+      (or_right (list_any (puts_at at c) (facts_of trail)) (was_ever (puts_at at c) earlier) e);
+  complement_is_apart =
+      All-weaker (SetsApart first at table (trail ∷ earlier) a) (SetsApart first at table earlier a)
+      (λ t sets x c high put sh. own_before t x c (sets x c high put sh)) earlier
+      (All-tail (SetsApart first at table (trail ∷ earlier) a) trail earlier h.complement_is_apart);
 }
+  where
+    own_before : (t : List Item) (x c : ℕ) → HasItsOwn at (trail ∷ earlier) t x c → HasItsOwn at earlier t x c
+    own_before t x c own = record {
+      concept = own.concept;
+      holds = own.holds;
+      is_never_there = never_before (puts_at at own.concept) trail earlier own.is_never_there;
+      is_not_top = own.is_not_top;
+      is_another = own.is_another;
+    }
 
 -- ---- what a node has was put
 
@@ -67,6 +94,27 @@ given_puts c m at (Has y d ∷ fs) h =
 given_puts c m at (Edge r y z ∷ fs) h = given_puts c m at fs h
 given_puts c m at (Apart y z ∷ fs) h = given_puts c m at fs h
 given_puts c m at (Same y z ∷ fs) h = given_puts c m at fs h
+
+there_puts : (at c : ℕ) (fs : List (Fact ℕ)) → list_any (puts_at at c) fs ≡ true → list_any (puts c) fs ≡ true
+there_puts at c = any_more (puts_at at c) (puts c) one
+  where
+    one : (f : Fact ℕ) → puts_at at c f ≡ true → puts c f ≡ true
+    one (Has x d) h = (and_parts (eqb x at) (eqb d c) h).1
+    one (Edge r x y) h = h
+    one (Apart y z) h = h
+    one (Same y z) h = h
+
+puts_are : (x c : ℕ) (fs : List (Fact ℕ)) → list_any (puts_at x c) fs ≡ list_any (is_has x c) fs
+puts_are x c [] = refl
+puts_are x c (Has y d ∷ fs) = ap (λ (b : Bool). (eqb y x && eqb d c) || b) (puts_are x c fs)
+puts_are x c (Edge r y z ∷ fs) = puts_are x c fs
+puts_are x c (Apart y z ∷ fs) = puts_are x c fs
+puts_are x c (Same y z ∷ fs) = puts_are x c fs
+
+-- a node has what its representative has
+has_rep : (fs : List (Fact ℕ)) (x c : ℕ) → has fs (rep fs x) c ≡ has fs x c
+has_rep fs x c =
+    ap (λ (r : ℕ). eqb c 0 || list_any (gives_concept (λ d. eqb d c) (rep fs) r) fs) (rep-rep fs x)
 
 pub given_there : (node c : ℕ) (m : ℕ → ℕ) (at : ℕ) → at ≡ node → ((y : ℕ) → m y ≡ node → y ≡ node)
     → (fs : List (Fact ℕ))
@@ -113,14 +161,14 @@ module _ (q : Question) (table more : List Shape) (rows : List Row) (good : IsTa
       (start_listed (length table) home sub 0 sub_listed good.has_top)
       (run_follows q table more rows (start home sub 0) trail earlier r)
 
-  never_put : (at : ℕ) (trail : List Item) (earlier : List (List Item)) → All (ItemListed (length table)) trail
-      → LeavesOut at table (trail ∷ earlier) a → list_any (puts n) (facts_of trail) ≡ false
-  never_put at trail earlier items h = elim (cases_Bool (list_any (puts n) (facts_of trail))) [
-    | inr none ↦ none
-    | inl there ↦
-        let lt = puts_listed (length table) n (facts_of trail) (facts_listed (length table) trail items) there in
-        absurd (h.complement_is_never_put n (ever_now (puts n) trail earlier there) (is_complement lt))
-  ]
+  never_put_there : (first at : ℕ) (trail : List Item) (earlier : List (List Item))
+      → All (ItemListed (length table)) trail
+      → LeavesOut first at table (trail ∷ earlier) a → list_any (puts_at at n) (facts_of trail) ≡ false
+  never_put_there first at trail earlier items h = false_from_ne_true (list_any (puts_at at n) (facts_of trail)) (λ there.
+      let lt =
+      puts_listed (length table) n (facts_of trail) (facts_listed (length table) trail items)
+      (there_puts at n (facts_of trail) there) in
+      h.complement_is_not_there n (ever_now (puts_at at n) trail earlier there) (is_complement lt))
 
   pub not_top : (c : ℕ) (s : Shape) → ¬ (top ≡ s) → shape_of table c ≡ s → ¬ (c ≡ 0)
   not_top c s ne sh e = ne (sym good.begins_with_top ∙ ap (shape_of table) (sym e) ∙ sh)
@@ -128,7 +176,7 @@ module _ (q : Question) (table more : List Shape) (rows : List Row) (good : IsTa
   -- a trail of the run, in which the node in question is joined to no other
   module _ (rest : List Item) (earlier : List (List Item))
       (run : IsRun (short q table more rows) (start home sub 0) ((start home sub 0 ++ rest) ∷ earlier))
-      (h : LeavesOut q.at table ((start home sub 0 ++ rest) ∷ earlier) a) where
+      (h : LeavesOut q.first q.at table ((start home sub 0 ++ rest) ∷ earlier) a) where
     abbrev now : List (Fact ℕ)
     now = old_facts home q.at sub n (facts_of rest)
 
@@ -138,39 +186,28 @@ module _ (q : Question) (table more : List Shape) (rows : List Row) (good : IsTa
     pub now_listed : are_listed (length table) now ≡ true
     now_listed = facts_listed (length table) (start home sub 0 ++ rest) items
 
-    -- what a node has, but for top, was put
+    -- what a node has, but for top, a fact gives it
+    given_is : (x c : ℕ) → ¬ (c ≡ 0) → has now x c ≡ true
+        → list_any (gives_concept (λ d. eqb d c) (rep now) (rep now x)) now ≡ true
+    given_is x c other held =
+        elim (or_cases (eqb c 0) (list_any (gives_concept (λ d. eqb d c) (rep now) (rep now x)) now) held) [
+          | inl z ↦ absurd (other (eqb-true c 0 z))
+          | inr given ↦ given
+        ]
+
+    -- and it was put
     pub was_put : (x c : ℕ) → ¬ (c ≡ 0) → has now x c ≡ true
         → was_ever (puts c) ((start home sub 0 ++ rest) ∷ earlier) ≡ true
     was_put x c other held =
-        elim (or_cases (eqb c 0) (list_any (gives_concept (λ d. eqb d c) (rep now) (rep now x)) now) held) [
-          | inl z ↦ absurd (other (eqb-true c 0 z))
-          | inr given ↦
-              ever_now (puts c) (start home sub 0 ++ rest) earlier (given_puts c (rep now) (rep now x) now given)
-        ]
-
-    pub none_has : (x : ℕ) → has now x n ≡ false
-    none_has x = elim (cases_Bool (has now x n)) [
-      | inr none ↦ none
-      | inl held ↦
-          let lt = has_listed (length table) now good.has_top now_listed x n held in
-          elim (or_cases (eqb n 0) (list_any (gives_concept (λ d. eqb d n) (rep now) (rep now x)) now) held) [
-            | inl z ↦ absurd (not_top n (not_name a) (λ k. cc) (is_complement lt) (eqb-true n 0 z))
-            | inr given ↦
-                (let put = given_puts n (rep now) (rep now x) now given in
-                let none = never_put q.at (start home sub 0 ++ rest) earlier items h in cc)
-          ]
-    ]
+        ever_now (puts c) (start home sub 0 ++ rest) earlier
+        (given_puts c (rep now) (rep now x) now (given_is x c other held))
 
     module _ (stays : rep now q.at ≡ q.at) (alone : (x : ℕ) → rep now x ≡ q.at → x ≡ q.at) where
       put_there : (c : ℕ) → ¬ (c ≡ 0) → has now q.at c ≡ true
           → was_ever (puts_at q.at c) ((start home sub 0 ++ rest) ∷ earlier) ≡ true
       put_there c other held =
-          elim (or_cases (eqb c 0) (list_any (gives_concept (λ d. eqb d c) (rep now) (rep now q.at)) now) held) [
-            | inl z ↦ absurd (other (eqb-true c 0 z))
-            | inr given ↦
-                ever_now (puts_at q.at c) (start home sub 0 ++ rest) earlier
-                (given_there q.at c (rep now) (rep now q.at) stays alone now given)
-          ]
+          ever_now (puts_at q.at c) (start home sub 0 ++ rest) earlier
+          (given_there q.at c (rep now) (rep now q.at) stays alone now (given_is q.at c other held))
 
       pub lacks_class : (c : ℕ) → has now q.at c ≡ true → ¬ (shape_of table c ≡ name_shape a)
       lacks_class c held sh = h.class_is_not_there c (put_there c (not_top c (name_shape a) (λ k. cc) sh) held) sh
@@ -181,6 +218,26 @@ module _ (q : Question) (table more : List Shape) (rows : List Row) (good : IsTa
           h.unions_there_lack_complement c n parts (put_there c (not_top c (union parts) (λ k. cc) sh) held) sh part
           (is_complement (disjunct_listed (short q table more rows) good c n parts sh part))
 
+      -- the node that was given the complement stands for it, and has its own concept too
+      pub besides : HaveBesides q.first q.at n now
+      besides x high is_rep held =
+          let lt = has_listed (length table) now good.has_top now_listed x n held in
+          let sh = is_complement lt in
+          let by = giver (rep now) (rep now x) n now (given_is x n (not_top n (not_name a) (λ k. cc) sh) held) in
+          let up : rep now by.node ≡ x = by.stands ∙ is_rep in
+          let own =
+          All-head (SetsApart q.first q.at table ((start home sub 0 ++ rest) ∷ earlier) a) (start home sub 0 ++ rest)
+          earlier h.complement_is_apart by.node n (omega (arith, high, up, rep-le now by.node)) (puts_are by.node n now ∙ by.gives) sh in
+          record {
+            concept = own.concept;
+            holds =
+                subst (λ (y : ℕ). has now y own.concept ≡ true) up
+                (has_rep now by.node own.concept ∙ own.holds);
+            is_not_there = false_from_ne_true (has now q.at own.concept) (λ there.
+                (let k = put_there own.concept own.is_not_top there in let l = own.is_never_there in cc));
+            is_another = λ e. own.is_another (sym e);
+          }
+
   -- ---- the other run
 
   -- the trail goes on from the start, and the other search follows with the same rest
@@ -190,7 +247,7 @@ module _ (q : Question) (table more : List Shape) (rows : List Row) (good : IsTa
     pub follows : Follows (long q table more rows) (start q.at sub n) k (start q.at sub n ++ rest)
 
   module _ (Leaves : List (List Item) → Type 0)
-      (out : (run : List (List Item)) → Leaves run → LeavesOut q.at table run a)
+      (out : (run : List (List Item)) → Leaves run → LeavesOut q.first q.at table run a)
       (shorter : (trail : List Item) (earlier : List (List Item)) → Leaves (trail ∷ earlier) → Leaves earlier)
       (set_of : (rest : List Item) (earlier : List (List Item))
       → IsRun (short q table more rows) (start home sub 0) ((start home sub 0 ++ rest) ∷ earlier)
@@ -207,7 +264,7 @@ module _ (q : Question) (table more : List Shape) (rows : List Row) (good : IsTa
         let t =
         turned q table more rows good n a shape_n home sub f.rest (set_of f.rest earlier again left) trail
         (items_listed (start home sub 0 ++ f.rest) earlier again) fits
-        (never_put q.at trail (before ∷ earlier) (items_listed trail (before ∷ earlier) run)
+        (never_put_there q.first q.at trail (before ∷ earlier) (items_listed trail (before ∷ earlier) run)
         (out (trail ∷ before ∷ earlier) h)) legal in
         record { rest = t.further; splits = t.splits; follows = (start q.at sub n ++ f.rest, f.follows, t.is_legal) }
 
@@ -226,7 +283,7 @@ module _ (q : Question) (table more : List Shape) (rows : List Row) (good : IsTa
     (sub : ℕ) (sub_listed : sub < length table) (is_first : q.at < q.first) (unnamed : IsUnnamed q) where
   pub unnamed_setting : (rest : List Item) (earlier : List (List Item))
       → IsRun (short q table more rows) (start q.at sub 0) ((start q.at sub 0 ++ rest) ∷ earlier)
-      → LeavesOut q.at table ((start q.at sub 0 ++ rest) ∷ earlier) a
+      → LeavesOut q.first q.at table ((start q.at sub 0 ++ rest) ∷ earlier) a
       → IsSetting q table more q.at sub n a (facts_of rest)
   unnamed_setting rest earlier run h =
       let now : List (Fact ℕ) = old_facts q.at q.at sub n (facts_of rest) in
@@ -251,5 +308,7 @@ module _ (q : Question) (table more : List Shape) (rows : List Row) (good : IsTa
         no_part =
             no_part q table more rows good fits n a shape_n q.at sub sub_listed rest earlier run h rooted.stays
             rooted.alone;
-        none = none_has q table more rows good fits n a shape_n q.at sub sub_listed rest earlier run h;
+        besides =
+            besides q table more rows good fits n a shape_n q.at sub sub_listed rest earlier run h rooted.stays
+            rooted.alone;
       }

@@ -28,19 +28,14 @@ use Rattle.tableau_specs.specs.Steps.IsLegal.{add, give, generate, choose, back}
 use Rattle.tableau_specs.specs.Reached.{start, FactsHaveNumbers}
 use Rattle.tableau_specs.proofs.Built.{facts_of-snoc}
 use Rattle.tableau_specs.proofs.Listed.{listed, branch_listed, BranchListed, ItemListed}
-use Rattle.search_laws.specs.Runs.{puts}
+use Rattle.search_laws.specs.Runs.{puts_at}
+use Rattle.search_laws.proofs.FullerSteps.{last_puts_at}
 use Rattle.search_laws.proofs.Turned.{old_facts, new_facts}
 use Rattle.search_laws.proofs.LongerShapes.{alternative_up, shape_up, shape_down}
 use Rattle.search_laws.proofs.ReuseSetting.{short, long, IsSetting, held_listed, down, up, out_up, same_use}
 use Rattle.search_laws.proofs.ReuseSetting.{plain_down, clash_up, carried_down, adds_up}
 use Rattle.search_laws.proofs.ReuseSetting.{generates_up, generates_down, may_up, may_down, so_same, so_up}
 use Rattle.search_laws.proofs.LongerGiven.{given_up, given_down}
-
--- the last fact gives a concept
-last_puts : (is : List Item) (x d : ℕ) → list_any (puts d) (facts_of (is ++ Says (Has x d) ∷ [])) ≡ true
-last_puts is x d =
-    ap (list_any (puts d)) (facts_of-snoc is (Has x d)) ∙ any-snoc (puts d) (facts_of is) (Has x d)
-    ∙ or_right (list_any (puts d) (facts_of is)) (eqb d d) (eq-eqb d d refl)
 
 -- where no fact passes, the last one does not
 last_passes_not : (p : Fact ℕ → Bool) (is : List Item) (f : Fact ℕ)
@@ -86,7 +81,7 @@ module _ (q : Question) (table more : List Shape) (rows : List Row) (good : IsTa
     }
 
     pub turned : (new : List Item) → All (ItemListed (length table)) (start home sub 0 ++ rest)
-        → IsChoice q.theory table rows → list_any (puts n) (facts_of new) ≡ false
+        → IsChoice q.theory table rows → list_any (puts_at q.at n) (facts_of new) ≡ false
         → IsLegal old_context (start home sub 0 ++ rest) new → IsTurned rest new
     turned new' items fits never (add x d nc adds out) = record {
       further = rest ++ Says (Has x d) ∷ [];
@@ -95,9 +90,13 @@ module _ (q : Question) (table more : List Shape) (rows : List Row) (good : IsTa
           add x d (λ k. nc (plain_down q table more rows good n a shape_n home sub (facts_of rest) set k))
           (adds_up q table more rows good n a shape_n home sub (facts_of rest) set x d adds)
           (out_up q table more rows good n a shape_n home sub (facts_of rest) set x d
-          (λ root. (let there =
-          subst (λ (c : ℕ). list_any (puts c) (facts_of ((start home sub 0 ++ rest) ++ Says (Has x d) ∷ [])) ≡ true)
-          (sym root.1) (last_puts (start home sub 0 ++ rest) x d) in
+          (λ root. (let there : list_any (puts_at q.at n) (facts_of ((start home sub 0 ++ rest) ++ Says (Has x d) ∷ []))
+          ≡ true =
+          ap (λ (y : ℕ). list_any (puts_at y n) (facts_of ((start home sub 0 ++ rest) ++ Says (Has x d) ∷ [])))
+          (sym (set.alone x root.0))
+          ∙ ap (λ (c : ℕ). list_any (puts_at x c) (facts_of ((start home sub 0 ++ rest) ++ Says (Has x d) ∷ [])))
+          root.1
+          ∙ last_puts_at (start home sub 0 ++ rest) x d in
           cc))
           out);
     }
@@ -108,7 +107,7 @@ module _ (q : Question) (table more : List Shape) (rows : List Row) (good : IsTa
           give f (λ k. nc (plain_down q table more rows good n a shape_n home sub (facts_of rest) set k))
           (given_up q table more rows f is_given)
           (so_same q table more rows good n a shape_n home sub (facts_of rest) set f
-          (last_passes_not (puts n) (start home sub 0 ++ rest) f never)
+          (last_passes_not (puts_at q.at n) (start home sub 0 ++ rest) f never)
           ∙ out);
     }
     turned new' items fits never (generate fs nc makes) = record {

@@ -1,24 +1,18 @@
 -- What facts say where their second one gives the node in question another concept than top.
 use Rattle.std.proofs.Common.{◌≡◌, ℕ, zero, suc, ◌+◌, ◌<◌, ◌&&◌, ◌||◌, ◌⊎◌, eqb, ltb, cond, Bool, true, false, List, []}
 use Rattle.std.proofs.Common.{◌∷◌, ◌++◌, refl, ap, ◌∙◌, sym, subst, arith, inl, inr, eq-eqb, lt-ltb}
-use Rattle.std.specs.Prelude.{slice_index_or}
 use Rattle.std.specs.List.{list_any, list_all}
 use Rattle.std.proofs.lemmas.Bool.{eqb-true, ltb-true, or_cases, cases_Bool, and_parts, or_left}
 use Rattle.std.proofs.Math.Bool.{or-false, or_comm}
 use Rattle.calculus_specs.specs.declared.facts.Fact.{Fact}
 use Rattle.calculus_specs.specs.declared.facts.Fact.TheVariants.{Has, Edge, Apart, Same}
 use Rattle.calculus_specs.specs.Joins.{rep}
-use Rattle.calculus_specs.specs.State.{parent_from, gives_concept, has, has_edge, concepts_at, label, is_label_part}
+use Rattle.calculus_specs.specs.State.{gives_concept, has, has_edge, concepts_at, label}
 use Rattle.calculus_specs.specs.Reading.{are_listed}
 use Rattle.calculus_specs.proofs.State.{eqb-comm}
-use Rattle.tableau_specs.specs.declared.Block.{Block}
-use Rattle.tableau_specs.specs.declared.Block.TheVariants.{Clear, By, Under}
-use Rattle.tableau_specs.specs.Blocked.{is_clear, is_parent_clear, may_block, blocked_from, block_at, blocks_to}
-use Rattle.tableau_specs.specs.Blocked.{block_of}
 use Rattle.tableau_specs.specs.Clash.{is_filled_successor, filled_successors}
 use Rattle.tableau_specs.proofs.After.{IsAlike, filled_alike}
 use Rattle.tableau_specs.proofs.PlainClash.{successor_has_edge}
-use Rattle.search_laws.proofs.LabelParts.{part_each, part_from}
 
 -- ---- tests
 
@@ -39,11 +33,6 @@ moved_away false true true false false m r h k = or_comm m r
 moved_away false true false false false m r h k = or_comm m r
 moved_away false false true false false m r h k = sym (or-false r)
 moved_away false false false false false m r h k = sym (or-false r)
-
-same_if : (s t : Bool) → (s ≡ true → t ≡ true) → (t ≡ true → s ≡ true) → s ≡ t
-same_if true t f g = sym (f refl)
-same_if false true f g = g refl
-same_if false false f g = refl
 
 -- concepts that a test does not pass change nothing
 front : (p : ℕ → Bool) (t : Bool) (u v : ℕ) (cs : List ℕ) → p u ≡ false → p v ≡ false
@@ -196,7 +185,7 @@ module _ (first home at sub n : ℕ) (gs : List (Fact ℕ)) (moves : (home ≡ a
             (front q (eqb (rep olds home) (rep olds x)) sub 0 R sub_out zero_out))
       ]
 
-  -- ---- blocks
+  -- ---- successors
 
   pub filled_same : (below : ℕ → ℕ → Bool) (x s e : ℕ) → HaveAsBefore home at sub n gs below x s e
       → filled_successors first below news x s e ≡ filled_successors first below olds x s e
@@ -214,50 +203,3 @@ module _ (first home at sub n : ℕ) (gs : List (Fact ℕ)) (moves : (home ≡ a
       → list_all (is_filled_successor first below news x s e) ys
       ≡ list_all (is_filled_successor first below olds x s e) ys
   run_same below x s e before ys = λ i. list_all (λ y. filled_each below x s e before y i) ys
-
-  module _ (is_first : at < first) (alone : (x : ℕ) → rep olds x ≡ at → x ≡ at)
-      (none : (x : ℕ) → has olds x n ≡ false) where
-    part_same : (x z : ℕ) → ¬ (x ≡ at) → is_label_part news x z ≡ is_label_part olds x z
-    part_same x z ne =
-        let other : (c : ℕ) → has news x c ≡ has olds x c = λ c. has_other x c (λ r. ne (alone x r.0)) in
-        same_if (is_label_part news x z) (is_label_part olds x z)
-        (λ h. part_from olds x z (λ c held.
-        elim (has_cases z c (part_each news x z c h (other c ∙ held))) [
-          | inl before ↦ before
-          | inr root ↦ absurd (let k = subst (λ (d : ℕ). has olds x d ≡ false) root.1 (none x) in cc)
-        ]))
-        (λ h. part_from news x z (λ c held. has_up z c (part_each olds x z c h (sym (other c) ∙ held))))
-
-    may_same : (blocks : List Block) (x z : ℕ) → ¬ (x ≡ at) → may_block news blocks x z ≡ may_block olds blocks x z
-    may_same blocks x z ne =
-        ap (λ (b : Bool). eqb (rep olds z) z && is_clear (slice_index_or blocks z Under) && b) (part_same x z ne)
-
-    from_same : (blocks : List Block) (x z k : ℕ) → ¬ (x ≡ at)
-        → blocked_from news blocks x z k ≡ blocked_from olds blocks x z k
-    from_same blocks x z zero ne = refl
-    from_same blocks x z (suc k) ne =
-        let here = may_same blocks x z ne in
-        let rest = from_same blocks x (z + 1) k ne in
-        λ i. cond (here i) (By z) (rest i)
-
-    at_same : (blocks : List Block) (x : ℕ) → block_at first news blocks x ≡ block_at first olds blocks x
-    at_same blocks x =
-        let up : Bool = is_parent_clear olds blocks (parent_from first olds x) in
-        elim (cases_Bool (ltb x first)) [
-          | inl low ↦
-              ap (λ (b : Bool). cond b Clear (cond up (blocked_from news blocks x 0 x) Under)) low
-              ∙ sym (ap (λ (b : Bool). cond b Clear (cond up (blocked_from olds blocks x 0 x) Under)) low)
-          | inr high ↦
-              ap (λ (b : Block). cond (ltb x first) Clear (cond up b Under))
-              (from_same blocks x 0 x (λ e. (let k = ap (λ (y : ℕ). ltb y first) e ∙ lt-ltb at first is_first in cc)))
-        ]
-
-    to_same : (k : ℕ) → blocks_to first news k ≡ blocks_to first olds k
-    to_same zero = refl
-    to_same (suc k) =
-        let earlier = to_same k in
-        ap (λ (b : List Block). b ++ block_at first news b k ∷ []) earlier
-        ∙ ap (λ (b : Block). blocks_to first olds k ++ b ∷ []) (at_same (blocks_to first olds k) k)
-
-    pub block_same : (x : ℕ) → block_of first news x ≡ block_of first olds x
-    block_same x = ap (λ (b : List Block). block_at first news b x) (to_same x) ∙ at_same (blocks_to first olds x) x

@@ -1,14 +1,15 @@
 -- Worked examples. The first run is for class 10, over the axiom that class 10 is in class 11: the row gives node 0
 -- class 11. The table's numbers are: 0 top, 1 class 10, 2 class 11, 3 the complement of class 11.
-use Rattle.std.specs.Prelude.{◌≡◌, ℕ, zero, suc, Bool, true, false, ◌==◌, List, [], ◌∷◌, ◌++◌, None, refl}
-use Rattle.std.proofs.Common.{lit<, ap, sym, subst, ◌∙◌, arith}
+use Rattle.std.specs.Prelude.{◌≡◌, ℕ, zero, suc, Bool, true, false, ◌==◌, ◌&&◌, ◌||◌, List, [], ◌∷◌, ◌++◌, None, refl, All}
+use Rattle.std.proofs.Common.{lit<, lit≤, ap, sym, subst, ◌∙◌, arith, inl, inr}
 use Rattle.std.specs.List.{list_any}
+use Rattle.std.proofs.lemmas.Bool.{eqb-true, or_cases}
 use Rattle.calculus_specs.specs.Concept.{name as class}
 use Rattle.calculus_specs.specs.Shape.{Shape, shape_of}
-use Rattle.calculus_specs.specs.Shape.Shape.{top, name, not_name, some_of, at_most}
+use Rattle.calculus_specs.specs.Shape.Shape.{top, name, not_name, union, some_of, at_most}
 use Rattle.calculus_specs.specs.Rows.{Row, inclusion_of}
 use Rattle.calculus_specs.specs.Rows.Trigger.{names}
-use Rattle.calculus_specs.specs.declared.facts.Fact.TheVariants.{Has, Same}
+use Rattle.calculus_specs.specs.declared.facts.Fact.TheVariants.{Has, Edge, Same}
 use Rattle.calculus_specs.specs.State.{has}
 use Rattle.tableau_specs.specs.declared.Item.{Item}
 use Rattle.tableau_specs.specs.declared.Branch.TheVariants.{Or}
@@ -20,7 +21,7 @@ use Rattle.tableau_specs.specs.Steps.Adds.{by_row}
 use Rattle.tableau_specs.specs.Steps.IsLegal.{add}
 use Rattle.tableau_specs.specs.Reached.{start}
 use Rattle.tableau_specs.specs.StepExamples.{IsPlain}
-use Rattle.search_laws.specs.Runs.{IsRun, was_ever, puts_at, LeavesOut, LeavesOutAt}
+use Rattle.search_laws.specs.Runs.{IsRun, was_ever, puts_at, HasItsOwn, SetsApart, LeavesOut, LeavesOutAt}
 
 -- ---- the run for class 10
 
@@ -83,7 +84,7 @@ is_run = (add 0 2 no_plain_clash (by_row 0 row (lit< tt) (0, lit< tt, refl) refl
 
 -- it gives node 0 class 11, and shows nothing of it: the same steps of a search whether class 10 is in class 11 end in
 -- a clash
-pub says_nothing_of_eleven : ¬ LeavesOut 0 table run 11
+pub says_nothing_of_eleven : ¬ LeavesOut 1 0 table run 11
 says_nothing_of_eleven h = h.class_is_not_there 2 refl refl
 
 -- whether the shape speaks of class 12
@@ -104,12 +105,153 @@ is_not_twelve c s is e =
     (let k : is_of_twelve (shape_of table c) ≡ true = ap is_of_twelve e ∙ is in let l = none_of_twelve c in cc)
 
 -- of class 12, which has no number, it shows that class 10 is not in it
-pub leaves_out_twelve : LeavesOut 0 table run 12
+pub leaves_out_twelve : LeavesOut 1 0 table run 12
 leaves_out_twelve = record {
   class_is_not_there = λ c ever. is_not_twelve c (name 12) refl;
   unions_there_lack_complement = λ c d parts ever sh part. is_not_twelve d (not_name 12) refl;
-  complement_is_never_put = λ c ever. is_not_twelve c (not_name 12) refl;
+  complement_is_not_there = λ c ever. is_not_twelve c (not_name 12) refl;
+  complement_is_apart = λ k d lt x c high put sh. absurd (is_not_twelve c (not_name 12) refl sh);
 }
+
+-- ---- the complement at another node
+
+-- Here the numbers are: 0 top, 1 class 10, 2 class 13, 3 some successor by role 7 in class 13, 4 the complement of
+-- class 11. Node 0 has a successor, which is made in class 13, and is in the complement of class 11.
+abbrev wider : List Shape
+wider = top ∷ name 10 ∷ name 13 ∷ some_of 7 2 ∷ not_name 11 ∷ []
+
+abbrev asking : List Item
+asking = start 0 1 0 ++ Says (Has 0 3) ∷ []
+
+abbrev made : List Item
+made = asking ++ Says (Edge 7 0 1) ∷ Says (Has 1 2) ∷ []
+
+abbrev apart : List (List Item)
+apart = (made ++ Says (Has 1 4) ∷ []) ∷ made ∷ asking ∷ start 0 1 0 ∷ []
+
+complement_is_four : (c : ℕ) → shape_of wider c ≡ not_name 11 → c ≡ 4
+complement_is_four zero e = cc
+complement_is_four (suc zero) e = cc
+complement_is_four (suc (suc zero)) e = cc
+complement_is_four (suc (suc (suc zero))) e = cc
+complement_is_four (suc (suc (suc (suc zero)))) e = refl
+complement_is_four (suc (suc (suc (suc (suc c))))) e = cc
+
+no_eleven : (c : ℕ) → ¬ (shape_of wider c ≡ name 11)
+no_eleven zero e = cc
+no_eleven (suc zero) e = cc
+no_eleven (suc (suc zero)) e = cc
+no_eleven (suc (suc (suc zero))) e = cc
+no_eleven (suc (suc (suc (suc zero)))) e = cc
+no_eleven (suc (suc (suc (suc (suc c))))) e = cc
+
+no_union : (c : ℕ) (parts : List ℕ) → ¬ (shape_of wider c ≡ union parts)
+no_union zero parts e = cc
+no_union (suc zero) parts e = cc
+no_union (suc (suc zero)) parts e = cc
+no_union (suc (suc (suc zero))) parts e = cc
+no_union (suc (suc (suc (suc zero)))) parts e = cc
+no_union (suc (suc (suc (suc (suc c))))) parts e = cc
+
+-- the successor alone is given number 4
+is_last : (p q : Bool)
+    → ((p && false) || ((p && false) || ((p && false) || (false || ((q && false) || ((q && true) || false)))))) ≡ q
+is_last true true = refl
+is_last true false = refl
+is_last false true = refl
+is_last false false = refl
+
+no_last : (p q : Bool) → ((p && false) || ((p && false) || ((p && false) || (false || ((q && false) || false))))) ≡ false
+no_last true true = refl
+no_last true false = refl
+no_last false true = refl
+no_last false false = refl
+
+no_third : (p : Bool) → ((p && false) || ((p && false) || ((p && false) || false))) ≡ false
+no_third true = refl
+no_third false = refl
+
+no_second : (p : Bool) → ((p && false) || ((p && false) || false)) ≡ false
+no_second true = refl
+no_second false = refl
+
+is_successor : (x : ℕ) → list_any (puts_at x 4) (facts_of (made ++ Says (Has 1 4) ∷ [])) ≡ true → 1 ≡ x
+is_successor x put = eqb-true 1 x (sym (is_last (0 == x) (1 == x)) ∙ put)
+
+-- no number but 4 is the complement
+never : (trail : List Item) (x c : ℕ) → list_any (puts_at x c) (facts_of trail) ≡ true
+    → shape_of wider c ≡ not_name 11 → ¬ (list_any (puts_at x 4) (facts_of trail) ≡ false)
+never trail x c put sh none =
+    (let k = ap (λ (n : ℕ). list_any (puts_at x n) (facts_of trail)) (complement_is_four c sh) in cc)
+
+-- number 2 is its own
+own_concept : HasItsOwn 0 apart (made ++ Says (Has 1 4) ∷ []) 1 4
+own_concept = record {
+  concept = 2;
+  holds = refl;
+  is_never_there = refl;
+  is_not_top = λ e. cc;
+  is_another = λ e. cc;
+}
+
+-- of class 11 it shows that class 10 is not in it
+pub leaves_out_eleven : LeavesOut 1 0 wider apart 11
+leaves_out_eleven = record {
+  class_is_not_there = λ c ever. no_eleven c;
+  unions_there_lack_complement = λ c d parts ever sh. absurd (no_union c parts sh);
+  complement_is_not_there = λ c ever sh. (let e = complement_is_four c sh in
+      let k : was_ever (puts_at 0 c) apart ≡ false = ap (λ (n : ℕ). was_ever (puts_at 0 n) apart) e in
+      cc);
+  complement_is_apart = each;
+}
+  where
+    each : All (SetsApart 1 0 wider apart 11) apart
+    each zero d lt x c high put sh =
+        let last : List Item = made ++ Says (Has 1 4) ∷ [] in
+        let e = complement_is_four c sh in
+        let at = is_successor x (ap (λ (n : ℕ). list_any (puts_at x n) (facts_of last)) (sym e) ∙ put) in
+        subst (λ (y : ℕ). HasItsOwn 0 apart last y c) at (subst (HasItsOwn 0 apart last 1) (sym e) own_concept)
+    each (suc zero) d lt x c high put sh = absurd (never made x c put sh (no_last (0 == x) (1 == x)))
+    each (suc (suc zero)) d lt x c high put sh = absurd (never asking x c put sh (no_third (0 == x)))
+    each (suc (suc (suc zero))) d lt x c high put sh = absurd (never (start 0 1 0) x c put sh (no_second (0 == x)))
+    each (suc (suc (suc (suc k)))) d lt x c high put sh = absurd (omega (arith, lt))
+
+-- where node 0 is in class 13 too, or the successor has no other concept, it shows nothing of class 11: with the
+-- complement node 0 may block the successor
+abbrev shared : List (List Item)
+shared = (made ++ Says (Has 1 4) ∷ Says (Has 0 2) ∷ []) ∷ []
+
+pub says_nothing_of_shared : ¬ LeavesOut 1 0 wider shared 11
+says_nothing_of_shared h =
+    let own = h.complement_is_apart 0 [] (lit< tt) 1 4 (lit≤ tt) refl refl in
+    let c = own.concept in
+    elim (or_cases (c == 0) ((2 == c) || ((4 == c) || false)) own.holds) [
+      | inl none ↦ own.is_not_top (eqb-true c 0 none)
+      | inr some ↦ elim (or_cases (2 == c) ((4 == c) || false) some) [
+        | inl two ↦
+            (let k : true ≡ was_ever (puts_at 0 c) shared =
+            ap (λ (n : ℕ). was_ever (puts_at 0 n) shared) (eqb-true 2 c two) in
+            let l = own.is_never_there in
+            cc)
+        | inr last ↦ elim (or_cases (4 == c) false last) [
+          | inl four ↦ own.is_another (sym (eqb-true 4 c four))
+          | inr no' ↦ absurd (cc)
+        ]
+      ]
+    ]
+
+pub says_nothing_of_bare : ¬ LeavesOut 1 0 wider
+    ((start 0 1 0 ++ Says (Edge 7 0 1) ∷ Says (Has 1 4) ∷ []) ∷ []) 11
+says_nothing_of_bare h =
+    let own = h.complement_is_apart 0 [] (lit< tt) 1 4 (lit≤ tt) refl refl in
+    let c = own.concept in
+    elim (or_cases (c == 0) ((4 == c) || false) own.holds) [
+      | inl none ↦ own.is_not_top (eqb-true c 0 none)
+      | inr some ↦ elim (or_cases (4 == c) false some) [
+        | inl four ↦ own.is_another (sym (eqb-true 4 c four))
+        | inr no' ↦ absurd (cc)
+      ]
+    ]
 
 -- ---- an individual, whose node is 0, and which is said to be in class 10
 
@@ -117,31 +259,32 @@ abbrev told : List (List Item)
 told = (start 1 0 0 ++ Says (Has 0 1) ∷ []) ∷ start 1 0 0 ∷ []
 
 -- of class 12 it shows that the individual is not in it, and of class 10 nothing
-pub leaves_out_of_individual : LeavesOutAt 0 table told 12
+pub leaves_out_of_individual : LeavesOutAt 2 0 table told 12
 leaves_out_of_individual = record {
   leaves_out = record {
     class_is_not_there = λ c ever. is_not_twelve c (name 12) refl;
     unions_there_lack_complement = λ c d parts ever sh part. is_not_twelve d (not_name 12) refl;
-    complement_is_never_put = λ c ever. is_not_twelve c (not_name 12) refl;
+    complement_is_not_there = λ c ever. is_not_twelve c (not_name 12) refl;
+    complement_is_apart = λ k d lt x c high put sh. absurd (is_not_twelve c (not_name 12) refl sh);
   };
   is_never_joined = refl;
   complement_is_no_filler = λ c s e ever is. is_not_twelve e (not_name 12) refl;
   class_is_not_counted = λ c m s e ever sh k. subst IsPlain sh (plain_each c);
 }
 
-pub says_nothing_of_ten : ¬ LeavesOutAt 0 table told 10
+pub says_nothing_of_ten : ¬ LeavesOutAt 2 0 table told 10
 says_nothing_of_ten h = h.leaves_out.class_is_not_there 1 refl refl
 
 -- nor does a run say anything of a node that is one with another, on either side
-pub says_nothing_of_joined : (¬ LeavesOutAt 0 table ((start 2 0 0 ++ Says (Same 0 1) ∷ []) ∷ start 2 0 0 ∷ []) 12)
-    × (¬ LeavesOutAt 1 table ((start 2 0 0 ++ Says (Same 0 1) ∷ []) ∷ start 2 0 0 ∷ []) 12)
+pub says_nothing_of_joined : (¬ LeavesOutAt 3 0 table ((start 2 0 0 ++ Says (Same 0 1) ∷ []) ∷ start 2 0 0 ∷ []) 12)
+    × (¬ LeavesOutAt 3 1 table ((start 2 0 0 ++ Says (Same 0 1) ∷ []) ∷ start 2 0 0 ∷ []) 12)
 says_nothing_of_joined = (λ h. (let k = h.is_never_joined in cc), λ h. (let k = h.is_never_joined in cc))
 
 -- nor of a class where successors are asked for in its complement, or counted in it: an edge may lead to the node
-pub says_nothing_of_fillers : ¬ LeavesOutAt 1 (table ++ some_of 7 3 ∷ []) ((start 2 0 0 ++ Says (Has 0 4) ∷ []) ∷ []) 11
+pub says_nothing_of_fillers : ¬ LeavesOutAt 3 1 (table ++ some_of 7 3 ∷ []) ((start 2 0 0 ++ Says (Has 0 4) ∷ []) ∷ []) 11
 says_nothing_of_fillers h = h.complement_is_no_filler 4 7 3 refl refl refl
 
-pub says_nothing_of_counted : ¬ LeavesOutAt 1 (table ++ at_most 1 7 2 ∷ [])
+pub says_nothing_of_counted : ¬ LeavesOutAt 3 1 (table ++ at_most 1 7 2 ∷ [])
     ((start 2 0 0 ++ Says (Has 0 4) ∷ []) ∷ []) 11
 says_nothing_of_counted h = h.class_is_not_counted 4 1 7 2 refl refl refl
 

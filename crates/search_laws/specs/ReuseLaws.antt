@@ -52,7 +52,7 @@ OneRunAnswersMore =
     → IsTable table → IsChoice q.theory table rows → FactsHaveNumbers q table → q.at < q.first → IsUnnamed q
     → number < length table → tree_of table number ≡ normal_form q.sub
     → IsRun (context_of q table rows) (start q.at number 0) (trail ∷ earlier) → length earlier ≡ k
-    → IsSaturated (context_of q table rows) trail → LeavesOut q.at table (trail ∷ earlier) a
+    → IsSaturated (context_of q table rows) trail → LeavesOut q.first q.at table (trail ∷ earlier) a
     → EndsSaturated table rows a (with_sup q (name a)) k
 
 -- the question whether what first node `at` stands for is in `sup`
@@ -68,7 +68,7 @@ OneRunAnswersOfIndividuals =
     (q : Question) (table : List Shape) (rows : List Row) (k at a : ℕ) (trail : List Item) (earlier : List (List Item))
     → IsTable table → IsChoice q.theory table rows → FactsHaveNumbers q table → at < q.first
     → IsRun (context_of q table rows) (start q.at 0 0) (trail ∷ earlier) → length earlier ≡ k
-    → IsSaturated (context_of q table rows) trail → LeavesOutAt at table (trail ∷ earlier) a
+    → IsSaturated (context_of q table rows) trail → LeavesOutAt q.first at table (trail ∷ earlier) a
     → EndsSaturated table rows a (about q at (name a)) k
 
 -- What a legal step puts into a trail stands at its end: from any place on that is neither past the end of the old

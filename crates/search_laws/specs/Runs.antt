@@ -1,11 +1,12 @@
 -- Runs of a search: all their trails, and what was ever put into one.
-use Rattle.std.specs.Prelude.{◌≡◌, ℕ, ◌==◌, ◌&&◌, ◌||◌, Bool, true, false, List, [], ◌∷◌, Contains}
+use Rattle.std.specs.Prelude.{◌≡◌, ℕ, ◌≤◌, ◌==◌, ◌&&◌, ◌||◌, Bool, true, false, List, [], ◌∷◌, All, Contains}
 use Rattle.std.specs.List.{list_any}
 use Rattle.calculus_specs.specs.Concept.{name as class, complement}
 use Rattle.calculus_specs.specs.Normal.{negated_form}
 use Rattle.calculus_specs.specs.Shape.{Shape, shape_of}
 use Rattle.calculus_specs.specs.Tree.{tree_of}
 use Rattle.calculus_specs.specs.Shape.Shape.{name, not_name, union, some_of, at_least, at_most}
+use Rattle.calculus_specs.specs.State.{has}
 use Rattle.calculus_specs.specs.declared.facts.Fact.{Fact}
 use Rattle.calculus_specs.specs.declared.facts.Fact.TheVariants.{Has, Edge, Apart, Same}
 use Rattle.tableau_specs.specs.declared.Item.{Item}
@@ -52,19 +53,36 @@ has_filler s e (at_least n r c) = r == s && c == e
 has_filler s e (at_most n r c) = r == s && c == e
 has_filler s e _ = false
 
--- the run has nothing to do with whether the node `at` is in class a: no trail gives the node the class, or a union of
--- which the class's complement is a part, and none gives the complement to any node
-pub record LeavesOut (at : ℕ) (table : List Shape) (run : List (List Item)) (a : ℕ) : Type 0 where
+-- by the trail node x has a concept besides c and top, which is number 0, that no trail of the run gives the node `at`
+pub record HasItsOwn (at : ℕ) (run : List (List Item)) (trail : List Item) (x c : ℕ) : Type 0 where
+  pub concept : ℕ
+  pub holds : has (facts_of trail) x concept ≡ true
+  pub is_never_there : was_ever (puts_at at concept) run ≡ false
+  pub is_not_top : ¬ (concept ≡ 0)
+  pub is_another : ¬ (concept ≡ c)
+
+-- where the trail gives the complement of class a to a node that is no first one, this has a concept of its own besides.
+-- So the node `at` never blocks it, with the complement or without
+abbrev pub SetsApart : ℕ → ℕ → List Shape → List (List Item) → ℕ → List Item → Type 0
+SetsApart first at table run a trail =
+    (x c : ℕ) → first ≤ x → list_any (puts_at x c) (facts_of trail) ≡ true → shape_of table c ≡ not_name a
+    → HasItsOwn at run trail x c
+
+-- The run has nothing to do with whether the node `at` is in class a. No trail gives this node the class, its
+-- complement, or a union of which the complement is a part. And to other nodes the complement is given only if they are
+-- first ones, which are never blocked, or have a concept that the node `at` never has
+pub record LeavesOut (first at : ℕ) (table : List Shape) (run : List (List Item)) (a : ℕ) : Type 0 where
   pub class_is_not_there : (c : ℕ) → was_ever (puts_at at c) run ≡ true → ¬ (shape_of table c ≡ name a)
   pub unions_there_lack_complement : (c d : ℕ) (parts : List ℕ) → was_ever (puts_at at c) run ≡ true
       → shape_of table c ≡ union parts → Contains parts d
       → ¬ (shape_of table d ≡ not_name a)
-  pub complement_is_never_put : (c : ℕ) → was_ever (puts c) run ≡ true → ¬ (shape_of table c ≡ not_name a)
+  pub complement_is_not_there : (c : ℕ) → was_ever (puts_at at c) run ≡ true → ¬ (shape_of table c ≡ not_name a)
+  pub complement_is_apart : All (SetsApart first at table run a) run
 
 -- the same where edges may lead to the node `at`, as to that of an individual: no trail joins it to another node, and
 -- none gives a node a concept that asks of successors whether they are in the complement, or counts those in the class
-pub record LeavesOutAt (at : ℕ) (table : List Shape) (run : List (List Item)) (a : ℕ) : Type 0 where
-  pub leaves_out : LeavesOut at table run a
+pub record LeavesOutAt (first at : ℕ) (table : List Shape) (run : List (List Item)) (a : ℕ) : Type 0 where
+  pub leaves_out : LeavesOut first at table run a
   pub is_never_joined : was_ever (joins_node at) run ≡ false
   pub complement_is_no_filler : (c s e : ℕ) → was_ever (puts c) run ≡ true → has_filler s e (shape_of table c) ≡ true
       → ¬ (shape_of table e ≡ not_name a)

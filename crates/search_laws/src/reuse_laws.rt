@@ -6,14 +6,15 @@
 //! shown that the search whether X is in W could have made the same steps. That search begins with a node that is in X
 //! and in the complement of W.
 //!
-//! - **The same steps are legal** where W was never given to the node in question, no union that it was ever given has
-//!   the complement of W as a part, and the complement was given to no node at all. A complement of a name makes no
-//!   step possible, since no rule reads one. It forbids a step only where it clashes with its name, where it is a part
-//!   of a union at its node, or where it is itself to be put; and the node in question is neither a successor nor
-//!   joined to another node. That holds where it is the node of no individual, so that no given fact speaks of it: a
-//!   query on any element asks of such a node.
+//! - **The same steps are legal** where neither W nor its complement was ever given to the node in question, and no
+//!   union that it was ever given has the complement as a part. A complement of a name makes no step possible, since no
+//!   rule reads one. It forbids a step only where it clashes with its name, where it is a part of a union at its node,
+//!   or where it is itself to be put; and the node in question is neither a successor nor joined to another node. That
+//!   holds where it is the node of no individual, so that no given fact speaks of it: a query on any element asks of such
+//!   a node.
 //! - **The end is saturated** by the same reasons. The blocks are the same: a first node is never blocked, and the one
-//!   in question blocks no other node less than before, since no other node has the complement.
+//!   in question blocks no other node more than before, since each that has the complement has a concept of its own,
+//!   too, which the node in question never has.
 //! - **Of individuals too.** One run over all axioms, for the question whether anything is in top and not in bottom,
 //!   shows of many individuals that they are not in W. Edges may lead to the node of an individual, and facts may join
 //!   it to another. So the run may not do the latter, and it may not give any node a concept that asks of successors
