@@ -1,10 +1,11 @@
 -- What a run shows of another query.
-use Rattle.std.proofs.Common.{◌≡◌, ℕ, zero, suc, ◌<◌, ◌&&◌, not, Bool, true, false, List, [], ◌∷◌, length, refl, ap}
+use Rattle.std.proofs.Common.{◌≡◌, ℕ, zero, suc, ◌<◌, ◌≤◌, ◌&&◌, ◌||◌, not, cond, Bool, true, false, List, [], ◌∷◌}
+use Rattle.std.proofs.Common.{length, get_or, refl, ap}
 use Rattle.std.proofs.Common.{◌∙◌, sym, subst, arith, inl, inr, eq-eqb}
 use Rattle.std.specs.Prelude.{◌==◌, Contains}
-use Rattle.std.specs.List.{list_any}
+use Rattle.std.specs.List.{list_any, All}
 use Rattle.std.proofs.lemmas.Bool.{and_parts, and_from, or_cases, or_left, or_right, or_parts, eqb-true, lt-ltb}
-use Rattle.std.proofs.lemmas.Bool.{not-true}
+use Rattle.std.proofs.lemmas.Bool.{not-true, cases_Bool, false_from_ne_true}
 use Rattle.std.proofs.lemmas.List.{append-nil}
 use Rattle.std.proofs.lemmas.List.Folds.{list_all-append}
 use Rattle.shq_terms.specs.Concept.{name}
@@ -27,12 +28,13 @@ use Rattle.tableau_specs.specs.declared.Item.{Item}
 use Rattle.tableau_specs.specs.Items.{facts_of}
 use Rattle.tableau_specs.specs.Reached.{start}
 use Rattle.search_laws.proofs.CounterModelLaws.{saturated_does_not_entail}
-use Rattle.search_laws.specs.Runs.{IsRun, was_ever, puts, puts_at, LeavesOut}
+use Rattle.search_laws.specs.Runs.{IsRun, was_ever, puts, puts_at, SetsApart, LeavesOut}
 use Rattle.search_laws.specs.ReuseLaws.{EndsSaturated, with_sup}
 use Rattle.search_laws.proofs.Answering.{one_run_answers_more}
 use Rattle.search_laws.proofs.Unnamed.{any_is_unnamed}
 use Rattle.tableau.specs.Seen.{holds, class_of, complement_of, union_parts, is_one, is_complement, has_complement}
-use Rattle.tableau.specs.Seen.{gives_class, gives_complement, has_seen}
+use Rattle.tableau.specs.Seen.{SeenSets, gives_class, gives_complement, gives_bearing, has_seen, counted, IsToldApart}
+use Rattle.tableau.proofs.Told.{told_now}
 use Rattle.search_rules.specs.RuleLists.{AreNumbersOf}
 use Rattle.tableau.specs.SearchState.{SearchState, is_any, room_for, question_of, context_of, trail_of, IsReachedBy}
 use Rattle.tableau.specs.SearchState.{HasRun}
@@ -105,20 +107,6 @@ module _ (at : ℕ) (table : List Shape) (a c : ℕ) where
   gives_anywhere sh (Apart y z) h = h
   gives_anywhere sh (Same y z) h = h
 
-  gives_in_union : (d : ℕ) (parts : List ℕ) → shape_of table d ≡ union parts → Contains parts c
-      → shape_of table c ≡ not_name a → (f : Fact ℕ) → puts_at at d f ≡ true → gives_complement at table a f ≡ true
-  gives_in_union d parts is part sh (Has x e) h =
-      let t = and_parts (x == at) (e == d) h in
-      let has : has_complement table a (union_parts (shape_of table e)) ≡ true =
-      ap (λ (n : ℕ). has_complement table a (union_parts (shape_of table n))) (eqb-true e d t.1)
-      ∙ ap (λ (s : Shape). has_complement table a (union_parts s)) is
-      ∙ any_at (is_complement table a) parts c part (complement_is sh) in
-      or_right (is_complement table a e) (x == at && has_complement table a (union_parts (shape_of table e)))
-      (and_from (x == at) (has_complement table a (union_parts (shape_of table e))) t.0 has)
-  gives_in_union d parts is part sh (Edge r x y) h = h
-  gives_in_union d parts is part sh (Apart y z) h = h
-  gives_in_union d parts is part sh (Same y z) h = h
-
 pub any_is : (on : On) → is_any on ≡ true → on ≡ Any
 any_is Any h = refl
 any_is (Individual a) h = cc
@@ -129,35 +117,140 @@ asks_for_any s on alone = record { on_any = on; sub_alone = alone }
 room_is : (count : ℕ) (s : SearchState) → AsksForAny s → room_for count s.query.on s.not_sup ≡ count
 room_is count s any = λ i. room_for count (any.on_any i) (any.sub_alone i)
 
-left_out : (s : SearchState) (run : HasRun s) (a : ℕ) → a < length s.rules.ontology.classes → LeavesClassOut s a
-    → LeavesOut (question_of s).at s.rules.table (trail_of s ∷ run.earlier) a
-left_out s run a lt out =
+-- a trail of the run
+ever_at : (p : Fact ℕ → Bool) (run : List (List Item)) (k : ℕ) (d : List Item) → k < length run
+    → list_any p (facts_of (get_or run k d)) ≡ true → was_ever p run ≡ true
+ever_at p [] k d lt h = absurd (omega (arith, lt))
+ever_at p (t ∷ ts) zero d lt h = or_left (list_any p (facts_of t)) (was_ever p ts) h
+ever_at p (t ∷ ts) (suc k) d lt h =
+    or_right (list_any p (facts_of t)) (was_ever p ts) (ever_at p ts k d (omega (arith, lt)) h)
+
+module _ (first at : ℕ) (table : List Shape) (a : ℕ) where
+  bearing_there : (c : ℕ) → shape_of table c ≡ not_name a → (f : Fact ℕ) → puts_at at c f ≡ true
+      → gives_bearing at table a f ≡ true
+  bearing_there c sh (Has x d) h =
+      let t = and_parts (x == at) (d == c) h in
+      and_from (x == at) (is_complement table a d || has_complement table a (union_parts (shape_of table d))) t.0
+      (or_left (is_complement table a d) (has_complement table a (union_parts (shape_of table d)))
+      (ap (is_complement table a) (eqb-true d c t.1) ∙ complement_is at table a c sh))
+  bearing_there c sh (Edge r x y) h = h
+  bearing_there c sh (Apart y z) h = h
+  bearing_there c sh (Same y z) h = h
+
+  bearing_in_union : (c d : ℕ) (parts : List ℕ) → shape_of table d ≡ union parts → Contains parts c
+      → shape_of table c ≡ not_name a → (f : Fact ℕ) → puts_at at d f ≡ true → gives_bearing at table a f ≡ true
+  bearing_in_union c d parts is part sh (Has x e) h =
+      let t = and_parts (x == at) (e == d) h in
+      let has : has_complement table a (union_parts (shape_of table e)) ≡ true =
+      ap (λ (n : ℕ). has_complement table a (union_parts (shape_of table n))) (eqb-true e d t.1)
+      ∙ ap (λ (s : Shape). has_complement table a (union_parts s)) is
+      ∙ any_at (is_complement table a) parts c part (complement_is at table a c sh) in
+      and_from (x == at) (is_complement table a e || has_complement table a (union_parts (shape_of table e))) t.0
+      (or_right (is_complement table a e) (has_complement table a (union_parts (shape_of table e))) has)
+  bearing_in_union c d parts is part sh (Edge r x y) h = h
+  bearing_in_union c d parts is part sh (Apart y z) h = h
+  bearing_in_union c d parts is part sh (Same y z) h = h
+
+  -- the complement bears on the node where it was put there at all
+  bearing_is : (f : Fact ℕ) → gives_bearing at table a f ≡ true → gives_complement at table a f ≡ true
+  bearing_is (Has x c) h =
+      let p = is_complement table a c in
+      let q = has_complement table a (union_parts (shape_of table c)) in
+      let t = and_parts (x == at) (p || q) h in
+      elim (or_cases p q t.1) [
+        | inl one ↦ or_left p (x == at && q) one
+        | inr other ↦ or_right p (x == at && q) (and_from (x == at) q t.0 other)
+      ]
+  bearing_is (Edge r x y) h = h
+  bearing_is (Apart y z) h = h
+  bearing_is (Same y z) h = h
+
+  module _ (run : List (List Item)) (no_class : was_ever (gives_class at table a) run ≡ false)
+      (no_bearing : was_ever (gives_bearing at table a) run ≡ false) where
+    leaves_out : All (SetsApart first at table run a) run → LeavesOut first at table run a
+    leaves_out apart = record {
+      class_is_not_there = λ c ever sh. (let k =
+          ever_more (puts_at at c) (gives_class at table a) (gives_there at table a c sh) run ever in
+          cc);
+      unions_there_lack_complement = λ c d parts ever is part sh. (let k =
+          ever_more (puts_at at c) (gives_bearing at table a) (bearing_in_union d c parts is part sh) run ever in
+          cc);
+      complement_is_not_there = λ c ever sh. (let k =
+          ever_more (puts_at at c) (gives_bearing at table a) (bearing_there c sh) run ever in
+          cc);
+      complement_is_apart = apart;
+    }
+
+  -- the complement was put nowhere
+  nowhere : (run : List (List Item)) → was_ever (gives_complement at table a) run ≡ false
+      → All (SetsApart first at table run a) run
+  nowhere run none k d lt x c high put sh =
+      absurd (let ever =
+      ever_at (gives_complement at table a) run k d lt
+      (any_more (puts_at x c) (gives_complement at table a) (gives_where x c sh) (facts_of (get_or run k d)) put) in
+      cc)
+    where
+      gives_where : (x c : ℕ) → shape_of table c ≡ not_name a → (f : Fact ℕ) → puts_at x c f ≡ true
+          → gives_complement at table a f ≡ true
+      gives_where x c sh (Has y d) h =
+          gives_anywhere at table a c sh (Has y d) (and_parts (y == x) (d == c) h).1
+      gives_where x c sh (Edge r y z) h = h
+      gives_where x c sh (Apart y z) h = h
+      gives_where x c sh (Same y z) h = h
+
+  -- where it was put, other nodes are told apart
+  elsewhere : (run : List (List Item)) (s : SeenSets) → at < first → IsToldApart first at table run s
+      → a < s.bearing.limit
+      → holds s.bearing a ≡ false → All (SetsApart first at table run a) run
+  elsewhere run s is_first told lt out k d short x c high put sh =
+      let trail = get_or run k d in
+      let own =
+      told_now first at table s trail (told.each k d short) x c a high
+      (λ e. absurd (omega (arith, e, high, is_first))) lt put sh out in
+      record {
+        concept = own.concept;
+        holds = own.holds_it;
+        is_never_there =
+            sym (told.there own.concept own.is_within) ∙ told.are_own own.concept own.is_within own.is_own;
+        is_not_top = own.is_not_top;
+        is_another = own.is_another;
+      }
+
+left_out : (s : SearchState) (run : HasRun s) (a : ℕ) → (question_of s).at < (context_of s).first
+    → a < length s.rules.ontology.classes → LeavesClassOut s a
+    → LeavesOut (context_of s).first (question_of s).at s.rules.table (trail_of s ∷ run.earlier) a
+left_out s run a is_first lt out =
+    let first = (context_of s).first in
     let at = (question_of s).at in
     let table = s.rules.table in
     let count = length s.rules.ontology.classes in
     let all = trail_of s ∷ run.earlier in
-    let unseen = or_parts (holds s.seen.at_node a) (holds s.seen.complements a) out.is_unseen in
+    let unseen = or_parts (holds s.seen.at_node a) (holds (counted s.seen) a) out.is_unseen in
     let whole : room_for count s.query.on s.not_sup ≡ count = room_is count s out.asks_for_any in
     let node_lt : a < s.seen.at_node.limit = omega (arith, lt, whole, run.are_over.node_limit) in
     let complements_lt : a < s.seen.complements.limit = omega (arith, lt, whole, run.are_over.complements_limit) in
     let no_class : was_ever (gives_class at table a) all ≡ false = sym (run.are_seen.at_node a node_lt) ∙ unseen.0 in
-    let no_complement : was_ever (gives_complement at table a) all ≡ false =
-    sym (run.are_seen.complements a complements_lt) ∙ unseen.1 in
-    record {
-      class_is_not_there =
-          λ c ever sh. (let k =
-          ever_more (puts_at at c) (gives_class at table a) (gives_there at table a c sh) all ever in
-          cc);
-      unions_there_lack_complement = λ c d parts ever is part sh.
-          (let k =
-          ever_more (puts_at at c) (gives_complement at table a) (gives_in_union at table a d c parts is part sh) all
-          ever in
-          cc);
-      complement_is_never_put =
-          λ c ever sh. (let k =
-          ever_more (puts c) (gives_complement at table a) (gives_anywhere at table a c sh) all ever in
-          cc);
-    }
+    elim (cases_Bool s.seen.tells_apart) [
+      | inl tells ↦
+          let told = run.told_apart tells in
+          let bearing_lt : a < s.seen.bearing.limit = omega (arith, node_lt, told.limit) in
+          let none : holds s.seen.bearing a ≡ false =
+          sym (ap (λ (b : Bool). holds (cond b s.seen.bearing s.seen.complements) a) tells) ∙ unseen.1 in
+          leaves_out first at table a all no_class
+          (false_from_ne_true (was_ever (gives_bearing at table a) all)
+          (λ ever. (let k = told.bearing a bearing_lt ever in cc)))
+          (elsewhere first at table a all s.seen is_first told bearing_lt none)
+      | inr not_told ↦
+          let none : holds s.seen.complements a ≡ false =
+          sym (ap (λ (b : Bool). holds (cond b s.seen.bearing s.seen.complements) a) not_told) ∙ unseen.1 in
+          let no_complement : was_ever (gives_complement at table a) all ≡ false =
+          sym (run.are_seen.complements a complements_lt) ∙ none in
+          leaves_out first at table a all no_class
+          (false_from_ne_true (was_ever (gives_bearing at table a) all) (λ ever.
+          (let k = ever_more (gives_bearing at table a) (gives_complement at table a) (bearing_is first at table a) all ever in
+          cc)))
+          (nowhere first at table a all no_complement)
+    ]
 
 -- the query for a class asks the same of the same node, and more
 asks_more : (s : SearchState) (a : ℕ) → AsksForAny s → (k : ℕ)
@@ -189,7 +282,7 @@ module _ (s : SearchState) (a : ℕ) (limit : IsInLimit s.rules.ontology s.query
       numbers.sub_is
       (subst (λ (n : ℕ). IsRun (context_of s) (start asked.at s.sub n) (trail_of s ∷ run.earlier))
       out.asks_for_any.sub_alone run.is_run)
-      run.counted model.is_saturated (left_out s run a lt out))
+      run.counted model.is_saturated (left_out s run a reached.at_first lt out))
 
   shown_apart : IsShownApart s a
   shown_apart = record {

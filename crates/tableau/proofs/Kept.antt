@@ -16,7 +16,7 @@ use Rattle.tableau_specs.specs.declared.Item.{Item}
 use Rattle.search_state.specs.Entry.{Entry}
 use Rattle.search_state.specs.Trail.{items_of, facts_in}
 use Rattle.search_laws.specs.Runs.{IsRun}
-use Rattle.tableau.specs.Seen.{SeenSets, AreOver, AreSeenIn}
+use Rattle.tableau.specs.Seen.{SeenSets, AreOver, AreSeenIn, IsToldApart}
 use Rattle.search_rules.specs.RuleLists.{RuleLists, IsReady, AreNumbersOf, numbers_in, theory_in, context_in}
 use Rattle.search_state.specs.Progress.{ProgressLists, asked_of, asked_by, IsAsked, IsStanding, IsSearching, HasMoved}
 use Rattle.search_state.specs.Stepping.{HasBegun, IsClosed, IsStepped, IsRested, IsSameButBlocks, HasFollowed}
@@ -33,16 +33,17 @@ use Rattle.tableau.specs.declared.search.Event.TheVariants.{Moved, Saturated, Cl
 use Rattle.tableau.specs.declared.search.End.{End}
 use Rattle.tableau.specs.declared.search.End.TheVariants.{Saturated as RunSaturated, Closed as RunClosed}
 use Rattle.tableau.specs.declared.search.End.TheVariants.{Lost as RunLost, Spent}
-use Rattle.tableau.specs.Inside.{IsProgressOf, IsKept, IsAtQuestion, IsClosing, HasClosed, IsAdvanced, HasNotedNew}
+use Rattle.tableau.specs.Inside.{IsProgressOf, IsKept, IsAtQuestion, IsClosing, HasClosed, IsAdvanced, HasNotedNew, HasToldNew}
 use Rattle.tableau.specs.Inside.{IsAdvancedElsewhere, IsNotedElsewhere, goes_on_elsewhere, closing_event, closing_end}
 use Rattle.tableau.specs.Inside.{end_by}
 use Rattle.tableau.specs.Beginning.{IsIdle, IsEventElsewhere}
 use Rattle.tableau.specs.Inside.{HasLost, IsClosedBy, IsNotedAfter, IsSettled, IsHalted, goes_on, is_spent}
 use Rattle.tableau.proofs.Reached.{standing_is_reached}
 use Rattle.tableau.proofs.Noted.{over_after, seen_after}
+use Rattle.tableau.proofs.Told.{told_after}
 
 -- what is asked over the axioms of the rules' set
-abbrev asked : RuleLists → Query → Question
+abbrev pub asked : RuleLists → Query → Question
 asked rules query = question_in rules.ontology (numbers_in rules) query
 
 abbrev pub state : RuleLists → Query → ℕ → ℕ → ProgressLists → SeenSets → ℕ → Bool → Bool → Bool → SearchState
@@ -132,13 +133,22 @@ pub begun_is_kept : (rules : RuleLists) (query : Query) (sub not_sup : ℕ) (p :
     → p.at ≡ (asked rules query).at → p.sub ≡ sub → p.not_sup ≡ not_sup
     → AreOver (room_for (length rules.ontology.classes) query.on not_sup) seen
     → AreSeenIn (asked rules query).at rules.table (items_of p.entries ∷ []) seen
+    → (seen.tells_apart ≡ true
+    → IsToldApart (context_in rules).first (asked rules query).at rules.table (items_of p.entries ∷ []) seen)
     → IsKept (state rules query sub not_sup p seen 0 false false false) p
-begun_is_kept rules query sub not_sup p seen limit set numbers h q at_is s n over seen_is =
+begun_is_kept rules query sub not_sup p seen limit set numbers h q at_is s n over seen_is told =
     let first : items_of p.entries ≡ start (asked rules query).at sub not_sup =
     h.trail_is ∙ (λ i. start (at_is i) (s i) (n i)) in
     searching_is_kept rules query sub not_sup p seen 0 false q at_is h.no_steps h.from_nothing limit set numbers s n
     h.is_searching false false
-    (record { earlier = []; is_run = first; counted = refl; are_over = over; are_seen = seen_is })
+    (record {
+      earlier = [];
+      is_run = first;
+      counted = refl;
+      are_over = over;
+      are_seen = seen_is;
+      told_apart = told;
+    })
 
 -- ---- closing
 
@@ -408,6 +418,14 @@ module _ (rules : RuleLists) (query : Query) (sub not_sup : ℕ) (p p' : Progres
               (sym entries)
               (subst (AreSeenIn (asked rules query).at rules.table (items_of p.entries ∷ run.earlier)) (sym seen_is)
               run.are_seen);
+          told_apart = λ tells.
+              let was = run.told_apart (ap (λ (u : SeenSets). u.tells_apart) (sym seen_is) ∙ tells) in
+              subst
+              (λ (es : List Entry). IsToldApart w.first (asked rules query).at rules.table (items_of es ∷ run.earlier)
+              seen')
+              (sym entries)
+              (subst (IsToldApart w.first (asked rules query).at rules.table (items_of p.entries ∷ run.earlier))
+              (sym seen_is) was);
         }
 
     stays_kept : p'.entries ≡ p.entries → p'.first ≡ p.first
@@ -451,10 +469,18 @@ module _ (rules : RuleLists) (query : Query) (sub not_sup : ℕ) (p p' : Progres
 
     -- a trail that has moved on
     moved_kept : HasMoved (context_in rules) p p' → IsSearching (context_in rules) p'
-        → HasNotedNew rules p.at (length p.entries) p'.entries seen seen' → steps' ≡ p'.steps → (goes : Bool)
+        → HasNotedNew rules p.at (length p.entries) p'.entries seen seen'
+        → HasToldNew rules p'.first p.at (length p.entries) p'.entries seen seen' → steps' ≡ p'.steps → (goes : Bool)
         → IsKept (now goes) p'
-    moved_kept moved h noted counts goes =
+    moved_kept moved h noted told counts goes =
         let is = progress_is in
+        let at = (asked rules query).at in
+        let first = (context_in rules).first in
+        let noted_there : HasNotedNew rules at (length p.entries) p'.entries seen seen' =
+        subst (λ (x : ℕ). HasNotedNew rules x (length p.entries) p'.entries seen seen') is.at noted in
+        let told_there : HasToldNew rules first at (length p.entries) p'.entries seen seen' =
+        subst (λ (n : ℕ). HasToldNew rules n at (length p.entries) p'.entries seen seen') h.standing.first_is
+        (subst (λ (x : ℕ). HasToldNew rules p'.first x (length p.entries) p'.entries seen seen') is.at told) in
         let run = kept.has_run whole in
         searching_is_kept rules query sub not_sup p' seen' steps' behind (moved.same.query ∙ is.query)
         (moved.same.at ∙ is.at) (sym counts) (moved.same.behind ∙ is.behind) kept.in_limit kept.set kept.numbers
@@ -468,14 +494,15 @@ module _ (rules : RuleLists) (query : Query) (sub not_sup : ℕ) (p p' : Progres
               over_after (room_for (length rules.ontology.classes) query.on not_sup) rules p.at (length p.entries)
               p'.entries seen seen' run.are_over noted;
           are_seen =
-              seen_after rules (asked rules query).at p.entries p'.entries run.earlier seen seen' moved.is_legal
-              run.are_seen
-              (subst (λ (x : ℕ). HasNotedNew rules x (length p.entries) p'.entries seen seen') is.at noted);
+              seen_after rules at p.entries p'.entries run.earlier seen seen' moved.is_legal run.are_seen noted_there;
+          told_apart =
+              told_after rules first at p.entries p'.entries run.earlier seen seen' moved.is_legal noted_there told_there
+              run.told_apart;
         })
 
     pub stepped_kept : (e : Event) → IsAdvanced rules p p' e → IsNotedAfter rules p p' seen seen' e → steps' ≡ p'.steps
         → (goes : Bool) → goes ≡ goes_on e → IsKept (now goes) p'
-    stepped_kept Moved h noted counts goes is = moved_kept h.0 h.1 noted counts goes
+    stepped_kept Moved h noted counts goes is = moved_kept h.0 h.1 noted.0 noted.1 counts goes
     stepped_kept Saturated h noted counts goes is =
         stays_kept (ap (λ (q : ProgressLists). q.entries) h.0.same) (ap (λ (q : ProgressLists). q.first) h.0.same)
         (followed_first p p' h.0) noted (counts ∙ ap (λ (q : ProgressLists). q.steps) h.0.same ∙ progress_is.steps) goes

@@ -1,9 +1,11 @@
 pub mod Sets
 pub mod Left
 pub mod Noting
+pub mod Telling
 pub mod Names
 pub mod Reached
 pub mod Noted
+pub mod Told
 pub mod NotedBehind
 pub mod Kept
 pub mod Apart

@@ -23,17 +23,17 @@ use Rattle.tableau.specs.Inside.{HasNotedNew}
 
 -- ---- the start
 
-none_held : (count a : ℕ) → holds (no_classes count) a ≡ false
+pub none_held : (count a : ℕ) → holds (no_classes count) a ≡ false
 none_held count a = set.contains-empty nat_cmp (a + 1)
 
-pub over_at_start : (at : ℕ) (table : List Shape) (fs : List (Fact ℕ)) (count : ℕ) (s : SeenSets)
-    → HasNoted at table fs (nothing_seen count) s → AreOver count s
-over_at_start at table fs count s noted =
+pub over_at_start : (at : ℕ) (table : List Shape) (fs : List (Fact ℕ)) (count concepts : ℕ) (s : SeenSets)
+    → HasNoted at table fs (nothing_seen count concepts) s → AreOver count s
+over_at_start at table fs count concepts s noted =
     record { node_limit = noted.at_node.limit; complements_limit = noted.complements.limit }
 
-pub seen_at_start : (at : ℕ) (table : List Shape) (first : List Item) (count : ℕ) (s : SeenSets)
-    → HasNoted at table (facts_of first) (nothing_seen count) s → AreSeenIn at table (first ∷ []) s
-seen_at_start at table first count s noted = record {
+pub seen_at_start : (at : ℕ) (table : List Shape) (first : List Item) (count concepts : ℕ) (s : SeenSets)
+    → HasNoted at table (facts_of first) (nothing_seen count concepts) s → AreSeenIn at table (first ∷ []) s
+seen_at_start at table first count concepts s noted = record {
   at_node = λ a lt.
       let below : a < count = omega (arith, lt, noted.at_node.limit) in
       noted.at_node.held a below
@@ -54,7 +54,7 @@ over_after count rules at before new s s' over noted = record {
   complements_limit = noted.complements.limit ∙ over.complements_limit;
 }
 
-still_ever : (p : Fact ℕ → Bool) (place : ℕ) (w : SearchContext) (old new : List Item) (earlier : List (List Item))
+pub still_ever : (p : Fact ℕ → Bool) (place : ℕ) (w : SearchContext) (old new : List Item) (earlier : List (List Item))
     (held held' : Bool)
     → IsLegal w old new → place ≤ length old → place ≤ length new - 1
     → held ≡ was_ever p (old ∷ earlier) → held' ≡ (list_any p (facts_of (drop place new)) || held)

@@ -394,10 +394,11 @@ module _ (rules : RuleLists) (query : Query) (sub not_sup : ℕ) (b : BeginningL
   pub record AreNotedBehind : Type 0 where
     pub are_over : AreOver (room_for count query.on not_sup) seen
     pub are_seen : AreSeenIn at rules.table run seen
+    pub not_apart : seen.tells_apart ≡ false
 
   noted_all : eqb not_sup 0 ≡ true → HasNoted at rules.table (Has at sub ∷ Has at not_sup ∷ []) b.seen seen
-      → AreNotedBehind
-  noted_all zero noted =
+      → seen.tells_apart ≡ false → AreNotedBehind
+  noted_all zero noted untold =
       let room : room_for count query.on not_sup ≡ count =
       (λ i. room_for count (any_is query.on on i) (eqb-true not_sup 0 zero i)) in
       record {
@@ -406,6 +407,7 @@ module _ (rules : RuleLists) (query : Query) (sub not_sup : ℕ) (b : BeginningL
           complements_limit = noted.complements.limit ∙ serves.are_over.complements_limit ∙ sym room;
         };
         are_seen = held.are_seen seen noted;
+        not_apart = untold;
       }
 
   noted_none : eqb not_sup 0 ≡ false → seen ≡ nothing_known → AreNotedBehind
@@ -422,6 +424,7 @@ module _ (rules : RuleLists) (query : Query) (sub not_sup : ℕ) (b : BeginningL
           complements = λ a lt. absurd (omega (arith, lt, ap (λ (t : SeenSets). t.complements.limit) is));
           bare = λ still. (let k = ap (λ (t : SeenSets). t.bare) is in absurd (cc));
         };
+        not_apart = ap (λ (t : SeenSets). t.tells_apart) is;
       }
     where
       and_no : (t : Bool) → (t && false) ≡ false
@@ -429,9 +432,9 @@ module _ (rules : RuleLists) (query : Query) (sub not_sup : ℕ) (b : BeginningL
       and_no false = refl
 
   noted_behind : (eqb not_sup 0 ≡ true → HasNoted at rules.table (Has at sub ∷ Has at not_sup ∷ []) b.seen seen)
-      → (eqb not_sup 0 ≡ false → seen ≡ nothing_known) → AreNotedBehind
-  noted_behind noted none = elim (cases_Bool (eqb not_sup 0)) [
-    | inl zero ↦ noted_all zero (noted zero)
+      → (eqb not_sup 0 ≡ false → seen ≡ nothing_known) → seen.tells_apart ≡ false → AreNotedBehind
+  noted_behind noted none untold = elim (cases_Bool (eqb not_sup 0)) [
+    | inl zero ↦ noted_all zero (noted zero) untold
     | inr other ↦ noted_none other (none other)
   ]
 
@@ -458,6 +461,7 @@ kept_behind rules query sub not_sup b p seen limit set numbers serves h q at_is 
       counted = held.counted;
       are_over = noted.are_over;
       are_seen = subst (λ (t : List Item). AreSeenIn at rules.table (t ∷ held.before) seen) (sym trail) noted.are_seen;
+      told_apart = λ tells. (let k = noted.not_apart in absurd (cc));
     })
 
 -- where the parts of a search that goes on are made
@@ -500,4 +504,4 @@ module _ (rules : RuleLists) (query : Query) (sub not_sup at : ℕ) (b : Beginni
       (subst (λ (is : List Item). IsBehind (context_in rules) is b.steps p) rest_is h) q (p_at ∙ at_is) s n on
       held_there
       (noted_behind rules query sub not_sup b serves on (asked_at rules query) held_there seen there.noted
-      there.nothing)
+      there.nothing there.not_apart)

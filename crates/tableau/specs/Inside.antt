@@ -8,7 +8,7 @@ use Rattle.tableau_specs.specs.Steps.{IsLegal, IsSaturated, HasClash}
 use Rattle.tableau_specs.specs.Items.{facts_of}
 use Rattle.search_state.specs.Entry.{Entry}
 use Rattle.search_state.specs.Trail.{items_of, facts_in}
-use Rattle.tableau.specs.Seen.{SeenSets, HasNoted}
+use Rattle.tableau.specs.Seen.{SeenSets, HasNoted, HasTold}
 use Rattle.closed_search.specs.Leaves.{leaves}
 use Rattle.closed_search.specs.Noted.{start_of}
 use Rattle.closed_search.specs.Trace.{begun}
@@ -125,9 +125,16 @@ abbrev pub HasNotedNew : RuleLists → ℕ → ℕ → List Entry → SeenSets �
 HasNotedNew rules at before entries old new =
     HasNoted at rules.table (facts_of (drop (min before (length entries - 1)) (items_of entries))) old new
 
+-- and what tells other nodes apart, in a tree with so many first nodes
+abbrev pub HasToldNew : RuleLists → ℕ → ℕ → ℕ → List Entry → SeenSets → SeenSets → Type 0
+HasToldNew rules first at before entries old new =
+    HasTold first at rules.table (facts_in entries)
+    (facts_of (drop (min before (length entries - 1)) (items_of entries))) old new
+
 -- what is noted of the classes that a search has to do with, after each event
 abbrev pub IsNotedAfter : RuleLists → ProgressLists → ProgressLists → SeenSets → SeenSets → Event → Type 0
 IsNotedAfter rules p q old new Moved = HasNotedNew rules p.at (length p.entries) q.entries old new
+    × HasToldNew rules q.first p.at (length p.entries) q.entries old new
 IsNotedAfter rules p q old new Saturated = new ≡ old
 IsNotedAfter rules p q old new (Closed r) = new ≡ old
 IsNotedAfter rules p q old new Lost = new ≡ old

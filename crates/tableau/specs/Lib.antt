@@ -1,4 +1,5 @@
 pub mod Seen
+pub mod Telling
 pub mod SearchState
 pub mod Steps
 pub mod Beginning

@@ -13,7 +13,7 @@ use Rattle.search_state.specs.Trail.{TreeEntries, items_of, facts_in}
 use Rattle.search_state.specs.Followed.{Printed, IsCurrent}
 use Rattle.search_rules.specs.RuleLists.{RuleLists, numbers_in, context_in}
 use Rattle.search_laws.specs.Runs.{IsRun}
-use Rattle.tableau.specs.Seen.{SeenSets, AreOver, AreSeenIn}
+use Rattle.tableau.specs.Seen.{SeenSets, AreOver, AreSeenIn, IsToldApart}
 
 -- the rules and the query, the numbers of what the query asks, how many first nodes there are, the entries of the
 -- trail, what is known of blocked nodes, the classes with which its run had to do, how many steps were made, whether
@@ -74,6 +74,8 @@ pub record HasRun (s : SearchState) : Type 0 where
   pub counted : length earlier ≡ s.steps
   pub are_over : AreOver (room_for (length s.rules.ontology.classes) s.query.on s.not_sup) s.seen
   pub are_seen : AreSeenIn (question_of s).at s.rules.table (trail_of s ∷ earlier) s.seen
+  pub told_apart : s.seen.tells_apart ≡ true
+      → IsToldApart (context_of s).first (question_of s).at s.rules.table (trail_of s ∷ earlier) s.seen
 
 -- a search that begins
 pub record HasBegun (rules : RuleLists) (query : Query) (sub not_sup : ℕ) (s : SearchState) : Type 0 where

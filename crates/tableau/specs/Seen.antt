@@ -1,5 +1,6 @@
 -- With which classes the run of a search has had to do.
-use Rattle.std.specs.Prelude.{◌≡◌, ℕ, ◌+◌, ◌<◌, ◌==◌, ◌&&◌, ◌||◌, not, Bool, true, false, List, [], Option, Some, None}
+use Rattle.std.specs.Prelude.{◌≡◌, ℕ, ◌+◌, ◌<◌, ◌≤◌, ◌==◌, ◌&&◌, ◌||◌, not, Bool, true, false, List, [], ◌∷◌, ◌++◌}
+use Rattle.std.specs.Prelude.{Option, Some, None, All, if◌then◌else◌}
 use Rattle.std.specs.List.{list_any}
 use Rattle.std.specs.FinSet as set
 use Rattle.axiom_sets.specs.Sets.{Limited}
@@ -8,19 +9,27 @@ use Rattle.calculus_specs.specs.Shape.Shape.{top, bottom, name, not_name, inters
 use Rattle.calculus_specs.specs.Shape.Shape.{at_least, at_most}
 use Rattle.calculus_specs.specs.declared.facts.Fact.{Fact}
 use Rattle.calculus_specs.specs.declared.facts.Fact.TheVariants.{Has, Edge, Apart, Same}
+use Rattle.calculus_specs.specs.State.{has}
 use Rattle.tableau_specs.specs.declared.Item.{Item}
-use Rattle.search_laws.specs.Runs.{was_ever}
+use Rattle.tableau_specs.specs.declared.Item.TheVariants.{Fact as Says, Mark}
+use Rattle.search_laws.specs.Runs.{was_ever, puts_at}
 
--- sets of classes: those that the node in question was given, and those whose complement bears on it: the complement
+-- Sets of classes: those that the node in question was given, and those whose complement bears on it: the complement
 -- was given to some node, or is a part of a union that the node in question was given. Class numbers begin at 0 and
--- members at 1, so class a stands in a set as a + 1. And whether it is known that the node in question was given no
--- more than top
+-- members at 1, so class a stands in a set as a + 1. Of the latter classes, those that bear on it even where other nodes
+-- that were given a complement are told apart from it. These are told apart by concepts of their own, which stand in a
+-- set as classes do, and in another set stand the concepts that the node in question was given. And whether it is known
+-- that it was given none of the former, and whether it is known that it was given no more than top
 pub record SeenSets : Type 0 where
   pub at_node : Limited
   pub complements : Limited
+  pub bearing : Limited
+  pub own : Limited
+  pub there : Limited
+  pub tells_apart : Bool
   pub bare : Bool
 
--- the class is noted
+-- the class is noted, or the concept
 abbrev pub holds : Limited → ℕ → Bool
 holds s a = set.contains s.members (a + 1)
 
@@ -28,13 +37,29 @@ holds s a = set.contains s.members (a + 1)
 abbrev pub no_classes : ℕ → Limited
 no_classes count = record { limit = count; members = set.empty }
 
--- nothing is noted of classes yet
-abbrev pub nothing_seen : ℕ → SeenSets
-nothing_seen count = record { at_node = no_classes count; complements = no_classes count; bare = true }
+-- nothing is noted yet of so many classes and so many concepts
+abbrev pub nothing_seen : ℕ → ℕ → SeenSets
+nothing_seen count concepts = record {
+  at_node = no_classes count;
+  complements = no_classes count;
+  bearing = no_classes count;
+  own = no_classes concepts;
+  there = no_classes concepts;
+  tells_apart = true;
+  bare = true;
+}
 
 -- nothing is kept, and nothing known
 abbrev pub nothing_known : SeenSets
-nothing_known = record { at_node = no_classes 0; complements = no_classes 0; bare = false }
+nothing_known = record {
+  at_node = no_classes 0;
+  complements = no_classes 0;
+  bearing = no_classes 0;
+  own = no_classes 0;
+  there = no_classes 0;
+  tells_apart = false;
+  bare = false;
+}
 
 -- the sets are of classes below a count
 pub record AreOver (count : ℕ) (s : SeenSets) : Type 0 where
@@ -110,6 +135,14 @@ gives_complement at table a (Edge r x y) = false
 gives_complement at table a (Apart y z) = false
 gives_complement at table a (Same y z) = false
 
+-- whether the fact gives the node `at` the complement of class a, or a union of which that is a part
+abbrev pub gives_bearing : ℕ → List Shape → ℕ → Fact ℕ → Bool
+gives_bearing at table a (Has x c) =
+    x == at && (is_complement table a c || has_complement table a (union_parts (shape_of table c)))
+gives_bearing at table a (Edge r x y) = false
+gives_bearing at table a (Apart y z) = false
+gives_bearing at table a (Same y z) = false
+
 -- whether the fact gives the node `at` more than top, which is number 0
 abbrev pub gives_more : ℕ → Fact ℕ → Bool
 gives_more at (Has x c) = x == at && not (c == 0)
@@ -137,6 +170,63 @@ pub record AreSeenIn (at : ℕ) (table : List Shape) (run : List (List Item)) (s
       → holds s.complements a ≡ was_ever (gives_complement at table a) run
   pub bare : s.bare ≡ true → was_ever (gives_more at) run ≡ false
 
+-- ---- other nodes that are told apart
+
+-- by the facts node x has a concept besides c and top that is noted as the own concept of some node
+pub record HasOwn (s : SeenSets) (fs : List (Fact ℕ)) (x c : ℕ) : Type 0 where
+  pub concept : ℕ
+  pub holds_it : has fs x concept ≡ true
+  pub is_own : holds s.own concept ≡ true
+  pub is_within : concept < s.there.limit
+  pub is_not_top : ¬ (concept ≡ 0)
+  pub is_another : ¬ (concept ≡ c)
+
+-- where some of the facts give the complement of a class to another node than `at` that is no first one, this node has
+-- an own concept by all of them, or the class is noted as one that bears on `at`
+abbrev pub AreToldBy : ℕ → ℕ → List Shape → List (Fact ℕ) → List (Fact ℕ) → SeenSets → Type 0
+AreToldBy first at table all some s =
+    (x c a : ℕ) → first ≤ x → ¬ (x ≡ at) → a < s.bearing.limit → list_any (puts_at x c) some ≡ true
+    → shape_of table c ≡ not_name a → holds s.bearing a ≡ false → HasOwn s all x c
+
+-- the same of the facts of a trail, and of those before each of its marks, to which the search may go back
+abbrev pub AreToldFrom : ℕ → ℕ → List Shape → SeenSets → List (Fact ℕ) → List Item → Type 0
+AreToldFrom first at table s fs [] = AreToldBy first at table fs fs s
+AreToldFrom first at table s fs (Says f ∷ items) = AreToldFrom first at table s (fs ++ f ∷ []) items
+AreToldFrom first at table s fs (Mark c ∷ items) =
+    AreToldBy first at table fs fs s × AreToldFrom first at table s fs items
+
+abbrev pub AreTold : ℕ → ℕ → List Shape → SeenSets → List Item → Type 0
+AreTold first at table s trail = AreToldFrom first at table s [] trail
+
+-- the node in question was given no own concept of another node
+abbrev pub AreOwn : SeenSets → Type 0
+AreOwn s = (c : ℕ) → c < s.there.limit → holds s.own c ≡ true → holds s.there c ≡ false
+
+-- what is known of a run where other nodes are told apart from the node in question: the classes that bear on it
+-- are noted, just the concepts that it was given, as far as the set reaches, and own concepts of other nodes
+pub record IsToldApart (first at : ℕ) (table : List Shape) (run : List (List Item)) (s : SeenSets) : Type 0 where
+  pub limit : s.bearing.limit ≡ s.at_node.limit
+  pub bearing : (a : ℕ) → a < s.bearing.limit → was_ever (gives_bearing at table a) run ≡ true
+      → holds s.bearing a ≡ true
+  pub there : (c : ℕ) → c < s.there.limit → holds s.there c ≡ was_ever (puts_at at c) run
+  pub are_own : AreOwn s
+  pub each : All (AreTold first at table s) run
+
+-- some of all facts are noted by these sets
+pub record HasTold (first at : ℕ) (table : List Shape) (all some : List (Fact ℕ)) (old new : SeenSets) : Type 0 where
+  pub before : new.tells_apart ≡ true → old.tells_apart ≡ true
+  pub limit : new.bearing.limit ≡ old.bearing.limit
+  pub bearing : (a : ℕ) → a < old.bearing.limit
+      → (list_any (gives_bearing at table a) some || holds old.bearing a) ≡ true → holds new.bearing a ≡ true
+  pub there : HasGained (λ c. list_any (puts_at at c) some) old.there new.there
+  pub own : (c : ℕ) → c < old.there.limit → holds old.own c ≡ true → holds new.own c ≡ true
+  pub are_own : new.tells_apart ≡ true → AreOwn old → AreOwn new
+  pub told : AreToldBy first at table all some new
+
+-- the classes that count as those whose complement bears on the node in question
+abbrev pub counted : SeenSets → Limited
+counted s = if s.tells_apart then s.bearing else s.complements
+
 -- whether the run has had to do with class a
 abbrev pub has_seen : SeenSets → ℕ → Bool
-has_seen s a = holds s.at_node a || holds s.complements a
+has_seen s a = holds s.at_node a || holds (counted s) a

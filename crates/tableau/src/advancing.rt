@@ -5,7 +5,7 @@ ghost use Rattle.search_state.specs.Trail.{facts_in};
 ghost use Rattle.search_rules.specs.RuleLists.{context_in};
 ghost use Rattle.search_state.specs.Followed.{IsCurrent};
 ghost use Rattle.search_state.specs.Progress.{IsSearching};
-ghost use Rattle.tableau.specs.Inside.{IsAtQuestion, IsAdvanced, IsNotedAfter, HasNotedNew, IsSettled, goes_on};
+ghost use Rattle.tableau.specs.Inside.{IsAtQuestion, IsAdvanced, IsNotedAfter, HasNotedNew, IsSettled, goes_on, HasToldNew};
 ghost use Rattle.tableau.specs.Inside.{IsAdvancedElsewhere, IsNotedElsewhere};
 
 use crate::NoMemory;
@@ -108,7 +108,8 @@ fn note_new<A: Allocator + Copy>(
     at: u32,
     before: u32,
 )
-    ensures { HasNotedNew rules.now at before tree.now.entries seen.old seen.new }
+    ensures noted { HasNotedNew rules.now at before tree.now.entries seen.old seen.new }
+    ensures told { HasToldNew rules.now tree.now.first at before tree.now.entries seen.old seen.new }
 {
     let last = tree.len().saturating_sub(1);
     seen.note(rules, tree, at, before.min(last));

@@ -1,11 +1,12 @@
 // The search.
 ghost use Rattle.std.specs.Prelude.{◌≡◌, ◌+◌, ◌<◌, ◌≤◌, ◌^◌, [], ◌∷◌, true, false, IsTrue, ◌||◌, IfOk, OnOk, OnErr};
 ghost use Rattle.std.specs.Prelude.{length};
-ghost use Rattle.std.specs.Prelude.{IsSome};
+ghost use Rattle.std.specs.Prelude.{IsSome, ℕ};
+ghost use Rattle.tableau_specs.specs.Reached.{start};
 ghost use Rattle.search_rules.specs.Limits.{IsInLimit};
 ghost use Rattle.search_rules.specs.RuleLists.{AreNumbersOf};
 ghost use Rattle.search_state.specs.Trail.{items_of};
-ghost use Rattle.tableau.specs.Seen.{AreOver, AreSeenIn};
+ghost use Rattle.tableau.specs.Seen.{AreOver, AreSeenIn, IsToldApart};
 ghost use Rattle.tableau.specs.SearchState.{is_any, room_for, context_of, tree_in, IsReachedBy, HasRun, HasBegun};
 ghost use Rattle.tableau.specs.SearchState.{HasAllBlocks, IsSameSearch};
 ghost use Rattle.tableau.specs.SearchState.{question_of, trail_of};
@@ -521,10 +522,19 @@ fn first_seen<A: Allocator + Copy>(
 ) -> Result<SeenClasses, NoMemory>
     ensures over { IfOk result (AreOver room) }
     ensures seen { IfOk result (AreSeenIn at rules.now.table (items_of tree.now.entries ∷ [])) }
+    ensures told { IfOk result (λ s. (node a b : ℕ) → items_of tree.now.entries ≡ start node a b
+        → s.tells_apart ≡ true
+        → IsToldApart tree.now.first at rules.now.table (items_of tree.now.entries ∷ []) s) }
 {
-    let mut seen = SeenClasses::new(heap, room)?;
+    let concepts = concept_room(rules, room);
+    let mut seen = SeenClasses::new(heap, room, concepts)?;
     seen.note(rules, tree, at, 0);
     Ok(seen)
+}
+
+// Of how many concepts is noted which nodes have them: of each where classes are noted.
+fn concept_room(rules: &SearchRules<'_>, room: u32) -> u32 {
+    if room == 0 { 0 } else { rules.concepts().len() }
 }
 
 // Whether the query is on any element.
