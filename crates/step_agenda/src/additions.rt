@@ -1,7 +1,8 @@
 // Concepts that a fact adds.
-ghost use Rattle.std.specs.Prelude.{◌≡◌, ◌<◌, IfSome};
-ghost use Rattle.calculus_specs.specs.State.{node_count_from};
-ghost use Rattle.step_finders.specs.Found.{PlainDue};
+ghost use Rattle.std.specs.Prelude.{◌≡◌, ◌<◌, true, IsTrue, IfSome};
+ghost use Rattle.std.specs.List.{list_all};
+ghost use Rattle.calculus_specs.specs.State.{node_count_from, has as holds};
+ghost use Rattle.step_finders.specs.Found.{PlainDue, NamedDue};
 ghost use Rattle.step_finders.specs.Reasons.{IsAddition};
 
 use crate::nearness::Nearness;
@@ -10,8 +11,8 @@ use blocking::{Item, Tree};
 use calculus_specs::Fact;
 use std::alloc::Allocator;
 use step_finders::{
-    Addition, PlainRow, Reason, Rules, Shape, State, StateWithRules, count_of, find_by_concept,
-    find_by_edge, find_by_name, find_from, find_general,
+    Addition, NamedRow, PlainRow, Reason, Rules, Shape, State, StateWithRules, count_of,
+    find_by_concept, find_by_edge, find_from, find_general,
 };
 
 /// Up to where it was looked for a concept that an entry adds.
@@ -20,8 +21,20 @@ pub(crate) struct Reached {
     /// The first entry that may add more.
     pub(crate) place: u32,
     /// Where that is an edge to a new node: how many of the rows that are used at each node were asked what they give
-    /// that node. Where it is none, what the edge adds otherwise was not looked for.
+    /// that node. Where it gives a concept: how many of the rows that wait for this were asked. Where it is none, what
+    /// the entry adds otherwise was not looked for.
     pub(crate) rows: usize,
+}
+
+/// Which rows that wait for classes are used at first nodes.
+#[derive(Clone, Copy, Debug, PartialEq, Eq)]
+pub(crate) enum WantedRows {
+    /// All.
+    All,
+    /// Those that give no union.
+    NoUnions,
+    /// All, and nothing else is looked for.
+    Alone,
 }
 
 /// The first concept that an entry adds from here on, and up to where it was looked for then. Some entries are passed
@@ -29,6 +42,7 @@ pub(crate) struct Reached {
 pub(crate) fn first_addition<A: Allocator + Copy, S: State, R: Rules>(
     tree: &Tree<A>,
     search: &StateWithRules<'_, S, R>,
+    wanted: WantedRows,
     passed: Passed,
     from: Reached,
 ) -> (Reached, Option<Addition>)
@@ -40,7 +54,7 @@ pub(crate) fn first_addition<A: Allocator + Copy, S: State, R: Rules>(
         if passed.has(place) {
             continue;
         }
-        match addition_at(tree.item(place), search, rows) {
+        match addition_at(tree.item(place), search, wanted, rows) {
             Some((rows, addition)) => return (Reached { place, rows }, Some(addition)),
             None => rows = 0,
         }
@@ -75,11 +89,29 @@ pub(crate) fn first_general<S: State, R: Rules>(
     (to, None)
 }
 
-// What the entry adds, where so many rows that are used at each node were asked what they give the end of its edge; and
-// how many of them were asked then.
+// What the entry adds, where so many rows that are used at each node were asked what they give the end of its edge, or
+// so many of those that wait for its concept; and how many of them were asked then.
 fn addition_at<S: State, R: Rules>(
     item: Item,
     search: &StateWithRules<'_, S, R>,
+    wanted: WantedRows,
+    rows: usize,
+) -> Option<(usize, Addition)>
+    ensures { IfSome result (λ p. IsAddition (R.context search.now.rules.now) (S.facts search.now.state.now)
+        (R.files search.now.rules.now) p.1) }
+{
+    match wanted {
+        WantedRows::All => any_addition_at(item, search, false, rows),
+        WantedRows::NoUnions => any_addition_at(item, search, true, rows),
+        WantedRows::Alone => row_at(item, search, rows),
+    }
+}
+
+// What the entry adds in any way. Rows that give unions may be left out at first nodes.
+fn any_addition_at<S: State, R: Rules>(
+    item: Item,
+    search: &StateWithRules<'_, S, R>,
+    skips_unions: bool,
     rows: usize,
 ) -> Option<(usize, Addition)>
     ensures { IfSome result (λ p. IsAddition (R.context search.now.rules.now) (S.facts search.now.state.now)
@@ -90,12 +122,30 @@ fn addition_at<S: State, R: Rules>(
             by_edge(search, role, search.state.representative(from), to, rows)
         }
         Item::Fact(Fact::Has(node, concept)) => {
-            Some((
-                0,
-                by_concept(search, search.state.representative(node), concept)?,
-            ))
+            let node = search.state.representative(node);
+            by_concept(search, skips_unions, node, concept, rows)
         }
         Item::Fact(Fact::Same(node, _)) => Some((0, at_node(search, node)?)),
+        Item::Fact(Fact::Apart(_, _)) => None,
+        Item::Mark(_) => None,
+    }
+}
+
+// What the entry adds by the rows from this one on that wait for its concept.
+fn row_at<S: State, R: Rules>(
+    item: Item,
+    search: &StateWithRules<'_, S, R>,
+    rows: usize,
+) -> Option<(usize, Addition)>
+    ensures { IfSome result (λ p. IsAddition (R.context search.now.rules.now) (S.facts search.now.state.now)
+        (R.files search.now.rules.now) p.1) }
+{
+    match item {
+        Item::Fact(Fact::Has(node, concept)) => {
+            by_rows(search, search.state.representative(node), concept, rows)
+        }
+        Item::Fact(Fact::Edge(_, _, _)) => None,
+        Item::Fact(Fact::Same(_, _)) => None,
         Item::Fact(Fact::Apart(_, _)) => None,
         Item::Mark(_) => None,
     }
@@ -207,8 +257,8 @@ fn by_universals<S: State, R: Rules>(
 {
     for concept in search.state.label(node) {
         if may_reach(search, *concept, to) {
-            match by_concept(search, node, *concept) {
-                Some(addition) => return Some(addition),
+            match by_concept(search, false, node, *concept, 0) {
+                Some((_, addition)) => return Some(addition),
                 None => {}
             }
         }
@@ -271,20 +321,124 @@ fn at_node<S: State, R: Rules>(search: &StateWithRules<'_, S, R>, node: u32) -> 
     find_from(search, node)
 }
 
-// What a concept of the node adds, by its form or by a row.
+// What a concept of the node adds: by its form, and then by the rows from this one on that wait for it, one behind the
+// other; and how many of these were asked then. Rows that give unions may be left out at first nodes.
 fn by_concept<S: State, R: Rules>(
     search: &StateWithRules<'_, S, R>,
+    skips_unions: bool,
     node: u32,
     concept: u32,
-) -> Option<Addition>
-    ensures { IfSome result (IsAddition (R.context search.now.rules.now) (S.facts search.now.state.now)
-        (R.files search.now.rules.now)) }
+    rows: usize,
+) -> Option<(usize, Addition)>
+    ensures { IfSome result (λ p. IsAddition (R.context search.now.rules.now) (S.facts search.now.state.now)
+        (R.files search.now.rules.now) p.1) }
 {
     if node >= count_of(search) || !search.state.has(node, concept) {
         return None;
     }
-    match find_by_concept(search, node, concept) {
-        Some(addition) => Some(addition),
-        None => find_by_name(search, node, concept),
+    if rows == 0 {
+        match find_by_concept(search, node, concept) {
+            Some(addition) => return Some((0, addition)),
+            None => {}
+        }
     }
+    let skips = skips_unions && node < search.rules.first();
+    by_named(search, skips, node, concept, rows)
+}
+
+// What the rows from this one on that wait for the concept add to the node, where that is one, and how many were asked
+// then.
+fn by_rows<S: State, R: Rules>(
+    search: &StateWithRules<'_, S, R>,
+    node: u32,
+    concept: u32,
+    rows: usize,
+) -> Option<(usize, Addition)>
+    ensures { IfSome result (λ p. IsAddition (R.context search.now.rules.now) (S.facts search.now.state.now)
+        (R.files search.now.rules.now) p.1) }
+{
+    if node >= count_of(search) {
+        return None;
+    }
+    by_named(search, false, node, concept, rows)
+}
+
+// The same of a node, where rows that give unions may be left out.
+fn by_named<S: State, R: Rules>(
+    search: &StateWithRules<'_, S, R>,
+    skips_unions: bool,
+    node: u32,
+    concept: u32,
+    from: usize,
+) -> Option<(usize, Addition)>
+    requires { node < node_count_from (R.context search.now.rules.now).first (S.facts search.now.state.now) }
+    ensures { IfSome result (λ p. IsAddition (R.context search.now.rules.now) (S.facts search.now.state.now)
+        (R.files search.now.rules.now) p.1) }
+{
+    for place in from..search.rules.named(concept).len() {
+        match by_named_at(search, node, concept, place) {
+            Some(addition) => {
+                if !skips_unions || !is_union(search.rules, addition.concept) {
+                    return Some((place + 1, addition));
+                }
+            }
+            None => {}
+        }
+    }
+    None
+}
+
+/// What the row at a place of those that wait for the concept adds to the node.
+pub(crate) fn by_named_at<S: State, R: Rules>(
+    search: &StateWithRules<'_, S, R>,
+    node: u32,
+    concept: u32,
+    place: usize,
+) -> Option<Addition>
+    requires { node < node_count_from (R.context search.now.rules.now).first (S.facts search.now.state.now) }
+    ensures { IfSome result (IsAddition (R.context search.now.rules.now) (S.facts search.now.state.now)
+        (R.files search.now.rules.now)) }
+{
+    search.rules.is_ready();
+    match named_due_at(search.state, node, search.rules.named(concept), place) {
+        Some(gives) => Some(Addition {
+            node,
+            concept: gives,
+            reason: Reason::Named { concept, place },
+        }),
+        None => None,
+    }
+}
+
+// Whether the concept is a union.
+fn is_union<R: Rules>(rules: &R, concept: u32) -> bool {
+    matches!(rules.shape(concept), Shape::Or(_))
+}
+
+// What the row at a place gives the node, where that has all the concepts that the row waits for, and lacks what it
+// gives.
+fn named_due_at<S: State>(state: &S, node: u32, rows: &[NamedRow], place: usize) -> Option<u32>
+    ensures { IfSome result (NamedDue (S.facts state.now) node rows.now place) }
+{
+    if place >= rows.len() {
+        return None;
+    }
+    let row = &rows[place];
+    if state.has(node, row.gives) || !has_all(state, node, row.waits.items()) {
+        None
+    } else {
+        Some(row.gives)
+    }
+}
+
+// Whether the node has each of the concepts.
+fn has_all<S: State>(state: &S, node: u32, concepts: &[u32]) -> bool
+    ensures { IsTrue result → list_all (holds (S.facts state.now) node) concepts.now ≡ true }
+{
+    for concept in concepts {
+        if !state.has(node, *concept) {
+            return false;
+        }
+    }
+    true
 }

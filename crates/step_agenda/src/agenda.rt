@@ -3,8 +3,8 @@ ghost use Rattle.std.specs.Prelude.{◌≡◌, IfOk, IfSome};
 ghost use Rattle.step_finders.specs.Stepping.{IsStep};
 
 use crate::NoMemory;
-use crate::additions::{Reached, first_addition, first_general};
-use crate::branchings::{Wanted, first_branching};
+use crate::additions::{Reached, WantedRows, first_addition, first_general};
+use crate::branchings::{Wanted, first_branching, next_union_of, node_at};
 use crate::forced::first_forced;
 use crate::givings::first_giving;
 use crate::makings::{Held, first_below_first, first_held, first_making};
@@ -14,6 +14,9 @@ use crate::watched::UnionIndex;
 use blocking::{Tree, least_changed};
 use std::alloc::{Allocator, Global};
 use step_finders::{Rules, State, StateWithBlocks, StateWithRules, Step};
+
+// So many choices are made at first nodes before blocks are looked at.
+const FEW_CHOICES: usize = 16;
 
 // Up to which entry of the trail, from 0, a search has looked for each kind of step.
 #[derive(Clone, Copy, Debug, PartialEq, Eq)]
@@ -25,14 +28,22 @@ struct Cursors {
     // Up to which of the first nodes, by nearness, it has looked for what rows add that are used at each node.
     general: usize,
     additions: Reached,
+    // For what rows add that wait for classes, where they were looked at for other concepts than unions.
+    rows: Reached,
     forced: u32,
     pairs: u32,
     // For new nodes below first nodes, and for unions of these.
     first_makings: u32,
     first_unions: u32,
+    // For new nodes below the node in question alone.
+    asked_makings: u32,
     makings: u32,
     unions: u32,
+    // The node of the union that was found last, as its entry has it.
+    union_node: u32,
     mosts: u32,
+    // How many choices had been made when it last looked for all nodes that are to be made, and found none.
+    choices: usize,
     // Nodes that were not clear: those below this one were looked at, as the first so many entries left them.
     touched: u32,
     seen: u32,
@@ -46,13 +57,17 @@ impl Cursors {
             given: 0,
             general: 0,
             additions: Reached { place: 0, rows: 0 },
+            rows: Reached { place: 0, rows: 0 },
             forced: 0,
             pairs: 0,
             first_makings: 0,
             first_unions: 0,
+            asked_makings: 0,
             makings: 0,
             unions: 0,
+            union_node: u32::MAX,
             mosts: 0,
+            choices: 0,
             touched: u32::MAX,
             seen: 0,
         }
@@ -163,8 +178,9 @@ impl Agenda {
 
     /// A step that can be made whatever is blocked, where one is seen at the facts that were not looked at before.
     /// These are the phases of a look, in their order; the first step that one of them finds is taken, of each the
-    /// oldest. Given facts that are not near the node in question come after what follows from those that are; where
-    /// none is near, all of them come behind all other phases.
+    /// oldest. Given facts that are not near the node in question come after what follows from those that are, and rows
+    /// that give individuals unions behind all of them; where none is near, all given facts come behind all other
+    /// phases.
     ///
     /// # Errors
     ///
@@ -191,8 +207,14 @@ impl Agenda {
         if let Some(step) = self.forced(tree, search)? {
             return Ok(Some(step));
         }
-        if self.nearness.facts_within(0) > 0 {
+        if self.is_on_individual() {
+            if let Some(step) = self.below_asked(heap, tree, search)? {
+                return Ok(Some(step));
+            }
             if let Some(step) = self.outwards(search) {
+                return Ok(Some(step));
+            }
+            if let Some(step) = self.by_rows(tree, search) {
                 return Ok(Some(step));
             }
         }
@@ -202,7 +224,10 @@ impl Agenda {
         if let Some(step) = self.below_first(heap, tree, search)? {
             return Ok(Some(step));
         }
-        self.first_union(heap, tree, search)
+        if let Some(step) = self.first_union(heap, tree, search)? {
+            return Ok(Some(step));
+        }
+        Ok(self.next_union(tree, search))
     }
 
     /// A step that can be made where none is seen that can be made whatever is blocked. These are the phases that come
@@ -227,6 +252,10 @@ impl Agenda {
         if let Some(step) = self.held(heap, tree, search)? {
             return Ok(Some(step));
         }
+        self.cursors.choices = self.saved.len();
+        if let Some(step) = self.first_union(heap, tree, search)? {
+            return Ok(Some(step));
+        }
         if let Some(step) = self.union(heap, tree, search)? {
             return Ok(Some(step));
         }
@@ -234,6 +263,11 @@ impl Agenda {
             return Ok(Some(step));
         }
         Ok(self.outwards(search))
+    }
+
+    // Whether given facts name the node in question.
+    fn is_on_individual(&self) -> bool {
+        self.nearness.facts_within(0) > 0
     }
 
     // A given fact that is not so, of the rings that are open.
@@ -297,10 +331,37 @@ impl Agenda {
         ensures { IfSome result (IsStep (R.context search.now.rules.now) (S.facts search.now.state.now)
             (R.files search.now.rules.now)) }
     {
+        let wanted = if self.is_on_individual() {
+            WantedRows::NoUnions
+        } else {
+            WantedRows::All
+        };
         let from = self.cursors.additions;
-        let (reached, addition) = first_addition(tree, search, self.passed, from);
+        let (reached, addition) = first_addition(tree, search, wanted, self.passed, from);
         self.count_looks(from.place, reached.place);
         self.cursors.additions = reached;
+        Some(Step::Add(addition?))
+    }
+
+    // A concept that a row adds that waits for classes, unions too.
+    fn by_rows<A: Allocator + Copy, S: State, R: Rules>(
+        &mut self,
+        tree: &Tree<A>,
+        search: &StateWithRules<'_, S, R>,
+    ) -> Option<Step>
+        ensures { IfSome result (IsStep (R.context search.now.rules.now) (S.facts search.now.state.now)
+            (R.files search.now.rules.now)) }
+    {
+        let from = self.cursors.rows;
+        let (reached, addition) = first_addition(
+            tree,
+            search,
+            WantedRows::Alone,
+            self.passed,
+            from,
+        );
+        self.count_looks(from.place, reached.place);
+        self.cursors.rows = reached;
         Some(Step::Add(addition?))
     }
 
@@ -314,14 +375,13 @@ impl Agenda {
             (λ found. IfSome found (IsStep (R.context search.now.rules.now) (S.facts search.now.state.now)
             (R.files search.now.rules.now))) }
     {
+        let looks_at_rows = self.is_on_individual();
+        self.index.look_at_rows(looks_at_rows);
         let from = self.cursors.forced;
         let (place, forced) = first_forced(tree, search, &mut self.index, self.passed, from)?;
         self.count_looks(from, place);
         self.cursors.forced = place;
-        match forced {
-            Some(choosing) => Ok(Some(Step::Choose(choosing))),
-            None => Ok(None),
-        }
+        Ok(forced)
     }
 
     // Whether two successors are one, where there may be too many.
@@ -361,7 +421,7 @@ impl Agenda {
             return Ok(None);
         }
         let from = self.cursors.first_makings;
-        let (place, making) = first_below_first(heap, tree, search, self.passed, from)?;
+        let (place, making) = first_below_first(heap, tree, search, None, self.passed, from)?;
         self.count_looks(from, place);
         self.cursors.first_makings = place;
         match making {
@@ -370,7 +430,38 @@ impl Agenda {
         }
     }
 
-    // A part of a union of a first node, where there are individuals.
+    // New nodes below the node in question, once the facts that name its neighbours are given.
+    fn below_asked<A: Allocator + Copy, S: State, R: Rules>(
+        &mut self,
+        heap: Global,
+        tree: &Tree<A>,
+        search: &StateWithRules<'_, S, R>,
+    ) -> Result<Option<Step>, NoMemory>
+        ensures { IfOk result
+            (λ found. IfSome found (IsStep (R.context search.now.rules.now) (S.facts search.now.state.now)
+            (R.files search.now.rules.now))) }
+    {
+        if self.cursors.ring == 0 {
+            return Ok(None);
+        }
+        let from = self.cursors.asked_makings;
+        let (place, making) = first_below_first(
+            heap,
+            tree,
+            search,
+            Some(self.at),
+            self.passed,
+            from,
+        )?;
+        self.count_looks(from, place);
+        self.cursors.asked_makings = place;
+        match making {
+            Some(new) => Ok(Some(Step::Generate(new))),
+            None => Ok(None),
+        }
+    }
+
+    // A part of a union of a first node, where there are individuals, and it need not look for nodes to be made first.
     fn first_union<A: Allocator + Copy, S: State, R: Rules>(
         &mut self,
         heap: Global,
@@ -381,7 +472,7 @@ impl Agenda {
             (λ found. IfSome found (IsStep (R.context search.now.rules.now) (S.facts search.now.state.now)
             (R.files search.now.rules.now))) }
     {
-        if search.rules.first() == 1 {
+        if search.rules.first() == 1 || self.has_many_choices() {
             return Ok(None);
         }
         let from = self.cursors.first_unions;
@@ -399,6 +490,37 @@ impl Agenda {
             Some(choosing) => Ok(Some(Step::Choose(choosing))),
             None => Ok(None),
         }
+    }
+
+    // Whether the choices have doubled since it last looked for all nodes that are to be made.
+    fn has_many_choices(&self) -> bool {
+        self.saved.len() / 2 >= self.cursors.choices.max(FEW_CHOICES)
+    }
+
+    // A part of a further union of the node of which one was decided last, where there are individuals: as far as its
+    // concepts stand one behind the other.
+    fn next_union<A: Allocator + Copy, S: State, R: Rules>(
+        &mut self,
+        tree: &Tree<A>,
+        search: &StateWithRules<'_, S, R>,
+    ) -> Option<Step>
+        ensures { IfSome result (IsStep (R.context search.now.rules.now) (S.facts search.now.state.now)
+            (R.files search.now.rules.now)) }
+    {
+        if search.rules.first() == 1 {
+            return None;
+        }
+        let from = self.cursors.unions;
+        let (place, union) = next_union_of(
+            tree,
+            search,
+            self.passed,
+            self.cursors.union_node,
+            from,
+        );
+        self.count_looks(from, place);
+        self.cursors.unions = place;
+        Some(Step::Choose(union?))
     }
 
     // New nodes below a node that is clear.
@@ -460,6 +582,7 @@ impl Agenda {
         let (place, union) = first_branching(heap, tree, search, Wanted::Part, self.passed, from)?;
         self.count_looks(from, place);
         self.cursors.unions = place;
+        self.cursors.union_node = node_at(tree, place);
         match union {
             Some(choosing) => Ok(Some(Step::Choose(choosing))),
             None => Ok(None),

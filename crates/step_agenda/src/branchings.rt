@@ -123,6 +123,46 @@ fn most_at<S: State, R: Rules>(
     find_most_at(heap, search, node)
 }
 
+/// The node that the entry at a place gives a concept; no node where there is none.
+pub(crate) fn node_at<A: Allocator + Copy>(tree: &Tree<A>, place: u32) -> u32 {
+    if place >= tree.len() {
+        return u32::MAX;
+    }
+    match tree.item(place) {
+        Item::Fact(Fact::Has(node, _)) => node,
+        Item::Fact(Fact::Edge(_, _, _)) => u32::MAX,
+        Item::Fact(Fact::Apart(_, _)) => u32::MAX,
+        Item::Fact(Fact::Same(_, _)) => u32::MAX,
+        Item::Mark(_) => u32::MAX,
+    }
+}
+
+/// The first entry from this one on by which a union of the node is to be decided, and that union; or the first one
+/// that gives the node no concept.
+pub(crate) fn next_union_of<A: Allocator + Copy, S: State, R: Rules>(
+    tree: &Tree<A>,
+    search: &StateWithRules<'_, S, R>,
+    passed: Passed,
+    node: u32,
+    from: u32,
+) -> (u32, Option<Choosing>)
+    ensures { IfSome result.1 (IsChoosable (R.context search.now.rules.now) (S.facts search.now.state.now)) }
+{
+    for place in from..tree.len() {
+        if passed.has(place) {
+            continue;
+        }
+        if node_at(tree, place) != node {
+            return (place, None);
+        }
+        match union_by(tree.item(place), search, u32::MAX) {
+            Some(choosing) => return (place, Some(choosing)),
+            None => {}
+        }
+    }
+    (tree.len(), None)
+}
+
 // The union of the entry, where a part of it is to be chosen, and its node is below this one.
 fn union_by<S: State, R: Rules>(
     item: Item,

@@ -1,15 +1,18 @@
-// Unions of which at most one part does not clash at once, at the facts by which they may have become such.
+// Unions of which at most one part does not clash at once, at the facts by which they may have become such: those that
+// a node has, and where it is wanted those that a row would give it.
 ghost use Rattle.std.specs.Prelude.{◌≡◌, ◌<◌, IfOk, IfSome};
-ghost use Rattle.step_finders.specs.Choosing.{IsChoosable};
+ghost use Rattle.calculus_specs.specs.State.{node_count_from};
+ghost use Rattle.step_finders.specs.Stepping.{IsStep};
 
 use crate::NoMemory;
 use crate::above::{above, members_at};
+use crate::additions::by_named_at;
 use crate::passed::Passed;
-use crate::watched::{Closes, UnionIndex, Watch};
+use crate::watched::{Closes, RowPlace, UnionIndex, Watch};
 use blocking::{Item, Tree};
 use calculus_specs::Fact;
 use std::alloc::Allocator;
-use step_finders::{Choosing, Rules, Shape, State, StateWithRules, count_of, find_union_by};
+use step_finders::{Rules, Shape, State, StateWithRules, Step, count_of, find_union_by};
 
 // Top, which is what closes that there is no successor.
 const TOP: u32 = 0;
@@ -26,16 +29,16 @@ pub(crate) fn first_forced<A: Allocator + Copy, S: State, R: Rules>(
     index: &mut UnionIndex,
     passed: Passed,
     from: u32,
-) -> Result<(u32, Option<Choosing>), NoMemory>
+) -> Result<(u32, Option<Step>), NoMemory>
     ensures { IfOk result (λ p. IfSome p.1
-        (IsChoosable (R.context search.now.rules.now) (S.facts search.now.state.now))) }
+        (IsStep (R.context search.now.rules.now) (S.facts search.now.state.now) (R.files search.now.rules.now))) }
 {
     for place in from..tree.len() {
         if passed.has(place) {
             continue;
         }
         match forced_by(tree.item(place), search, index)? {
-            Some(choosing) => return Ok((place, Some(choosing))),
+            Some(step) => return Ok((place, Some(step))),
             None => {}
         }
     }
@@ -47,9 +50,9 @@ fn forced_by<S: State, R: Rules>(
     item: Item,
     search: &StateWithRules<'_, S, R>,
     index: &mut UnionIndex,
-) -> Result<Option<Choosing>, NoMemory>
+) -> Result<Option<Step>, NoMemory>
     ensures { IfOk result (λ found. IfSome found
-        (IsChoosable (R.context search.now.rules.now) (S.facts search.now.state.now))) }
+        (IsStep (R.context search.now.rules.now) (S.facts search.now.state.now) (R.files search.now.rules.now))) }
 {
     match item {
         Item::Fact(Fact::Has(node, concept)) => {
@@ -73,15 +76,16 @@ fn forced_by_edge<S: State, R: Rules>(
     index: &UnionIndex,
     from: u32,
     to: u32,
-) -> Option<Choosing>
-    ensures { IfSome result (IsChoosable (R.context search.now.rules.now) (S.facts search.now.state.now)) }
+) -> Option<Step>
+    ensures { IfSome result (IsStep (R.context search.now.rules.now) (S.facts search.now.state.now)
+        (R.files search.now.rules.now)) }
 {
     if to >= search.rules.first() {
         return forced_by_successor(search, index, from, TOP);
     }
     for concept in search.state.label(to) {
         match forced_by_successor(search, index, from, *concept) {
-            Some(choosing) => return Some(choosing),
+            Some(step) => return Some(step),
             None => {}
         }
     }
@@ -94,14 +98,15 @@ fn forced_by_successor<S: State, R: Rules>(
     index: &UnionIndex,
     node: u32,
     concept: u32,
-) -> Option<Choosing>
-    ensures { IfSome result (IsChoosable (R.context search.now.rules.now) (S.facts search.now.state.now)) }
+) -> Option<Step>
+    ensures { IfSome result (IsStep (R.context search.now.rules.now) (S.facts search.now.state.now)
+        (R.files search.now.rules.now)) }
 {
     let mut place = index.latest(concept);
     for _ in 0..index.len() {
         let watch = index.watch(place)?;
-        match forced_by_end(search, node, watch) {
-            Some(choosing) => return Some(choosing),
+        match forced_by_end(search, index, node, watch) {
+            Some(step) => return Some(step),
             None => {}
         }
         place = watch.next;
@@ -111,14 +116,16 @@ fn forced_by_successor<S: State, R: Rules>(
 
 fn forced_by_end<S: State, R: Rules>(
     search: &StateWithRules<'_, S, R>,
+    index: &UnionIndex,
     node: u32,
     watch: Watch,
-) -> Option<Choosing>
-    ensures { IfSome result (IsChoosable (R.context search.now.rules.now) (S.facts search.now.state.now)) }
+) -> Option<Step>
+    ensures { IfSome result (IsStep (R.context search.now.rules.now) (S.facts search.now.state.now)
+        (R.files search.now.rules.now)) }
 {
     match watch.closes {
         Closes::Here => None,
-        Closes::Above => forced_at(search, node, watch.union),
+        Closes::Above => forced_at(search, index, node, watch.union),
     }
 }
 
@@ -127,13 +134,13 @@ fn forced_by_label<S: State, R: Rules>(
     search: &StateWithRules<'_, S, R>,
     index: &mut UnionIndex,
     node: u32,
-) -> Result<Option<Choosing>, NoMemory>
+) -> Result<Option<Step>, NoMemory>
     ensures { IfOk result (λ found. IfSome found
-        (IsChoosable (R.context search.now.rules.now) (S.facts search.now.state.now))) }
+        (IsStep (R.context search.now.rules.now) (S.facts search.now.state.now) (R.files search.now.rules.now))) }
 {
     for concept in search.state.label(node) {
         match forced_by_concept(search, index, node, *concept)? {
-            Some(choosing) => return Ok(Some(choosing)),
+            Some(step) => return Ok(Some(step)),
             None => {}
         }
     }
@@ -146,15 +153,15 @@ fn forced_by_concept<S: State, R: Rules>(
     index: &mut UnionIndex,
     node: u32,
     concept: u32,
-) -> Result<Option<Choosing>, NoMemory>
+) -> Result<Option<Step>, NoMemory>
     ensures { IfOk result (λ found. IfSome found
-        (IsChoosable (R.context search.now.rules.now) (S.facts search.now.state.now))) }
+        (IsStep (R.context search.now.rules.now) (S.facts search.now.state.now) (R.files search.now.rules.now))) }
 {
     match search.rules.shape(concept) {
         Shape::Or(parts) => {
             index.meet(search.rules, concept, parts)?;
-            match forced_at(search, node, concept) {
-                Some(choosing) => Ok(Some(choosing)),
+            match forced_at(search, index, node, concept) {
+                Some(step) => Ok(Some(step)),
                 None => Ok(forced_by_watches(search, index, node, concept)),
             }
         }
@@ -166,7 +173,62 @@ fn forced_by_concept<S: State, R: Rules>(
         | Shape::SomeOf(_, _)
         | Shape::AllOf(_, _)
         | Shape::Min(_, _, _)
-        | Shape::Max(_, _, _) => Ok(forced_by_watches(search, index, node, concept)),
+        | Shape::Max(_, _, _) => match forced_by_rows(search, index, node, concept)? {
+            Some(step) => Ok(Some(step)),
+            None => Ok(forced_by_watches(search, index, node, concept)),
+        },
+    }
+}
+
+// A union that is forced and that a row gives which waits for the concept, where rows are looked at.
+fn forced_by_rows<S: State, R: Rules>(
+    search: &StateWithRules<'_, S, R>,
+    index: &mut UnionIndex,
+    node: u32,
+    concept: u32,
+) -> Result<Option<Step>, NoMemory>
+    ensures { IfOk result (λ found. IfSome found
+        (IsStep (R.context search.now.rules.now) (S.facts search.now.state.now) (R.files search.now.rules.now))) }
+{
+    if !index.looks_at_rows() {
+        return Ok(None);
+    }
+    for place in 0..search.rules.named(concept).len() {
+        let union = search.rules.named(concept)[place].gives;
+        match forced_by_row_at(search, index, node, RowPlace { concept, place }, union)? {
+            Some(step) => return Ok(Some(step)),
+            None => {}
+        }
+    }
+    Ok(None)
+}
+
+// What the row gives, where that is a union that is forced. The union and the row are met.
+fn forced_by_row_at<S: State, R: Rules>(
+    search: &StateWithRules<'_, S, R>,
+    index: &mut UnionIndex,
+    node: u32,
+    row: RowPlace,
+    gives: u32,
+) -> Result<Option<Step>, NoMemory>
+    ensures { IfOk result (λ found. IfSome found
+        (IsStep (R.context search.now.rules.now) (S.facts search.now.state.now) (R.files search.now.rules.now))) }
+{
+    match search.rules.shape(gives) {
+        Shape::Or(parts) => {
+            index.meet(search.rules, gives, parts)?;
+            index.meet_row(gives, row)?;
+            Ok(forced_at(search, index, node, gives))
+        }
+        Shape::Top
+        | Shape::Bottom
+        | Shape::Name(_)
+        | Shape::NotName(_)
+        | Shape::And(_)
+        | Shape::SomeOf(_, _)
+        | Shape::AllOf(_, _)
+        | Shape::Min(_, _, _)
+        | Shape::Max(_, _, _) => Ok(None),
     }
 }
 
@@ -176,14 +238,15 @@ fn forced_by_watches<S: State, R: Rules>(
     index: &UnionIndex,
     node: u32,
     concept: u32,
-) -> Option<Choosing>
-    ensures { IfSome result (IsChoosable (R.context search.now.rules.now) (S.facts search.now.state.now)) }
+) -> Option<Step>
+    ensures { IfSome result (IsStep (R.context search.now.rules.now) (S.facts search.now.state.now)
+        (R.files search.now.rules.now)) }
 {
     let mut place = index.latest(concept);
     for _ in 0..index.len() {
         let watch = index.watch(place)?;
-        match forced_by_watch(search, node, watch) {
-            Some(choosing) => return Some(choosing),
+        match forced_by_watch(search, index, node, watch) {
+            Some(step) => return Some(step),
             None => {}
         }
         place = watch.next;
@@ -193,32 +256,36 @@ fn forced_by_watches<S: State, R: Rules>(
 
 fn forced_by_watch<S: State, R: Rules>(
     search: &StateWithRules<'_, S, R>,
+    index: &UnionIndex,
     node: u32,
     watch: Watch,
-) -> Option<Choosing>
-    ensures { IfSome result (IsChoosable (R.context search.now.rules.now) (S.facts search.now.state.now)) }
+) -> Option<Step>
+    ensures { IfSome result (IsStep (R.context search.now.rules.now) (S.facts search.now.state.now)
+        (R.files search.now.rules.now)) }
 {
     match watch.closes {
-        Closes::Here => forced_at(search, node, watch.union),
-        Closes::Above => forced_above(search, node, watch.union),
+        Closes::Here => forced_at(search, index, node, watch.union),
+        Closes::Above => forced_above(search, index, node, watch.union),
     }
 }
 
 // The union, where a node from which an edge leads to this one has it, and it is forced there.
 fn forced_above<S: State, R: Rules>(
     search: &StateWithRules<'_, S, R>,
+    index: &UnionIndex,
     node: u32,
     union: u32,
-) -> Option<Choosing>
-    ensures { IfSome result (IsChoosable (R.context search.now.rules.now) (S.facts search.now.state.now)) }
+) -> Option<Step>
+    ensures { IfSome result (IsStep (R.context search.now.rules.now) (S.facts search.now.state.now)
+        (R.files search.now.rules.now)) }
 {
     match above(search.state, node) {
-        Some(above) => return forced_at(search, above, union),
+        Some(above) => return forced_at(search, index, above, union),
         None => {}
     }
     for member in members_at(search.state, node) {
-        match forced_into(search, *member, union) {
-            Some(choosing) => return Some(choosing),
+        match forced_into(search, index, *member, union) {
+            Some(step) => return Some(step),
             None => {}
         }
     }
@@ -228,36 +295,86 @@ fn forced_above<S: State, R: Rules>(
 // The union, where a node from which an edge to this one is given has it, and it is forced there.
 fn forced_into<S: State, R: Rules>(
     search: &StateWithRules<'_, S, R>,
+    index: &UnionIndex,
     node: u32,
     union: u32,
-) -> Option<Choosing>
-    ensures { IfSome result (IsChoosable (R.context search.now.rules.now) (S.facts search.now.state.now)) }
+) -> Option<Step>
+    ensures { IfSome result (IsStep (R.context search.now.rules.now) (S.facts search.now.state.now)
+        (R.files search.now.rules.now)) }
 {
     for edge in search.rules.given_into(node) {
-        match forced_at(search, search.state.representative(edge.1), union) {
-            Some(choosing) => return Some(choosing),
+        match forced_at(search, index, search.state.representative(edge.1), union) {
+            Some(step) => return Some(step),
             None => {}
         }
     }
     None
 }
 
-// The union, where the node has it, a part of it is to be chosen, and it is forced.
+// The union, where the node has it or a row gives it, a part of it is to be chosen, and it is forced.
 fn forced_at<S: State, R: Rules>(
     search: &StateWithRules<'_, S, R>,
+    index: &UnionIndex,
     node: u32,
     union: u32,
-) -> Option<Choosing>
-    ensures { IfSome result (IsChoosable (R.context search.now.rules.now) (S.facts search.now.state.now)) }
+) -> Option<Step>
+    ensures { IfSome result (IsStep (R.context search.now.rules.now) (S.facts search.now.state.now)
+        (R.files search.now.rules.now)) }
 {
-    if node >= count_of(search) || !search.state.has(node, union) {
+    if node >= count_of(search) {
         return None;
+    }
+    if !search.state.has(node, union) {
+        return forced_by_row(search, index, node, union);
     }
     let choosing = find_union_by(search, node, union)?;
     if is_forced(search, node, union) {
-        Some(choosing)
+        Some(Step::Choose(choosing))
     } else {
         None
+    }
+}
+
+// The row that gives the union to the node, where one does, the node has no part of the union, and it is forced.
+fn forced_by_row<S: State, R: Rules>(
+    search: &StateWithRules<'_, S, R>,
+    index: &UnionIndex,
+    node: u32,
+    union: u32,
+) -> Option<Step>
+    requires { node < node_count_from (R.context search.now.rules.now).first (S.facts search.now.state.now) }
+    ensures { IfSome result (IsStep (R.context search.now.rules.now) (S.facts search.now.state.now)
+        (R.files search.now.rules.now)) }
+{
+    let row = index.row(union)?;
+    let addition = by_named_at(search, node, row.concept, row.place)?;
+    if addition.concept == union && is_open(search, node, union) && is_forced(search, node, union) {
+        Some(Step::Add(addition))
+    } else {
+        None
+    }
+}
+
+// Whether the node has no part of the union.
+fn is_open<S: State, R: Rules>(search: &StateWithRules<'_, S, R>, node: u32, union: u32) -> bool {
+    match search.rules.shape(union) {
+        Shape::Or(parts) => {
+            for part in parts {
+                if search.state.has(node, *part) {
+                    return false;
+                }
+            }
+            true
+        }
+        Shape::Top
+        | Shape::Bottom
+        | Shape::Name(_)
+        | Shape::NotName(_)
+        | Shape::And(_)
+        | Shape::SomeOf(_, _)
+        | Shape::AllOf(_, _)
+        | Shape::Min(_, _, _)
+        | Shape::Max(_, _, _) => false,
     }
 }
 

@@ -22,8 +22,15 @@
 //! its end has; and what comes to an individual is looked at from each individual with an edge to it, where other nodes
 //! have a parent alone.
 //!
+//! Where a question is on an individual, an individual gets a union from a row only behind all given facts, unless all
+//! parts but one clash there at once: most answers that are yes need few unions. What the individual in question asks
+//! for below it is made once the facts of its neighbours are given.
+//!
 //! What needs no look at blocks is looked for first, so that blocks are found where nothing of it is left alone, and
-//! not after each step.
+//! not after each step. Unions of individuals are among it. But a clash below other nodes shows only once these are
+//! made, and what goes back then loses all choices that came later. So it looks for such nodes after some choices at
+//! individuals, and again whenever these have doubled. Unions of another node are decided one behind the other where
+//! there are individuals, before blocks are found again.
 //!
 //! A search may go on behind a trail that it was given. Then the entries behind its start are passed over: what follows
 //! from them was done when that trail was made.

@@ -5,6 +5,7 @@ ghost use Rattle.calculus_specs.specs.State.{node_count_from, has as holds};
 ghost use Rattle.step_finders.specs.Making.{IsMaking};
 
 use crate::NoMemory;
+use crate::branchings::node_at;
 use crate::passed::Passed;
 use blocking::{Item, Tree};
 use calculus_specs::Fact;
@@ -140,7 +141,7 @@ fn making_at<S: StateWithBlocks, R: Rules>(
     find_making_by(heap, search, node, concept)
 }
 
-/// Looks from this entry on for new nodes below a first node. Answers the entry for which they are to be made, or the
+/// Looks from this entry on for new nodes below a first node, or below one of them alone. Answers the entry for which they are to be made, or the
 /// length of the trail, and the nodes. First nodes are clear, whatever blocks others.
 ///
 /// # Errors
@@ -150,13 +151,14 @@ pub(crate) fn first_below_first<A: Allocator + Copy, S: State, R: Rules>(
     heap: Global,
     tree: &Tree<A>,
     search: &StateWithRules<'_, S, R>,
+    alone: Option<u32>,
     passed: Passed,
     from: u32,
 ) -> Result<(u32, Option<NewNodes>), NoMemory>
     ensures { IfOk result (λ p. IfSome p.1 (IsMaking (R.context search.now.rules.now) (S.facts search.now.state.now))) }
 {
     for place in from..tree.len() {
-        if passed.has(place) {
+        if passed.has(place) || !is_wanted(tree, place, alone) {
             continue;
         }
         match below_first_by(heap, tree.item(place), search)? {
@@ -165,6 +167,14 @@ pub(crate) fn first_below_first<A: Allocator + Copy, S: State, R: Rules>(
         }
     }
     Ok((tree.len(), None))
+}
+
+// Whether the entry at a place gives this node a concept; where no node is named each entry counts.
+fn is_wanted<A: Allocator + Copy>(tree: &Tree<A>, place: u32, alone: Option<u32>) -> bool {
+    match alone {
+        Some(node) => node_at(tree, place) == node,
+        None => true,
+    }
 }
 
 // What nodes below a first node the entry asks for.

@@ -27,6 +27,15 @@ pub(crate) struct Watch {
     pub(crate) next: u32,
 }
 
+/// Where a row stands that gives a union.
+#[derive(Clone, Copy, Debug, PartialEq, Eq)]
+pub(crate) struct RowPlace {
+    /// The concept that it waits for, among others.
+    pub(crate) concept: u32,
+    /// Its place among the rows that wait for this concept.
+    pub(crate) place: usize,
+}
+
 /// For each concept, the unions that it closes a part of, of those that a search has met.
 #[derive(Drop)]
 pub(crate) struct UnionIndex {
@@ -34,6 +43,9 @@ pub(crate) struct UnionIndex {
     latest: Vec<u32>,
     // By the number of a union, whether it was met.
     is_met: Vec<bool>,
+    // By the number of a union, a row that gives it, where one was met.
+    rows: Vec<Option<RowPlace>>,
+    looks_at_rows: bool,
     watches: Vec<Watch>,
 }
 
@@ -43,6 +55,8 @@ impl UnionIndex {
         UnionIndex {
             latest: Vec::new(heap),
             is_met: Vec::new(heap),
+            rows: Vec::new(heap),
+            looks_at_rows: false,
             watches: Vec::new(heap),
         }
     }
@@ -86,6 +100,40 @@ impl UnionIndex {
             self.put_part(rules, union, *part)?;
         }
         self.put_met(union)
+    }
+
+    /// Whether rows are looked at that give unions.
+    pub(crate) fn looks_at_rows(&self) -> bool {
+        self.looks_at_rows
+    }
+
+    /// Whether rows are looked at that give unions from now on.
+    pub(crate) fn look_at_rows(&mut self, looks_at_rows: bool) {
+        self.looks_at_rows = looks_at_rows;
+    }
+
+    /// Meets a row that gives a union.
+    ///
+    /// # Errors
+    ///
+    /// Want of memory.
+    pub(crate) fn meet_row(&mut self, union: u32, row: RowPlace) -> Result<(), NoMemory> {
+        let place = union as usize;
+        for _ in self.rows.len()..place + 1 {
+            self.rows.push(None)?;
+        }
+        if place < self.rows.len() {
+            self.rows[place] = Some(row);
+        }
+        Ok(())
+    }
+
+    /// A row that gives the union, where one was met.
+    pub(crate) fn row(&self, union: u32) -> Option<RowPlace> {
+        match self.rows.get(union as usize) {
+            Some(row) => *row,
+            None => None,
+        }
     }
 
     fn is_met(&self, union: u32) -> bool {
