@@ -1,12 +1,14 @@
 // Concepts that a fact adds.
-ghost use Rattle.std.specs.Prelude.{◌≡◌, ◌<◌, true, IsTrue, IfSome};
+ghost use Rattle.std.specs.Prelude.{◌≡◌, ◌<◌, true, IsTrue, IfOk, IfSome};
 ghost use Rattle.std.specs.List.{list_all};
 ghost use Rattle.calculus_specs.specs.State.{node_count_from, has as holds};
 ghost use Rattle.step_finders.specs.Found.{PlainDue, NamedDue};
 ghost use Rattle.step_finders.specs.Reasons.{IsAddition};
 
+use crate::NoMemory;
 use crate::nearness::Nearness;
 use crate::passed::Passed;
+use crate::waiting::WaitingRows;
 use blocking::{Item, Tree};
 use calculus_specs::Fact;
 use std::alloc::Allocator;
@@ -38,24 +40,31 @@ pub(crate) enum WantedRows {
 }
 
 /// The first concept that an entry adds from here on, and up to where it was looked for then. Some entries are passed
-/// over.
+/// over; their concepts are met all the same.
+///
+/// # Errors
+///
+/// Want of memory.
 pub(crate) fn first_addition<A: Allocator + Copy, S: State, R: Rules>(
     tree: &Tree<A>,
     search: &StateWithRules<'_, S, R>,
+    waiting: &mut WaitingRows,
     wanted: WantedRows,
     passed: Passed,
     from: Reached,
-) -> (Reached, Option<Addition>)
-    ensures { IfSome result.1 (IsAddition (R.context search.now.rules.now) (S.facts search.now.state.now)
-        (R.files search.now.rules.now)) }
+) -> Result<(Reached, Option<Addition>), NoMemory>
+    ensures { IfOk result (λ p. IfSome p.1 (IsAddition (R.context search.now.rules.now) (S.facts search.now.state.now)
+        (R.files search.now.rules.now))) }
 {
     let mut rows = from.rows;
     for place in from.place..tree.len() {
+        let item = tree.item(place);
+        waiting.meet(search.rules, item)?;
         if passed.has(place) {
             continue;
         }
-        match addition_at(tree.item(place), search, wanted, rows) {
-            Some((rows, addition)) => return (Reached { place, rows }, Some(addition)),
+        match addition_at(item, search, waiting, wanted, rows) {
+            Some((rows, addition)) => return Ok((Reached { place, rows }, Some(addition))),
             None => rows = 0,
         }
     }
@@ -63,7 +72,7 @@ pub(crate) fn first_addition<A: Allocator + Copy, S: State, R: Rules>(
         place: tree.len(),
         rows: 0,
     };
-    (end, None)
+    Ok((end, None))
 }
 
 /// The first rank from `from` on and below `to`, in the order of nearness, of a first node to which a row that is used
@@ -94,6 +103,7 @@ pub(crate) fn first_general<S: State, R: Rules>(
 fn addition_at<S: State, R: Rules>(
     item: Item,
     search: &StateWithRules<'_, S, R>,
+    waiting: &WaitingRows,
     wanted: WantedRows,
     rows: usize,
 ) -> Option<(usize, Addition)>
@@ -101,9 +111,9 @@ fn addition_at<S: State, R: Rules>(
         (R.files search.now.rules.now) p.1) }
 {
     match wanted {
-        WantedRows::All => any_addition_at(item, search, false, rows),
-        WantedRows::NoUnions => any_addition_at(item, search, true, rows),
-        WantedRows::Alone => row_at(item, search, rows),
+        WantedRows::All => any_addition_at(item, search, waiting, false, rows),
+        WantedRows::NoUnions => any_addition_at(item, search, waiting, true, rows),
+        WantedRows::Alone => row_at(item, search, waiting, rows),
     }
 }
 
@@ -111,6 +121,7 @@ fn addition_at<S: State, R: Rules>(
 fn any_addition_at<S: State, R: Rules>(
     item: Item,
     search: &StateWithRules<'_, S, R>,
+    waiting: &WaitingRows,
     skips_unions: bool,
     rows: usize,
 ) -> Option<(usize, Addition)>
@@ -123,7 +134,10 @@ fn any_addition_at<S: State, R: Rules>(
         }
         Item::Fact(Fact::Has(node, concept)) => {
             let node = search.state.representative(node);
-            by_concept(search, skips_unions, node, concept, rows)
+            match by_concept(search, skips_unions, node, concept, rows) {
+                Some(found) => Some(found),
+                None => by_waiting(search, waiting, skips_unions, node, concept),
+            }
         }
         Item::Fact(Fact::Same(node, _)) => Some((0, at_node(search, node)?)),
         Item::Fact(Fact::Apart(_, _)) => None,
@@ -131,10 +145,11 @@ fn any_addition_at<S: State, R: Rules>(
     }
 }
 
-// What the entry adds by the rows from this one on that wait for its concept.
+// What the entry adds by the rows from this one on that wait for its concept, and by those that are filed elsewhere.
 fn row_at<S: State, R: Rules>(
     item: Item,
     search: &StateWithRules<'_, S, R>,
+    waiting: &WaitingRows,
     rows: usize,
 ) -> Option<(usize, Addition)>
     ensures { IfSome result (λ p. IsAddition (R.context search.now.rules.now) (S.facts search.now.state.now)
@@ -142,7 +157,11 @@ fn row_at<S: State, R: Rules>(
 {
     match item {
         Item::Fact(Fact::Has(node, concept)) => {
-            by_rows(search, search.state.representative(node), concept, rows)
+            let node = search.state.representative(node);
+            match by_rows(search, node, concept, rows) {
+                Some(found) => Some(found),
+                None => by_waiting(search, waiting, false, node, concept),
+            }
         }
         Item::Fact(Fact::Edge(_, _, _)) => None,
         Item::Fact(Fact::Same(_, _)) => None,
@@ -386,6 +405,44 @@ fn by_named<S: State, R: Rules>(
         }
     }
     None
+}
+
+// What a row adds to the node that waits for the name too and is filed at another one, once all that are filed at the
+// name were asked. Rows that give unions may be left out at first nodes.
+fn by_waiting<S: State, R: Rules>(
+    search: &StateWithRules<'_, S, R>,
+    waiting: &WaitingRows,
+    skips_unions: bool,
+    node: u32,
+    name: u32,
+) -> Option<(usize, Addition)>
+    ensures { IfSome result (λ p. IsAddition (R.context search.now.rules.now) (S.facts search.now.state.now)
+        (R.files search.now.rules.now) p.1) }
+{
+    let skips = skips_unions && node < search.rules.first();
+    for file in waiting.files(name) {
+        match by_file(search, skips, node, *file) {
+            Some((_, addition)) => return Some((search.rules.named(name).len(), addition)),
+            None => {}
+        }
+    }
+    None
+}
+
+// What a row adds to the node that is filed at this name, where the node has it.
+fn by_file<S: State, R: Rules>(
+    search: &StateWithRules<'_, S, R>,
+    skips_unions: bool,
+    node: u32,
+    name: u32,
+) -> Option<(usize, Addition)>
+    ensures { IfSome result (λ p. IsAddition (R.context search.now.rules.now) (S.facts search.now.state.now)
+        (R.files search.now.rules.now) p.1) }
+{
+    if node >= count_of(search) || !search.state.has(node, name) {
+        return None;
+    }
+    by_named(search, skips_unions, node, name, 0)
 }
 
 /// What the row at a place of those that wait for the concept adds to the node.

@@ -10,6 +10,7 @@ use crate::givings::first_giving;
 use crate::makings::{Held, first_below_first, first_held, first_making};
 use crate::nearness::Nearness;
 use crate::passed::Passed;
+use crate::waiting::WaitingRows;
 use crate::watched::UnionIndex;
 use blocking::{Tree, least_changed};
 use std::alloc::{Allocator, Global};
@@ -97,6 +98,7 @@ pub struct Agenda {
     // The node in question, and in which order facts are given around it, once a step was looked for.
     at: u32,
     nearness: Nearness,
+    waiting: WaitingRows,
     index: UnionIndex,
     // How many entries were looked at, each once for each kind of step.
     looks: u64,
@@ -112,6 +114,7 @@ impl Agenda {
             held: Vec::new(heap),
             at,
             nearness: Nearness::none(heap),
+            waiting: WaitingRows::new(heap),
             index: UnionIndex::new(heap),
             looks: 0,
         }
@@ -201,7 +204,7 @@ impl Agenda {
         if let Some(step) = self.general(search) {
             return Ok(Some(step));
         }
-        if let Some(step) = self.addition(tree, search) {
+        if let Some(step) = self.addition(tree, search)? {
             return Ok(Some(step));
         }
         if let Some(step) = self.forced(tree, search)? {
@@ -214,7 +217,7 @@ impl Agenda {
             if let Some(step) = self.outwards(search) {
                 return Ok(Some(step));
             }
-            if let Some(step) = self.by_rows(tree, search) {
+            if let Some(step) = self.by_rows(tree, search)? {
                 return Ok(Some(step));
             }
         }
@@ -327,9 +330,10 @@ impl Agenda {
         &mut self,
         tree: &Tree<A>,
         search: &StateWithRules<'_, S, R>,
-    ) -> Option<Step>
-        ensures { IfSome result (IsStep (R.context search.now.rules.now) (S.facts search.now.state.now)
-            (R.files search.now.rules.now)) }
+    ) -> Result<Option<Step>, NoMemory>
+        ensures { IfOk result
+            (λ found. IfSome found (IsStep (R.context search.now.rules.now) (S.facts search.now.state.now)
+            (R.files search.now.rules.now))) }
     {
         let wanted = if self.is_on_individual() {
             WantedRows::NoUnions
@@ -337,10 +341,20 @@ impl Agenda {
             WantedRows::All
         };
         let from = self.cursors.additions;
-        let (reached, addition) = first_addition(tree, search, wanted, self.passed, from);
+        let (reached, addition) = first_addition(
+            tree,
+            search,
+            &mut self.waiting,
+            wanted,
+            self.passed,
+            from,
+        )?;
         self.count_looks(from.place, reached.place);
         self.cursors.additions = reached;
-        Some(Step::Add(addition?))
+        match addition {
+            Some(addition) => Ok(Some(Step::Add(addition))),
+            None => Ok(None),
+        }
     }
 
     // A concept that a row adds that waits for classes, unions too.
@@ -348,21 +362,26 @@ impl Agenda {
         &mut self,
         tree: &Tree<A>,
         search: &StateWithRules<'_, S, R>,
-    ) -> Option<Step>
-        ensures { IfSome result (IsStep (R.context search.now.rules.now) (S.facts search.now.state.now)
-            (R.files search.now.rules.now)) }
+    ) -> Result<Option<Step>, NoMemory>
+        ensures { IfOk result
+            (λ found. IfSome found (IsStep (R.context search.now.rules.now) (S.facts search.now.state.now)
+            (R.files search.now.rules.now))) }
     {
         let from = self.cursors.rows;
         let (reached, addition) = first_addition(
             tree,
             search,
+            &mut self.waiting,
             WantedRows::Alone,
             self.passed,
             from,
-        );
+        )?;
         self.count_looks(from.place, reached.place);
         self.cursors.rows = reached;
-        Some(Step::Add(addition?))
+        match addition {
+            Some(addition) => Ok(Some(Step::Add(addition))),
+            None => Ok(None),
+        }
     }
 
     // A part of a union of which at most one part does not clash at once.

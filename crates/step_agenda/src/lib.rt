@@ -8,6 +8,9 @@
 //! those of that time. At the edge to a new node it also keeps how many of the rows that are used at each node were
 //! asked, so that the node gets what they give one behind the other.
 //!
+//! A row that waits for several names is filed at one of them (`absorption`). A node may get another one last, so the
+//! rows that wait for a name are also found by those names at which they are filed, as far as a search has met these.
+//!
 //! A part of a union is taken at once where all parts but one clash at once, as in unit propagation (I. Horrocks,
 //! *Optimising Tableaux Decision Procedures for Description Logics*, University of Manchester 1997). Whether that has
 //! become so is asked only of the unions that a new fact closes a part of, which are found by the fact's concept, as
@@ -50,6 +53,7 @@ mod nearness;
 mod pairs;
 mod passed;
 mod tree_state;
+mod waiting;
 mod watched;
 
 pub use agenda::Agenda;

@@ -1,0 +1,101 @@
+// Rows that wait for a name and are filed at another one.
+
+use crate::NoMemory;
+use blocking::Item;
+use calculus_specs::Fact;
+use std::alloc::Global;
+use step_finders::{NamedRow, Rules};
+
+/// A row that waits for several names is filed at one of them. For each of the others, these are the names at which
+/// such rows are filed, of those that a search has met.
+#[derive(Drop)]
+pub(crate) struct WaitingRows {
+    heap: Global,
+    // By the number of a concept, whether it was met.
+    is_met: Vec<bool>,
+    // By the number of a name, those at which rows are filed that wait for it too.
+    files: Vec<Vec<u32>>,
+}
+
+impl WaitingRows {
+    /// No concept was met.
+    pub(crate) fn new(heap: Global) -> WaitingRows {
+        WaitingRows {
+            heap,
+            is_met: Vec::new(heap),
+            files: Vec::new(heap),
+        }
+    }
+
+    /// The names that were met at which rows are filed that wait for this one too.
+    pub(crate) fn files(&self, name: u32) -> &[u32] {
+        match self.files.get(name as usize) {
+            Some(files) => files.as_slice(),
+            None => &[],
+        }
+    }
+
+    /// Meets the concept that an entry gives, if it gives one.
+    ///
+    /// # Errors
+    ///
+    /// Want of memory.
+    pub(crate) fn meet<R: Rules>(&mut self, rules: &R, item: Item) -> Result<(), NoMemory> {
+        match item {
+            Item::Fact(Fact::Has(_, concept)) => self.meet_concept(rules, concept),
+            Item::Fact(Fact::Edge(_, _, _)) => Ok(()),
+            Item::Fact(Fact::Apart(_, _)) => Ok(()),
+            Item::Fact(Fact::Same(_, _)) => Ok(()),
+            Item::Mark(_) => Ok(()),
+        }
+    }
+
+    fn meet_concept<R: Rules>(&mut self, rules: &R, concept: u32) -> Result<(), NoMemory> {
+        if self.is_met(concept) {
+            return Ok(());
+        }
+        for row in rules.named(concept) {
+            self.put_row(concept, row)?;
+        }
+        self.put_met(concept)
+    }
+
+    fn is_met(&self, concept: u32) -> bool {
+        match self.is_met.get(concept as usize) {
+            Some(is_met) => *is_met,
+            None => false,
+        }
+    }
+
+    fn put_met(&mut self, concept: u32) -> Result<(), NoMemory> {
+        let place = concept as usize;
+        for _ in self.is_met.len()..place + 1 {
+            self.is_met.push(false)?;
+        }
+        if place < self.is_met.len() {
+            self.is_met[place] = true;
+        }
+        Ok(())
+    }
+
+    // Puts where the row is filed, for each other name that it waits for.
+    fn put_row(&mut self, file: u32, row: &NamedRow) -> Result<(), NoMemory> {
+        for name in row.waits.items() {
+            if *name != file && self.files(*name).last() != Some(&file) {
+                self.put_file(*name, file)?;
+            }
+        }
+        Ok(())
+    }
+
+    fn put_file(&mut self, name: u32, file: u32) -> Result<(), NoMemory> {
+        let place = name as usize;
+        for _ in self.files.len()..place + 1 {
+            self.files.push(Vec::new(self.heap))?;
+        }
+        if place < self.files.len() {
+            self.files[place].push(file)?;
+        }
+        Ok(())
+    }
+}
