@@ -37,9 +37,9 @@ use Rattle.search_state.specs.Marked.{marked_in}
 use Rattle.search_state.specs.Branchings.{AreMarks}
 
 -- the query, the node in question, the numbers of what it asks, how many first nodes there are, the entries of the
--- trail, what is known of blocked nodes, the trace, the places of the trail's marks, latest first, a clash of the
--- trail, if it has a plain one, how many steps were made, and whether the search went on behind a trail that it was
--- given: then the lines of its trace alone are no refutation
+-- trail, what is known of blocked nodes, the trace, the places of the marks that the search itself has put, latest
+-- first, a clash of the trail, if it has a plain one, how many steps were made, and whether the search went on behind a
+-- trail that it was given: then the lines of its trace alone are no refutation
 pub record ProgressLists : Type 0 where
   pub query : Query
   pub at : ℕ

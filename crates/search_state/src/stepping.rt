@@ -158,7 +158,7 @@ impl<'b, A: Allocator + Copy> Progress<'b, A> {
         self.at
     }
 
-    /// How many steps were made.
+    /// How many steps were made, those of a trail that the search was given included.
     pub fn steps(&self) -> u64
         ensures { result ≡ self.now.steps }
     {
