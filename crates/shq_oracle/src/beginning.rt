@@ -1,13 +1,14 @@
 // One beginning for the tests of one set of axioms.
 //
 // Where axioms speak of individuals, each search that ends at a model gives all that they say and follows it up. One
-// search does that for all tests on any element: the one whether anything is in top and not in bottom, as long as it
-// leaves the node in question alone. Where a job asks that first, its other tests go on from there. The steps that the
-// search made are counted in each of them, so that a test takes of the budget what a search from nothing may take; what
-// is saved is to make them again.
+// search does that for many tests on any element: the one whether anything is in top and not in bottom, as long as it
+// leaves the node in question alone. Where a job asks that first, other tests go on from there whose two concepts ask
+// for no nodes and do not clash. The steps that the search made are counted in each of them, so that a test takes of
+// the budget what a search from nothing may take; what is saved is to make them again.
 //
 // A search that goes on so makes no refutation. Where it closes everything, the test needs a search from nothing. So
-// each test begins with one, and leaves it once it meets an individual.
+// each test begins with one, and leaves it once it meets an individual. The steps of a search that is left are no steps
+// of a test.
 ghost use Rattle.std.specs.Prelude.{◌≡◌, ◌≤◌, false, IfOk, IfSome};
 ghost use Rattle.model_builder.specs.Limits.{IsInLimit};
 ghost use Rattle.tableau.specs.RuleLists.{AreNumbersOf};

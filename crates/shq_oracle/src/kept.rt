@@ -121,8 +121,8 @@ impl<'a> KeptRules<'a> {
         self.rules.numbers_of(alloc, query)
     }
 
-    /// Searches whether a query follows, by at most so many steps, and makes no model. Where it is wanted, what the
-    /// search shows of further classes is kept.
+    /// Searches whether a query follows, and makes no model. The search that answers has at most so many steps. Where
+    /// it is wanted, what it shows of further classes is kept.
     ///
     /// # Errors
     /// Memory may be refused.

@@ -5,7 +5,7 @@
 //! a refutation. If it does not follow, the answer is a finite interpretation in which the axioms hold and the query
 //! fails; there always is one, since SHQ has the finite model property. If the search has spent what was left of the
 //! budget before either was found, the answer is [`Answer::Undecided`]. A caller who needs no evidence calls
-//! [`Oracle::test`], which runs the same search and builds no interpretation.
+//! [`Oracle::test`], which builds no interpretation, and may go on from what an earlier search did.
 //!
 //! Each test appends one entry to the log: the set, the query, the number of steps, and how the test ended. The
 //! contracts say that each entry is honest: the query follows from the set, or does not, as the entry says, and that
@@ -19,7 +19,7 @@
 //! Expressive Description Logics", 2001).
 //!
 //! What a search derives from the axioms alone is computed once and kept until a query about another set is asked.
-//! Where axioms speak of individuals, so is the beginning that all searches for tests on any element have in common
+//! Where axioms speak of individuals, so is the beginning that most searches for tests on any element have in common
 //! (`beginning`).
 #![tactic(auto)]
 

@@ -123,8 +123,9 @@ impl<'a> Oracle<'a> {
         self.note(set, query, found?)
     }
 
-    /// Whether the query follows, as [`decide`](Oracle::decide) answers it, with the same entry in the log but without
-    /// evidence: no model is made, and of a refutation the axioms alone are handed out.
+    /// Whether the query follows, as [`decide`](Oracle::decide) answers it, with an entry in the log too but without
+    /// evidence: no model is made, and of a refutation the axioms alone are handed out. The search may go on from what
+    /// an earlier one did; these steps are counted.
     ///
     /// # Errors
     /// Memory may be refused; the log is as before then.

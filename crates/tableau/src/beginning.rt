@@ -1,13 +1,14 @@
 // Beginnings: what one search did that serves others.
 //
-// A search whether anything is in top and not in bottom gives all that axioms say of individuals, and follows it up.
-// Where it ends without a word of the node in question, its steps are legal behind the start of another query on any
-// element, too (`one_beginning_serves_many`). So that search need not make them again: it puts the whole trail behind
-// its own start, counts the steps, and goes on. Each step that it owes is counted.
+// A search whether anything is in top and not in bottom gives all that axioms say of individuals, and follows it up. As
+// long as it has said nothing of the node in question but that it has top, its steps are legal behind the start of
+// another query on any element, too (`one_beginning_runs_on`). So that search need not make them again: it puts the
+// whole trail behind its own start, counts the steps, and goes on. Each step that it owes is counted.
 //
-// It looks at the two concepts of its start first. A node with a label inside the start is blocked by the node in
-// question, and nothing could have been made below it. Where neither concept asks for nodes, there is none
-// (`parents_have_what_asked_for_nodes`).
+// It looks at the two concepts of its start first. A node with a label inside the start may be blocked by the node in
+// question, and then it is not legal to make a node below it. Where neither concept asks for nodes, none was made below
+// such a node, but for one that is one with a first node, which nothing blocks (`parents_have_what_asked_for_nodes`).
+// Nor may the two concepts clash.
 ghost use Rattle.std.specs.Prelude.{◌≡◌, ◌==◌, ◌||◌, true, false, ◌∷◌, [], drop, length, IfOk};
 ghost use Rattle.calculus_specs.specs.Shape.{shape_of};
 ghost use Rattle.calculus_specs.specs.declared.facts.Fact.TheVariants.{Has};

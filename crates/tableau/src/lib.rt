@@ -9,7 +9,7 @@
 //!
 //! Where axioms speak of many individuals, each search would give all that they say, and follow it up. One search can
 //! do it for many (`beginning`, `behind`): it asks whether anything is in top and not in bottom, and others go on from
-//! where it ended.
+//! where it turned to the node in question.
 #![tactic(auto)]
 
 mod advancing;

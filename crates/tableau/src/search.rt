@@ -107,7 +107,8 @@ impl End {
 }
 
 /// A search whether a query follows from the axioms of a set. The blocks that are known may be those of the first nodes
-/// alone while steps are made; at the end of each call that makes some, those of all nodes are known.
+/// alone while steps are made, and after [`Search::run_alone`] and [`Search::run_elsewhere`] that answer none; at the
+/// end of [`Search::step`] and [`Search::run`] those of all nodes are known.
 #[derive(Drop)]
 pub struct Search<'b, A: Allocator> {
     pub(crate) heap: Global,
@@ -432,8 +433,9 @@ impl<'b, A: Allocator + Copy> Search<'b, A> {
         Ok(end)
     }
 
-    /// How many steps were made. They lead to the trail, and are few for the nodes and the concepts of the search until
-    /// it first goes on from an alternative; so are its marks.
+    /// How many steps were made, those of a beginning from which the search went on included. They lead to the trail,
+    /// and are few for the nodes and the concepts of the search until it first goes on from an alternative; so are its
+    /// marks.
     pub fn steps(&self) -> u64
         ensures count { result ≡ self.now.steps }
         ensures reached { self.now.failed ≡ false → IsReachedBy self.now }
@@ -471,7 +473,8 @@ impl<'b, A: Allocator + Copy> Search<'b, A> {
         self.progress.effort()
     }
 
-    /// Whether the search has ended: at a model, at a refutation, or since memory was refused.
+    /// Whether the search has ended: at a model, at a refutation, lost behind the beginning of another one, or since
+    /// memory was refused.
     pub fn ended(&self) -> bool
         ensures { result ≡ self.now.ended }
     {
@@ -486,8 +489,8 @@ impl<'b, A: Allocator + Copy> Search<'b, A> {
         self.progress.tree()
     }
 
-    /// The blocks that are known: those of all nodes of the tree, as [`Search::new_in`], [`Search::step`] and
-    /// [`Search::run`] promise, unless memory was refused.
+    /// The blocks that are known: those of all nodes of the tree after the calls that promise it by a clause `current`,
+    /// unless memory was refused.
     pub fn found_blocks(&self) -> &Blocks
         ensures { result.now ≡ self.now.found_blocks }
     {
