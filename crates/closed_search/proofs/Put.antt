@@ -1,19 +1,17 @@
 -- Numbers that are put in a set.
-use Rattle.std.proofs.Common.{◌≡◌, ℕ, ◌+◌, leb, ltb, ◌<◌, ◌≤◌, ◌&&◌, ◌||◌, ◌⊎◌, eqb, nat_eq, Bool, true, false, List}
+use Rattle.std.proofs.Common.{◌≡◌, ℕ, ◌<◌, ◌&&◌, ◌||◌, ◌⊎◌, eqb, Bool, true, false, List}
 use Rattle.std.proofs.Common.{[], ◌∷◌, refl, ap, sym, ◌∙◌, inl, inr, arith}
 use Rattle.std.specs.List.{list_any}
-use Rattle.std.specs.Ordering.{nat_cmp}
 use Rattle.std.specs.Cmp.{nat_cmp_total, nat_eq_equiv, unsigned_tied}
 use Rattle.std.specs.FinSet as sets
-use Rattle.std.proofs.lemmas.Bool.{cases_Bool, eqb-true, and_from, le-leb, lt-ltb, and_right}
-use Rattle.std.proofs.Math.Bool.{or_comm}
+use Rattle.std.proofs.lemmas.Bool.{cases_Bool, eqb-true, and_right}
+use Rattle.std.proofs.Math.Bool.{or_comm, and-or_distrib_left}
 use Rattle.lane_sieve.specs.Sets.{NumberSet}
-use Rattle.lane_sieve.proofs.Ranges.{any-passing}
-use Rattle.axiom_sets.specs.Sets.{Limited, IsWithin, member_list}
+use Rattle.axiom_sets.specs.Sets.{Limited, IsWithin}
 use Rattle.shq_terms.specs.declared.axioms.Numbered.{Numbered}
 use Rattle.calculus_specs.specs.Line.{Line}
 use Rattle.refutation_truth.specs.Meeting.{is_role_number}
-use Rattle.closed_search.specs.Named.{uses_axiom, names_axiom, takes_role, IsPut, ArePut, IsPutting}
+use Rattle.closed_search.specs.Named.{uses_axiom, names_axiom, AreRoleAxioms, IsPut, ArePut, IsPutting}
 
 pub outside : (s : Limited) (k : ℕ) → IsWithin s.limit s.members → (k < 1) ⊎ (s.limit < k)
     → false ≡ sets.contains s.members k
@@ -93,43 +91,12 @@ put_all members asks items old now rest h e k =
 
 -- ---- all of them
 
-any_and : (r : Bool) (k : ℕ) (ns : List ℕ) → list_any (λ n. nat_eq n k && r) ns ≡ (list_any (λ n. nat_eq n k) ns && r)
-any_and true k [] = refl
-any_and false k [] = refl
-any_and r k (n ∷ ns) =
-    ap (λ (b : Bool). (nat_eq n k && r) || b) (any_and r k ns) ∙ out (nat_eq n k) (list_any (λ m. nat_eq m k) ns) r
-  where
-    out : (a b s : Bool) → ((a && s) || (b && s)) ≡ ((a || b) && s)
-    out true true true = refl
-    out true true false = refl
-    out true false true = refl
-    out true false false = refl
-    out false b s = refl
-
--- a member's axiom is among those that are looked at
-role_found : (axioms : List Numbered) (s : Limited) (k : ℕ) → k ≤ s.limit → sets.contains s.members k ≡ true
-    → list_any (takes_role axioms k) (member_list s) ≡ is_role_number axioms k
-role_found axioms s k high member =
-    let p = sets.contains s.members in
-    let within : (leb 0 k && ltb k (0 + (s.limit + 1))) ≡ true =
-    rw (le-leb 0 k (omega arith), lt-ltb k (0 + (s.limit + 1)) (omega arith)) refl in
-    any_and (is_role_number axioms k) k (member_list s)
-    ∙ ap (λ (b : Bool). b && is_role_number axioms k)
-    (any-passing p 0 (s.limit + 1) k ∙ and_from (p k) (leb 0 k && ltb k (0 + (s.limit + 1))) member within)
-
-all_together : (e s a r b : Bool) → e ≡ false → (s ≡ true → a ≡ r) → ((e || (s && a)) || (s && b)) ≡ (s && (r || b))
-all_together true s a r b none same = cc
-all_together false true a r b none same = ap (λ (x : Bool). x || b) (same refl)
-all_together false false a r b none same = refl
-
-pub names_all : (axioms : List Numbered) (s : Limited) (lines : List Line) (begin roles now : NumberSet)
-    → IsWithin s.limit s.members → begin ≡ sets.empty → ArePut s.members (takes_role axioms) (member_list s) begin roles
-    → ArePut s.members uses_axiom lines roles now → (k : ℕ) → sets.contains now k ≡ names_axiom axioms s.members lines k
-names_all axioms s lines begin roles now within none by_roles by_lines k =
+pub names_all : (axioms : List Numbered) (s : Limited) (lines : List Line) (roles now : NumberSet)
+    → AreRoleAxioms axioms s.members roles → ArePut s.members uses_axiom lines roles now → (k : ℕ)
+    → sets.contains now k ≡ names_axiom axioms s.members lines k
+names_all axioms s lines roles now are by_lines k =
     let m = sets.contains s.members k in
     let used = list_any (uses_axiom k) lines in
     by_lines k
-    ∙ ap (λ (b : Bool). b || (m && used)) (by_roles k)
-    ∙ all_together (sets.contains begin k) m (list_any (takes_role axioms k) (member_list s)) (is_role_number axioms k)
-    used (ap (λ (t : NumberSet). sets.contains t k) none ∙ sets.contains-empty nat_cmp k)
-    (λ member. role_found axioms s k (within k member).1 member)
+    ∙ ap (λ (b : Bool). b || (m && used)) (are k)
+    ∙ sym (and-or_distrib_left m (is_role_number axioms k) used)

@@ -43,6 +43,11 @@ abbrev pub names_axiom : List Numbered → NumberSet → List Line → ℕ → B
 names_axiom axioms members lines k =
     sets.contains members k && (is_role_number axioms k || list_any (uses_axiom k) lines)
 
+-- the role axioms of a set
+abbrev pub AreRoleAxioms : List Numbered → NumberSet → NumberSet → Type 0
+AreRoleAxioms axioms members named = (k : ℕ)
+    → sets.contains named k ≡ (sets.contains members k && is_role_number axioms k)
+
 -- the set that was made has just the axioms that the refutation has to name
 pub record NamesAxioms (axioms : List Numbered) (set : Limited) (lines : List Line) (named : Limited) : Type 0 where
   pub limit : named.limit ≡ length axioms
@@ -54,10 +59,6 @@ pub record NamesNoOther (axioms : List Numbered) (set : Limited) (lines : List L
   pub no_other : (k : ℕ) → sets.contains named.members k ≡ true → names_axiom axioms set.members lines k ≡ true
 
 -- ---- while they are put in
-
--- whether this is the number of the role axiom k
-abbrev pub takes_role : List Numbered → ℕ → ℕ → Bool
-takes_role axioms k number = number == k && is_role_number axioms k
 
 -- of the members of the set, those that pass the test are put in
 abbrev pub IsPut : NumberSet → (ℕ → Bool) → NumberSet → NumberSet → Type 0

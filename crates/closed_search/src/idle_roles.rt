@@ -13,7 +13,7 @@ use search_trace::Line;
 use shq_terms::{Axiom, Numbered, Ontology};
 use std::alloc::Global;
 
-/// Those role axioms of the set that can be left out of a refutation with these lines, as far as the roles tell of
+/// Those of the role axioms of a set that can be left out of a refutation with these lines, as far as the roles tell of
 /// which the lines speak. `roles` is the role box of the set.
 ///
 /// # Errors
@@ -23,16 +23,16 @@ pub(crate) fn idle_role_axioms(
     alloc: Global,
     lines: &[Line],
     ontology: &Ontology,
-    set: &AxiomSet,
+    role_axioms: &AxiomSet,
     concepts: &Concepts,
     roles: &RoleBox,
 ) -> Result<AxiomSet, NoMemory>
-    ensures { IfOk result (λ idle. idle.limit ≡ set.now.limit) }
+    ensures { IfOk result (λ idle. idle.limit ≡ role_axioms.now.limit) }
 {
     let mut spoken = IndexSet::new(alloc);
     put_roles(&mut spoken, lines, ontology.axioms(), concepts)?;
-    let mut idle = AxiomSet::empty(alloc, set.limit())?;
-    put_idle(&mut idle, set, ontology.axioms(), &spoken, roles);
+    let mut idle = AxiomSet::empty(alloc, role_axioms.limit())?;
+    put_idle(&mut idle, role_axioms, ontology.axioms(), &spoken, roles);
     Ok(idle)
 }
 
@@ -124,17 +124,17 @@ fn axiom_at(axioms: &[Numbered], number: u32) -> Option<&Axiom> {
     }
 }
 
-// Puts the axioms of the set in that are idle.
+// Puts those of the role axioms in that are idle.
 fn put_idle(
     idle: &mut AxiomSet,
-    set: &AxiomSet,
+    role_axioms: &AxiomSet,
     axioms: &[Numbered],
     spoken: &IndexSet<u32>,
     roles: &RoleBox,
 )
     ensures { idle.new.limit ≡ idle.old.limit }
 {
-    for number in set.numbers() {
+    for number in role_axioms.numbers() {
         if is_idle(axioms, number, spoken, roles) {
             put_number(idle, number);
         }

@@ -1,44 +1,30 @@
 // The axioms that a refutation names.
 ghost use Rattle.std.specs.Prelude.{◌≡◌, ◌≤◌, ◌==◌, true, IfOk, length, map};
 ghost use Rattle.std.specs.FinSet as sets;
-ghost use Rattle.axiom_sets.specs.Sets.{member_list};
-ghost use Rattle.refutation_truth.specs.Meeting.{is_role_axiom as says_of_roles_alone, is_role_number};
 ghost use Rattle.search_trace.specs.RuleLine.{line_of};
-ghost use Rattle.closed_search.specs.Named.{axiom_of, uses_axiom, takes_role, IsPut, ArePut};
-ghost use Rattle.closed_search.specs.Named.{NamesAxioms};
+ghost use Rattle.closed_search.specs.Named.{axiom_of, uses_axiom, AreRoleAxioms, NamesAxioms, IsPut, ArePut};
 
 use crate::NoMemory;
 use axiom_sets::AxiomSet;
 use search_trace::Line;
-use shq_terms::{Axiom, Numbered, Ontology};
-use std::alloc::Global;
+use shq_terms::Ontology;
 
-/// Of the axioms of the set, the role axioms and those that stand in the lines.
+/// Of the axioms of the set, the role axioms, which are given, and those that stand in the lines.
 pub(crate) fn axioms_named(
-    alloc: Global,
     ontology: &Ontology,
     set: &AxiomSet,
+    role_axioms: &AxiomSet,
     lines: &[Line],
 ) -> Result<AxiomSet, NoMemory>
-    requires { set.now.limit ≡ length ontology.now.axioms }
+    requires set { set.now.limit ≡ length ontology.now.axioms }
+    requires role_limit { role_axioms.now.limit ≡ set.now.limit }
+    requires role_axioms { AreRoleAxioms ontology.now.axioms set.now.members role_axioms.now.members }
     ensures { IfOk result (NamesAxioms ontology.now.axioms set.now (map line_of lines.now)) }
 {
-    let mut named = AxiomSet::empty(alloc, set.limit())?;
-    put_role_axioms(&mut named, set, ontology.axioms());
+    let _ontology = ontology;
+    let mut named = role_axioms.try_clone()?;
     put_used(&mut named, set, lines);
     Ok(named)
-}
-
-// Puts the role axioms of the set in.
-fn put_role_axioms(named: &mut AxiomSet, set: &AxiomSet, axioms: &[Numbered])
-    requires { named.old.limit ≡ set.now.limit }
-    ensures limit { named.new.limit ≡ named.old.limit }
-    ensures members { ArePut set.now.members (takes_role axioms.now) (member_list set.now) named.old.members
-        named.new.members }
-{
-    for number in set.numbers() {
-        put_role_axiom(named, set, axioms, number);
-    }
 }
 
 // Puts the axioms of the set that stand in the lines in.
@@ -49,17 +35,6 @@ fn put_used(named: &mut AxiomSet, set: &AxiomSet, lines: &[Line])
 {
     for line in lines {
         put_axiom_of(named, set, line);
-    }
-}
-
-// Puts the axiom of this number in, if it is a role axiom and one of the set.
-fn put_role_axiom(named: &mut AxiomSet, set: &AxiomSet, axioms: &[Numbered], number: u32)
-    requires { named.old.limit ≡ set.now.limit }
-    ensures limit { named.new.limit ≡ named.old.limit }
-    ensures members { IsPut set.now.members (λ k. takes_role axioms.now k number) named.old.members named.new.members }
-{
-    if is_role_axiom_at(axioms, number) {
-        put_member(named, set, number);
     }
 }
 
@@ -98,16 +73,6 @@ fn is_member(set: &AxiomSet, number: u32) -> bool
     set.has(number)
 }
 
-// Whether the axiom of this number, from 1, is a role axiom.
-fn is_role_axiom_at(axioms: &[Numbered], number: u32) -> bool
-    ensures { result ≡ is_role_number axioms.now number }
-{
-    match axioms.get(number.saturating_sub(1) as usize) {
-        Some(numbered) => is_role_axiom(&numbered.axiom),
-        None => false,
-    }
-}
-
 // The axiom that stands in the line.
 fn axiom_in(line: &Line) -> Option<u32>
     ensures { result ≡ axiom_of (line_of line.now) }
@@ -120,24 +85,5 @@ fn axiom_in(line: &Line) -> Option<u32>
         Line::And(..) | Line::Or(..) | Line::Choose(..) | Line::Clash(..) => None,
         Line::All(..) | Line::Carry(..) | Line::SomeOf(..) | Line::Least(..) => None,
         Line::Most(..) => None,
-    }
-}
-
-fn is_role_axiom(axiom: &Axiom) -> bool
-    ensures { result ≡ says_of_roles_alone «axiom».now }
-{
-    match axiom {
-        Axiom::SubRole(_, _) | Axiom::EquivalentRoles(_) | Axiom::Transitive(_) => true,
-        Axiom::SubClassOf(_, _)
-        | Axiom::EquivalentClasses(_)
-        | Axiom::DisjointClasses(_)
-        | Axiom::DisjointUnion(_, _)
-        | Axiom::Domain(_, _)
-        | Axiom::Range(_, _)
-        | Axiom::Functional(_)
-        | Axiom::Member(_, _)
-        | Axiom::Pair(_, _, _)
-        | Axiom::SameAll(_)
-        | Axiom::Different(_) => false,
     }
 }

@@ -9,7 +9,7 @@ ghost use Rattle.search_trace.specs.Written.{names_are_listed};
 ghost use Rattle.search_trace.specs.RuleLine.{line_of};
 ghost use Rattle.search_trace.specs.Trace.{TraceLists, lines_in};
 ghost use Rattle.closed_search.specs.Finished.{are_over, IsNumbered};
-ghost use Rattle.closed_search.specs.Named.{NamesAxioms, NamesNoOther};
+ghost use Rattle.closed_search.specs.Named.{AreRoleAxioms, NamesAxioms, NamesNoOther};
 ghost use Rattle.closed_search.specs.Refuted.{uses_names, CloseAll, IsWrittenRefutation};
 ghost use Rattle.closed_search.specs.Shorter.{HasSomeOf};
 
@@ -27,7 +27,8 @@ use std::alloc::Global;
 /// A refutation of the query by lines of a search over a set of axioms, where these close everything: by those on which
 /// the ends of the branches rest, or by all. What is left out is needed by none of the lines that stay, since these are
 /// a valid refutation where all lines close everything. Of the set it names role axioms alone, and axioms that stand in
-/// its lines. The concepts of the lines are numbers of the table, and `roles` is the role box of the set.
+/// its lines. The concepts of the lines are numbers of the table, `roles` is the role box of the set, and its role
+/// axioms are given, since to look for them among all axioms would cost each refutation what the set costs.
 ///
 /// # Errors
 ///
@@ -37,11 +38,14 @@ pub fn refutation_of(
     trace: Trace,
     ontology: &Ontology,
     set: &AxiomSet,
+    role_axioms: &AxiomSet,
     query: &Query,
     concepts: &Concepts,
     roles: &RoleBox,
 ) -> Result<Refutation, NoMemory>
     requires set { set.now.limit ≡ length ontology.now.axioms }
+    requires role_limit { role_axioms.now.limit ≡ set.now.limit }
+    requires role_axioms { AreRoleAxioms ontology.now.axioms set.now.members role_axioms.now.members }
     requires in_limit { IsInLimit ontology.now query.now }
     requires over { are_over (length concepts.now) (lines_in trace) ≡ true }
     requires listed { list_all (uses_names ontology.now concepts.now) (lines_in trace) ≡ true }
@@ -53,8 +57,25 @@ pub fn refutation_of(
         → IsWrittenRefutation ontology.now query.now r) }
 {
     let lines = trace.into_lines(alloc)?;
-    let whole = whole(alloc, copies(alloc, &lines)?, ontology, set, concepts)?;
-    let found = shorter(alloc, lines, ontology, set, query, concepts, roles, &whole)?;
+    let whole = whole(
+        alloc,
+        copies(alloc, &lines)?,
+        ontology,
+        set,
+        role_axioms,
+        concepts,
+    )?;
+    let found = shorter(
+        alloc,
+        lines,
+        ontology,
+        set,
+        role_axioms,
+        query,
+        concepts,
+        roles,
+        &whole,
+    )?;
     match found {
         Some(found) => Ok(found),
         None => Ok(whole),
@@ -67,9 +88,12 @@ fn whole(
     lines: Vec<Line>,
     ontology: &Ontology,
     set: &AxiomSet,
+    role_axioms: &AxiomSet,
     concepts: &Concepts,
 ) -> Result<Refutation, NoMemory>
     requires set { set.now.limit ≡ length ontology.now.axioms }
+    requires role_limit { role_axioms.now.limit ≡ set.now.limit }
+    requires role_axioms { AreRoleAxioms ontology.now.axioms set.now.members role_axioms.now.members }
     requires over { are_over (length concepts.now) (map line_of lines.items) ≡ true }
     requires listed { list_all (uses_names ontology.now concepts.now) (map line_of lines.items) ≡ true }
     ensures axioms { IfOk result (λ r. NamesNoOther ontology.now.axioms set.now r.lines r.axioms) }
@@ -80,7 +104,7 @@ fn whole(
         → (query : Asked) → CloseAll ontology.now set.now concepts.now query trace.lines
         → IsWrittenRefutation ontology.now query r) }
 {
-    let named = axioms_named(alloc, ontology, set, &lines)?;
+    let named = axioms_named(ontology, set, role_axioms, &lines)?;
     let refutation = refutation_by(alloc, lines, ontology, named, concepts)?;
     Ok(refutation)
 }

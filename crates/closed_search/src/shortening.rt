@@ -5,6 +5,7 @@ ghost use Rattle.refutation_check.specs.Limits.{IsInLimit};
 ghost use Rattle.search_trace.specs.ReadBack.{has_nodes};
 ghost use Rattle.search_trace.specs.RuleLine.{line_of};
 ghost use Rattle.closed_search.specs.Finished.{are_over, IsNumbered};
+ghost use Rattle.closed_search.specs.Named.{AreRoleAxioms};
 ghost use Rattle.closed_search.specs.Refuted.{uses_names};
 ghost use Rattle.closed_search.specs.Shorter.{HasSomeOf, IsOver, IsShorter};
 
@@ -34,12 +35,15 @@ pub(crate) fn shorter(
     lines: Vec<Line>,
     ontology: &Ontology,
     set: &AxiomSet,
+    role_axioms: &AxiomSet,
     query: &Query,
     concepts: &Concepts,
     roles: &RoleBox,
     whole: &Refutation,
 ) -> Result<Option<Refutation>, NoMemory>
     requires set { set.now.limit ≡ length ontology.now.axioms }
+    requires role_limit { role_axioms.now.limit ≡ set.now.limit }
+    requires role_axioms { AreRoleAxioms ontology.now.axioms set.now.members role_axioms.now.members }
     requires in_limit { IsInLimit ontology.now query.now }
     requires over { are_over (length concepts.now) (map line_of lines.items) ≡ true }
     requires listed { list_all (uses_names ontology.now concepts.now) (map line_of lines.items) ≡ true }
@@ -55,7 +59,7 @@ pub(crate) fn shorter(
     if !have_nodes(&kept) {
         return Ok(None);
     }
-    let found = of_lines(alloc, kept, ontology, set, concepts, roles)?;
+    let found = of_lines(alloc, kept, ontology, set, role_axioms, concepts, roles)?;
     if_valid(alloc, ontology, set, query, found)
 }
 
@@ -65,18 +69,21 @@ fn of_lines(
     lines: Vec<Line>,
     ontology: &Ontology,
     set: &AxiomSet,
+    role_axioms: &AxiomSet,
     concepts: &Concepts,
     roles: &RoleBox,
 ) -> Result<Refutation, NoMemory>
     requires set { set.now.limit ≡ length ontology.now.axioms }
+    requires role_limit { role_axioms.now.limit ≡ set.now.limit }
+    requires role_axioms { AreRoleAxioms ontology.now.axioms set.now.members role_axioms.now.members }
     requires over { are_over (length concepts.now) (map line_of lines.items) ≡ true }
     requires listed { list_all (uses_names ontology.now concepts.now) (map line_of lines.items) ≡ true }
     requires nodes { list_all has_nodes (map line_of lines.items) ≡ true }
     ensures over { IfOk result (IsOver ontology.now set.now) }
     ensures numbered { IfOk result (λ r. IsNumbered concepts.now r.axioms (map line_of lines.items) r) }
 {
-    let idle = idle_role_axioms(alloc, &lines, ontology, set, concepts, roles)?;
-    let mut named = axioms_named(alloc, ontology, set, &lines)?;
+    let idle = idle_role_axioms(alloc, &lines, ontology, role_axioms, concepts, roles)?;
+    let mut named = axioms_named(ontology, set, role_axioms, &lines)?;
     named.take_all(&idle);
     let refutation = refutation_by(alloc, lines, ontology, named, concepts)?;
     Ok(refutation)

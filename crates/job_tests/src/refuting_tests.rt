@@ -9,7 +9,7 @@ ghost use Rattle.shq_terms.specs.Concept.{name};
 use crate::reading::read;
 use axiom_sets::AxiomSet;
 use closed_search::{Line, Refutation, Trace, refutation_of};
-use ontology_limits::RoleBox;
+use search_rules::SearchRules;
 use search_trace::Deps;
 use shq_nnf::{Concepts, Shape};
 use shq_terms::{NoMemory, NumberList, Ontology, Query};
@@ -54,17 +54,27 @@ fn refutation(
     alloc: Global,
     ontology: &Ontology,
     query: &Query,
-    roles: &RoleBox,
+    rules: &SearchRules<'_>,
     concepts: &Concepts,
     class: u32,
 ) -> Result<Refutation, NoMemory>
+    requires ontology { rules.now.ontology ≡ ontology.now }
+    requires set { rules.now.set.limit ≡ length ontology.now.axioms }
     requires classes { 2 ≤ length ontology.now.classes }
     requires in_limit { IsInLimit ontology.now query.now }
     requires class { IsNumber concepts.now class (name 1) }
 {
-    let set = AxiomSet::full(alloc, ontology.axiom_count())?;
     let trace = closed_trace(alloc, class)?;
-    refutation_of(alloc, trace, ontology, &set, query, concepts, roles)
+    refutation_of(
+        alloc,
+        trace,
+        ontology,
+        rules.set(),
+        rules.role_axioms(),
+        query,
+        concepts,
+        rules.roles(),
+    )
 }
 
 fn are_used(refutation: &Refutation) -> bool {
@@ -99,15 +109,17 @@ fn is_made(
     alloc: Global,
     ontology: &Ontology,
     query: &Query,
-    roles: &RoleBox,
+    rules: &SearchRules<'_>,
     concepts: &Concepts,
     class: u32,
 ) -> Result<bool, NoMemory>
+    requires ontology { rules.now.ontology ≡ ontology.now }
+    requires set { rules.now.set.limit ≡ length ontology.now.axioms }
     requires classes { 2 ≤ length ontology.now.classes }
     requires in_limit { IsInLimit ontology.now query.now }
     requires class { IsNumber concepts.now class (name 1) }
 {
-    let refutation = refutation(alloc, ontology, query, roles, concepts, class)?;
+    let refutation = refutation(alloc, ontology, query, rules, concepts, class)?;
     Ok(is_right(&refutation))
 }
 
@@ -115,14 +127,16 @@ fn is_made_over(
     alloc: Global,
     ontology: &Ontology,
     query: &Query,
-    roles: &RoleBox,
+    rules: &SearchRules<'_>,
 ) -> Result<bool, NoMemory>
+    requires ontology { rules.now.ontology ≡ ontology.now }
+    requires set { rules.now.set.limit ≡ length ontology.now.axioms }
     requires classes { 2 ≤ length ontology.now.classes }
     requires in_limit { IsInLimit ontology.now query.now }
 {
     let mut concepts = Concepts::new(alloc)?;
     let class = put_classes(&mut concepts)?;
-    is_made(alloc, ontology, query, roles, &concepts, class)
+    is_made(alloc, ontology, query, rules, &concepts, class)
 }
 
 fn is_shortened(alloc: Global, ontology: &Ontology, query: &Query) -> Result<bool, NoMemory>
@@ -131,8 +145,9 @@ fn is_shortened(alloc: Global, ontology: &Ontology, query: &Query) -> Result<boo
     if ontology.class_count() < 2 {
         return Ok(false);
     }
-    let roles = RoleBox::build(alloc, ontology, &[])?;
-    is_made_over(alloc, ontology, query, &roles)
+    let set = AxiomSet::full(alloc, ontology.axiom_count())?;
+    let rules = SearchRules::build(alloc, ontology, &set)?;
+    is_made_over(alloc, ontology, query, &rules)
 }
 
 #[test]

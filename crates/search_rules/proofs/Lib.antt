@@ -7,3 +7,4 @@ pub mod Stays
 pub mod Ranged
 pub mod Filing
 pub mod Giving
+pub mod RoleSets

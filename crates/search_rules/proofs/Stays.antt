@@ -1,6 +1,7 @@
 -- The rows of a set stay its rows while the table of concepts grows.
-use Rattle.std.proofs.Common.{◌≡◌, ℕ, ◌<◌, ◌||◌, Bool, true, false, List, [], ◌∷◌, length, Some, refl, ap, sym, ◌∙◌}
+use Rattle.std.proofs.Common.{◌≡◌, ℕ, ◌<◌, ◌&&◌, ◌||◌, Bool, true, false, List, [], ◌∷◌, length, Some, refl, ap, sym, ◌∙◌}
 use Rattle.std.proofs.Common.{subst, arith, Option}
+use Rattle.std.specs.FinSet as sets
 use Rattle.std.proofs.lemmas.Bool.{or_right}
 use Rattle.shq_terms.specs.Concept.{Concept}
 use Rattle.calculus_specs.specs.Shape.{Shape, shape_of, IsTable}
@@ -18,6 +19,7 @@ use Rattle.absorption.specs.Tables.{HasFixedTrigger, IsRowTable}
 use Rattle.shq_terms.specs.Listed.{Listed}
 use Rattle.shq_terms.specs.declared.axioms.Query.{Query}
 use Rattle.absorption.specs.Sets.{Limited, member_list}
+use Rattle.ontology_limits.specs.Meeting.{is_role_number}
 use Rattle.ontology_limits.specs.RoleAxiom.{RoleAxiom}
 use Rattle.ontology_limits.specs.RoleAxioms.{role_axioms}
 use Rattle.ontology_limits.specs.Steps.{is_transitive}
@@ -99,15 +101,16 @@ module _ (old new : List Shape) (grown : Extends old new) where
   }
 
 -- what is built is kept
-pub kept_all : (o : Listed) (set copy : Limited) (only : List ℕ) (roles : List RoleAxiom) (a b d : List Shape)
-    (f : FiledRows) (gs : List Given) (numbers : NumberLists) (edges : EdgeLists)
-    → IsOntologyInLimit o → copy ≡ set → only ≡ member_list set → roles ≡ role_axioms o.axioms only → IsTable d
+pub kept_all : (o : Listed) (set copy role_set : Limited) (only : List ℕ) (roles : List RoleAxiom)
+    (a b d : List Shape) (f : FiledRows) (gs : List Given) (numbers : NumberLists) (edges : EdgeLists)
+    → IsOntologyInLimit o → copy ≡ set → role_set.limit ≡ set.limit
+    → ((k : ℕ) → sets.contains role_set.members k ≡ (sets.contains set.members k && is_role_number o.axioms k)) → only ≡ member_list set → roles ≡ role_axioms o.axioms only → IsTable d
     → IsClosed (is_below roles) (is_transitive roles) d → Extends a b → Extends b d
     → IsRowTable o.axioms (member_list set) a f → AreNumbered b (stated_facts o.axioms only) gs
     → AreNumberLists d roles f.at_names numbers → AreEdgeLists (is_below roles) f edges
-    → AreKept (record { ontology = o; set = copy; table = d; filed = f; given = gs }) roles numbers edges
-kept_all o set copy only roles a b d f gs numbers edges limits same members is good closed first later rows given lists
-    at_edges =
+    → AreKept (record { ontology = o; set = copy; table = d; filed = f; given = gs }) role_set roles numbers edges
+kept_all o set copy role_set only roles a b d f gs numbers edges limits same role_limit role_members members is good
+    closed first later rows given lists at_edges =
     let all : roles ≡ role_axioms o.axioms (member_list set) = is ∙ ap (role_axioms o.axioms) members in
     let r : RuleLists = record { ontology = o; set = set; table = d; filed = f; given = gs } in
     let numbered : AreNumbered b (stated_facts o.axioms (member_list set)) gs =
@@ -118,7 +121,8 @@ kept_all o set copy only roles a b d f gs numbers edges limits same members is g
     (length (stated_facts o.axioms (member_list set))) numbered)
     (are_given (length o.classes) (length o.roles) (length o.individuals) o.axioms (member_list set) limits.listed) in
     subst
-    (λ (s : Limited). AreKept (record { ontology = o; set = s; table = d; filed = f; given = gs }) roles numbers edges)
+    (λ (s : Limited).
+    AreKept (record { ontology = o; set = s; table = d; filed = f; given = gs }) role_set roles numbers edges)
     (sym same)
     (record {
       ready = record {
@@ -128,18 +132,21 @@ kept_all o set copy only roles a b d f gs numbers edges limits same members is g
         facts_are = facts;
         have_numbers = facts_numbered r facts;
       };
+      role_limit = role_limit;
+      role_members = role_members;
       roles_are = all;
       number_lists = lists;
       edge_lists = at_edges;
     })
 
 -- and stays so with the new concepts of a query
-pub kept_grown : (r : RuleLists) (roles : List RoleAxiom) (numbers lists : NumberLists) (edges : EdgeLists)
+pub kept_grown : (r : RuleLists) (role_set : Limited) (roles : List RoleAxiom) (numbers lists : NumberLists) (edges : EdgeLists)
     (new : List Shape) (q : Query) (found : QueryNumbers)
-    → AreKept r roles numbers edges → IsFound r.table new roles r.filed.at_names q found → found.tables ≡ Some lists
-    → AreKept (record { ontology = r.ontology; set = r.set; table = new; filed = r.filed; given = r.given }) roles lists
-    edges
-kept_grown r roles numbers lists edges new q found h f is =
+    → AreKept r role_set roles numbers edges → IsFound r.table new roles r.filed.at_names q found
+    → found.tables ≡ Some lists
+    → AreKept (record { ontology = r.ontology; set = r.set; table = new; filed = r.filed; given = r.given }) role_set
+    roles lists edges
+kept_grown r role_set roles numbers lists edges new q found h f is =
     let grown : RuleLists =
     record { ontology = r.ontology; set = r.set; table = new; filed = r.filed; given = r.given } in
     let facts : AreGiven (context_in grown) r.given = given_stay r new f.kept h.ready.facts_are in
@@ -151,6 +158,8 @@ kept_grown r roles numbers lists edges new q found h f is =
         facts_are = facts;
         have_numbers = facts_numbered grown facts;
       };
+      role_limit = h.role_limit;
+      role_members = h.role_members;
       roles_are = h.roles_are;
       number_lists = subst (λ (o : Option NumberLists). HasListsIf r.table new roles r.filed.at_names o) is f.lists;
       edge_lists = h.edge_lists;

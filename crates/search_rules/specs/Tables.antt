@@ -1,8 +1,12 @@
 -- The tables that answer what the rules are asked, by number.
-use Rattle.std.specs.Prelude.{◌≡◌, ℕ, ◌<◌, Bool, List, [], map, length, Option, None, Some, MatchOption, slice_index_or}
+use Rattle.std.specs.Prelude.{◌≡◌, ℕ, ◌<◌, ◌&&◌, Bool, List, [], map, length, Option, None, Some, MatchOption}
+use Rattle.std.specs.Prelude.{slice_index_or}
+use Rattle.std.specs.FinSet as sets
+use Rattle.axiom_sets.specs.Sets.{Limited}
 use Rattle.calculus_specs.specs.Shape.{Shape, shape_of}
 use Rattle.calculus_specs.specs.Shape.Shape.{all_of}
 use Rattle.calculus_specs.specs.Tree.{IsComplement}
+use Rattle.ontology_limits.specs.Meeting.{is_role_number}
 use Rattle.ontology_limits.specs.RoleAxiom.{RoleAxiom}
 use Rattle.ontology_limits.specs.RoleAxioms.{role_axioms}
 use Rattle.ontology_limits.specs.Steps.{is_transitive}
@@ -50,8 +54,12 @@ pub record AreEdgeLists (below : ℕ → ℕ → Bool) (filed : FiledRows) (list
   pub ends_are : (r : ℕ) → list_at lists.ends r ≡ edge_rows below (waits_for End) filed.at_roles r
 
 -- what is kept of the rules is what it is to be
-pub record AreKept (r : RuleLists) (roles : List RoleAxiom) (numbers : NumberLists) (edges : EdgeLists) : Type 0 where
+pub record AreKept (r : RuleLists) (role_set : Limited) (roles : List RoleAxiom) (numbers : NumberLists)
+    (edges : EdgeLists) : Type 0 where
   pub ready : IsReady r
+  pub role_limit : role_set.limit ≡ r.set.limit
+  pub role_members : (k : ℕ) → sets.contains role_set.members k
+      ≡ (sets.contains r.set.members k && is_role_number r.ontology.axioms k)
   pub roles_are : roles ≡ role_axioms r.ontology.axioms (numbers_in r)
   pub number_lists : AreNumberLists r.table roles r.filed.at_names numbers
   pub edge_lists : AreEdgeLists (is_below roles) r.filed edges

@@ -1,5 +1,5 @@
-//! What is the same for all searches over one set of axioms, made once: concepts by number, roles, rows, the facts that
-//! assertions give of individuals, and what a search asks of these.
+//! What is the same for all searches over one set of axioms, made once: concepts by number, roles and their axioms,
+//! rows, the facts that assertions give of individuals, and what a search asks of these.
 //!
 //! A tableau search asks the same questions over and over: which rows wait for a name or an edge, what a universal
 //! restriction hands on along transitive roles, what the complement of a concept is, which number restrictions count a
@@ -22,6 +22,7 @@ mod mosts;
 mod named_rows;
 mod number_tables;
 mod query_numbers;
+mod role_axioms;
 mod search_rules;
 
 pub use search_rules::SearchRules;

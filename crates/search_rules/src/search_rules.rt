@@ -1,11 +1,13 @@
 // The rules of searches over one set of axioms.
-ghost use Rattle.std.specs.Prelude.{◌≡◌, ℕ, ◌<◌, ◌≤◌, All, IsTrue, IfOk, OnOk, OnErr, length};
+ghost use Rattle.std.specs.Prelude.{◌≡◌, ℕ, ◌<◌, ◌≤◌, ◌&&◌, All, IsTrue, IfOk, OnOk, OnErr, length};
+ghost use Rattle.std.specs.FinSet as sets;
 ghost use Rattle.calculus_specs.specs.Shape.{IsTable};
 ghost use Rattle.absorption.specs.Sets.{IsWithin, member_list};
 ghost use Rattle.absorption.specs.Tables.{IsRowTable};
 ghost use Rattle.absorption.specs.Closed.{IsClosed};
 ghost use Rattle.assertion_box.specs.Stated.{stated_facts};
 ghost use Rattle.ontology_limits.specs.Counts.{has_counts_within};
+ghost use Rattle.ontology_limits.specs.Meeting.{is_role_number};
 ghost use Rattle.ontology_limits.specs.Numbers.{Extends};
 ghost use Rattle.ontology_limits.specs.RoleAxioms.{role_axioms};
 ghost use Rattle.ontology_limits.specs.Steps.{is_transitive};
@@ -20,7 +22,9 @@ use crate::edge_tables::EdgeTables;
 use crate::given_facts::GivenFacts;
 use crate::number_tables::NumberTables;
 use crate::query_numbers::{QueryNumbers, closed_tables, query_numbers};
-use absorption::{AxiomSet, RowTable};
+use crate::role_axioms::role_axioms_of;
+use absorption::RowTable;
+use axiom_sets::AxiomSet;
 use ontology_limits::{Concepts, RoleBox, Shape, each_axiom_is_in_limit};
 use shq_terms::{On, Ontology, Query};
 use std::alloc::Global;
@@ -32,6 +36,7 @@ use step_finders::{Given, NamedRow, PlainRow, Rules};
 pub struct SearchRules<'a> {
     ontology: &'a Ontology,
     set: AxiomSet,
+    role_axioms: AxiomSet,
     concepts: Concepts,
     roles: RoleBox,
     rows: RowTable,
@@ -60,8 +65,8 @@ impl<'a> Model for SearchRules<'a> {
     } };
 
     ghost invariant = { λ r. AreKept
-        (record { ontology = r.ontology.now; set = r.set; table = r.concepts; filed = r.rows; given = r.given }) r.roles
-        r.numbers r.edges };
+        (record { ontology = r.ontology.now; set = r.set; table = r.concepts; filed = r.rows; given = r.given })
+        r.role_axioms r.roles r.numbers r.edges };
 }
 
 impl<'a> SearchRules<'a> {
@@ -146,6 +151,15 @@ impl<'a> SearchRules<'a> {
         &self.set
     }
 
+    /// The role axioms of the set.
+    pub fn role_axioms(&self) -> &AxiomSet
+        ensures limit { result.now.limit ≡ self.now.set.limit }
+        ensures members { (k : ℕ) → sets.contains result.now.members k
+            ≡ (sets.contains self.now.set.members k && is_role_number self.now.ontology.axioms k) }
+    {
+        &self.role_axioms
+    }
+
     /// The concepts by number.
     pub fn concepts(&self) -> &Concepts
         ensures concepts { result.now ≡ self.now.table }
@@ -187,10 +201,11 @@ fn rules_of<'a>(
     let mut concepts = Concepts::new(alloc)?;
     let (rows, given) = rows_and_facts(alloc, ontology, set, only, &mut concepts)?;
     let (numbers, edges) = tables_of(alloc, &mut concepts, &roles, &rows)?;
-    let set = set.try_clone()?;
+    let (set, role_axioms) = kept_sets(alloc, ontology, set, only)?;
     Ok(SearchRules {
         ontology,
         set,
+        role_axioms,
         concepts,
         roles,
         rows,
@@ -198,6 +213,24 @@ fn rules_of<'a>(
         numbers,
         edges,
     })
+}
+
+// The set once more, and its role axioms.
+fn kept_sets(
+    alloc: Global,
+    ontology: &Ontology,
+    set: &AxiomSet,
+    only: &[u32],
+) -> Result<(AxiomSet, AxiomSet), NoMemory>
+    requires { only.now ≡ member_list set.now }
+    ensures same { IfOk result (λ p. p.0 ≡ set.now) }
+    ensures limit { IfOk result (λ p. p.1.limit ≡ set.now.limit) }
+    ensures members { IfOk result (λ p. (k : ℕ) → sets.contains p.1.members k
+        ≡ (sets.contains set.now.members k && is_role_number ontology.now.axioms k)) }
+{
+    let role_axioms = role_axioms_of(alloc, ontology, set, only)?;
+    let set = set.try_clone()?;
+    Ok((set, role_axioms))
 }
 
 // The rows and the stated facts of a set. Their concepts are put into the table, and the complement of each name.

@@ -45,6 +45,7 @@ fn refutation<A: Allocator + Copy>(
         trace,
         rules.ontology(),
         rules.set(),
+        rules.role_axioms(),
         query,
         rules.concepts(),
         rules.roles(),

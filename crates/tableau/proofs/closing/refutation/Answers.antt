@@ -1,8 +1,10 @@
-use Rattle.std.proofs.Common.{◌≡◌, true, List, length, subst, sym}
+use Rattle.std.proofs.Common.{◌≡◌, true, List, length, ap, subst, sym, ◌∙◌}
 use Rattle.std.specs.List.{list_all}
+use Rattle.axiom_sets.specs.Sets.{Limited}
 use Rattle.shq_terms.specs.Listed.{Listed}
 use Rattle.calculus_specs.specs.Shape.{Shape}
 use Rattle.closed_search.specs.Finished.{are_over}
+use Rattle.closed_search.specs.Named.{AreRoleAxioms}
 use Rattle.closed_search.specs.Trace.{TraceLists, lines_in}
 use Rattle.closed_search.specs.Refuted.{uses_names}
 use Rattle.tableau.proofs.Names.{closing_is_over, closing_is_listed}
@@ -27,3 +29,14 @@ refutation_of-requires-clause-listed g c =
     (λ (t : TraceLists). list_all (uses_names c.args.rules.now.ontology c.args.rules.now.table) (lines_in t) ≡ true)
     (sym c.take_trace-trace.ensures.trace)
     (closing_is_listed c.args.rules.now c.args.progress.now c.requires.closing c.requires.from_nothing)))
+
+pub refutation_of-requires-clause-role_limit : goal.refutation_of-requires-clause-role_limit
+refutation_of-requires-clause-role_limit g c =
+    c.role_axioms.ensures.limit ∙ sym (ap (λ (s : Limited). s.limit) c.set.ensures.set)
+
+pub refutation_of-requires-clause-role_axioms : goal.refutation_of-requires-clause-role_axioms
+refutation_of-requires-clause-role_axioms g c =
+    let found = c.role_axioms.result.now.members in
+    subst (λ (o : Listed). AreRoleAxioms o.axioms c.set.result.now.members found) (sym c.ontology.ensures)
+    (subst (λ (s : Limited). AreRoleAxioms c.args.rules.now.ontology.axioms s.members found) (sym c.set.ensures.set)
+    c.role_axioms.ensures.members)
