@@ -195,6 +195,7 @@ AreToldFrom first at table s fs (Says f ∷ items) = AreToldFrom first at table 
 AreToldFrom first at table s fs (Mark c ∷ items) =
     AreToldBy first at table fs fs s × AreToldFrom first at table s fs items
 
+-- and of a whole trail
 abbrev pub AreTold : ℕ → ℕ → List Shape → SeenSets → List Item → Type 0
 AreTold first at table s trail = AreToldFrom first at table s [] trail
 
