@@ -103,7 +103,7 @@ impl Typing {
     {
         let mut open = self.rows[individual as usize].try_clone()?;
         open.take_all(types);
-        most_specific(relation, &open)
+        Ok(most_specific(relation, &open))
     }
 
     // Asks whether the individual is in a class that is open.

@@ -1,14 +1,12 @@
--- The first class of a set, and classes above one.
-use Rattle.std.proofs.Common.{◌≡◌, ℕ, ◌+◌, ◌-◌, ◌<◌, ◌≤◌, ◌&&◌, not, true, false, List, [], ◌∷◌, length, get_or, ap}
-use Rattle.std.proofs.Common.{sym, ◌∙◌, arith}
-use Rattle.std.specs.Prelude.{Option, None, Some, IfSome}
+-- The first class of a set, and the numbers of a set one after the other.
+use Rattle.std.proofs.Common.{◌≡◌, ℕ, suc, ◌+◌, ◌-◌, ◌<◌, ◌≤◌, true, false, List, [], ◌∷◌, length, get_or, refl, ap}
+use Rattle.std.proofs.Common.{sym, subst, ◌∙◌, arith}
 use Rattle.std.specs.FinSet as sets
-use Rattle.std.specs.Cmp.{nat_cmp_total}
-use Rattle.std.proofs.lemmas.Bool.{and_parts, false_from_ne_true}
-use Rattle.lane_sieve.specs.Sets.{NumberSet}
+use Rattle.std.specs.List.{Contains}
+use Rattle.std.proofs.lemmas.Bool.{false_from_ne_true}
+use Rattle.std.proofs.lemmas.List.{get_or_default}
 use Rattle.axiom_sets.specs.Sets.{Limited, IsWithin, member_list}
 use Rattle.axiom_sets.proofs.Listed.{member_list-at, member_list-place}
-use Rattle.subsumption.specs.Progress.{IsOneOf}
 
 -- the first number of a set is a member
 pub first_member : (s : Limited) → IsWithin s.limit s.members → (n : ℕ) (rest : List ℕ) → member_list s ≡ n ∷ rest
@@ -33,26 +31,28 @@ pub none_is_one : (s : Limited) → IsWithin s.limit s.members → member_list s
 none_is_one s within is y lt = false_from_ne_true (sets.contains s.members (y + 1))
     (λ member. let at = member_list-place s within (y + 1) member in absurd (omega (arith, at.1, ap length is)))
 
--- what is left of a set, when others were taken out, is part of it
-pub part_of_set : (all outside below higher : NumberSet) (k : ℕ)
-    → higher ≡ sets.difference (sets.difference all outside) below → sets.contains higher k ≡ true
-    → sets.contains all k ≡ true
-part_of_set all outside below higher k is member =
-    let twice : (sets.contains (sets.difference all outside) k && not (sets.contains below k)) ≡ true =
-    sym (sets.contains-difference nat_cmp_total (sets.difference all outside) below k)
-    ∙ ap (λ (s : NumberSet). sets.contains s k) (sym is) ∙ member in
-    let once : (sets.contains all k && not (sets.contains outside k)) ≡ true =
-    sym (sets.contains-difference nat_cmp_total all outside k)
-    ∙ (and_parts (sets.contains (sets.difference all outside) k) (not (sets.contains below k)) twice).0 in
-    (and_parts (sets.contains all k) (not (sets.contains outside k)) once).0
+-- ---- the numbers of a set, one after the other
 
-pub one_within : (size : ℕ) (s : Limited) → s.limit ≡ size → (r : Option ℕ) → IsOneOf s.limit s r
-    → IfSome r (λ y. y < size)
-one_within size s e None h = tt
-one_within size s e (Some y) h = omega (arith, h.0, e)
+-- each of the numbers is from one to the size
+abbrev pub AreUpTo : ℕ → List ℕ → Type 0
+AreUpTo size rest = (n : ℕ) → Contains rest n → (1 ≤ n) × (n ≤ size)
 
-pub one_member : (all outside below : NumberSet) (s : Limited)
-    → s.members ≡ sets.difference (sets.difference all outside) below → (r : Option ℕ) → IsOneOf s.limit s r
-    → IfSome r (λ y. sets.contains all (y + 1) ≡ true)
-one_member all outside below s is None h = tt
-one_member all outside below s is (Some y) h = part_of_set all outside below s.members (y + 1) is h.1
+pub listed_within : (s : Limited) → IsWithin s.limit s.members → AreUpTo s.limit (member_list s)
+listed_within s within n at =
+    let same : get_or (member_list s) at.0 0 ≡ n = get_or_default (member_list s) at.0 0 n at.1 ∙ at.2 in
+    let m = member_list-at s at.0 at.1 in
+    ((within n (ap (sets.contains s.members) (sym same) ∙ m.0)).0, omega (arith, m.1, same))
+
+pub all_up_to : (size : ℕ) (s : Limited) (rest : List ℕ) → IsWithin s.limit s.members → s.limit ≡ size
+    → rest ≡ member_list s → AreUpTo size rest
+all_up_to size s rest within same is n at =
+    let h = listed_within s within n (subst (λ (ns : List ℕ). Contains ns n) is at) in
+    (h.0, omega (arith, h.1, same))
+
+module _ (size : ℕ) (rest : List ℕ) (h : AreUpTo size rest) (n : ℕ) (others : List ℕ) (is : rest ≡ n ∷ others) where
+  pub next_up_to : (1 ≤ n) × (n ≤ size)
+  next_up_to = h n (subst (λ (ns : List ℕ). Contains ns n) (sym is) (0, omega arith, refl))
+
+  pub others_up_to : AreUpTo size others
+  others_up_to m at =
+      h m (subst (λ (ns : List ℕ). Contains ns m) (sym is) (suc at.0, omega (arith, at.1), at.2))

@@ -1,8 +1,8 @@
 -- Rows to which numbers are added one after the other.
-use Rattle.std.proofs.Common.{◌≡◌, ◌≢◌, ◌⊎◌, ℕ, suc, ◌+◌, ◌-◌, ◌<◌, ◌≤◌, ◌&&◌, ◌||◌, Bool, true, false, List, [], ◌∷◌}
+use Rattle.std.proofs.Common.{◌≡◌, ◌≢◌, ◌⊎◌, ℕ, ◌+◌, ◌-◌, ◌<◌, ◌≤◌, ◌&&◌, ◌||◌, Bool, true, false, List, [], ◌∷◌}
 use Rattle.std.proofs.Common.{◌++◌, ◌^◌, length, length-append, get_or, set, take, drop, refl, sym, ◌∙◌, ap, subst}
 use Rattle.std.proofs.Common.{arith, inl, inr, eqb, leb, ltb, eq-eqb}
-use Rattle.std.specs.List.{list_any, Contains}
+use Rattle.std.specs.List.{list_any}
 use Rattle.std.specs.FinSet as sets
 use Rattle.std.specs.Cmp.{nat_cmp_total}
 use Rattle.std.proofs.lemmas.Bool.{cases_lt, cases_eq, ne_eqb, le-leb, lt-ltb, or_cases, or_left, or_right, and_parts}
@@ -16,7 +16,7 @@ use Rattle.lane_sieve.specs.Sets.{NumberSet}
 use Rattle.lane_sieve.proofs.Bits.{contains_insert}
 use Rattle.lane_sieve.proofs.Ranges.{any-passing}
 use Rattle.axiom_sets.specs.Sets.{Limited, IsWithin, member_list}
-use Rattle.axiom_sets.proofs.Listed.{member_list-at}
+use Rattle.subsumption.proofs.Firsts.{AreUpTo, all_up_to, next_up_to, others_up_to}
 use Rattle.subsumption.specs.Matrices.{no_row, row_in, both_have, Gains, IsSquare, IsCovered, IsMatrix}
 
 -- whether the row x has the number y + 1
@@ -281,7 +281,7 @@ among rest x = list_any (λ n. eqb n (x + 1)) rest
 -- with what the rest of the numbers add, the rows have what all add
 pub record IsUniting (size : ℕ) (chosen added : Limited) (old now : List Limited) (rest : List ℕ) : Type 0 where
   pub square : IsSquare size now
-  pub listed : (n : ℕ) → Contains rest n → (1 ≤ n) × (n ≤ size)
+  pub listed : AreUpTo size rest
   pub whole : (x y : ℕ) → x < size
       → (row_has now x y || (among rest x && sets.contains added.members (y + 1))) ≡
       (row_has old x y || (sets.contains chosen.members (x + 1) && sets.contains added.members (y + 1)))
@@ -297,22 +297,12 @@ among_all s x lt =
     rw (le-leb 0 (x + 1) (omega arith), lt-ltb (x + 1) (0 + (s.limit + 1)) (omega (arith, lt))) refl in
     any-passing p 0 (s.limit + 1) (x + 1) ∙ ap (λ (b : Bool). p (x + 1) && b) within ∙ and_true (p (x + 1))
 
-listed_within : (s : Limited) → IsWithin s.limit s.members → (n : ℕ) → Contains (member_list s) n
-    → (1 ≤ n) × (n ≤ s.limit)
-listed_within s within n at =
-    let same : get_or (member_list s) at.0 0 ≡ n = get_or_default (member_list s) at.0 0 n at.1 ∙ at.2 in
-    let m = member_list-at s at.0 at.1 in
-    ((within n (ap (sets.contains s.members) (sym same) ∙ m.0)).0, omega (arith, m.1, same))
-
 pub begins_uniting : (size : ℕ) (chosen added : Limited) (rows : List Limited) (rest : List ℕ) → IsSquare size rows
     → size ≡ chosen.limit → IsWithin chosen.limit chosen.members → rest ≡ member_list chosen
     → IsUniting size chosen added rows rows rest
 begins_uniting size chosen added rows rest square e within is = record {
   square = square;
-  listed =
-      λ n at.
-      let h = listed_within chosen within n (subst (λ (ns : List ℕ). Contains ns n) is at) in
-      (h.0, omega (arith, h.1, e));
+  listed = all_up_to size chosen rest within (sym e) is;
   whole =
       λ x y lx. ap (λ (b : Bool). row_has rows x y || (b && sets.contains added.members (y + 1)))
       (ap (λ (ns : List ℕ). among ns x) is ∙ among_all chosen x (omega (arith, lx, e)));
@@ -327,7 +317,7 @@ gained false false false = refl
 module _ (size : ℕ) (chosen added : Limited) (old now : List Limited) (rest : List ℕ)
     (h : IsUniting size chosen added old now rest) (n : ℕ) (rest' : List ℕ) (is : rest ≡ n ∷ rest') where
   pub next_within : (1 ≤ n) × (n ≤ size)
-  next_within = h.listed n (subst (λ (ns : List ℕ). Contains ns n) (sym is) (0, omega arith, refl))
+  next_within = next_up_to size rest h.listed n rest' is
 
   pub next_limit : (d : Limited) → (get_or now (n - 1) d).limit ≡ size
   next_limit d =
@@ -347,8 +337,7 @@ module _ (size : ℕ) (chosen added : Limited) (old now : List Limited) (rest : 
       let a : ℕ → Bool = λ y. sets.contains added.members (y + 1) in
       record {
         square = still_square size place now h.square lt w fits;
-        listed =
-            λ m at. h.listed m (subst (λ (ns : List ℕ). Contains ns m) (sym is) (suc at.0, omega (arith, at.1), at.2));
+        listed = others_up_to size rest h.listed n rest' is;
         whole = λ x y lx. elim (cases_eq x place) [
           | inl same ↦
               let here : row_has (set now place w) x y ≡ (row_has now x y || a y) =

@@ -64,3 +64,8 @@ IsDone p x = (y : ℕ) → y < p.known.count + 2 → is_settled p x y ≡ true
 abbrev pub IsOpenAt : Progress → ℕ → Option ℕ → Type 0
 IsOpenAt p x None = IsDone p x
 IsOpenAt p x (Some y) = (y < p.known.count + 2) × (is_settled p x y ≡ false)
+
+-- the set has each class of which it is not settled whether x is part of it, the number greater by one there
+abbrev pub HasOpen : Progress → ℕ → Limited → Type 0
+HasOpen p x classes = (y : ℕ) → y < p.known.count + 2 → is_settled p x y ≡ false
+    → set.contains classes.members (y + 1) ≡ true

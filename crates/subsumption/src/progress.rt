@@ -33,7 +33,7 @@ pub(crate) struct Progress {
 
 impl Progress {
     ghost use Rattle.subsumption.specs.Mirrors.{Mirrors, passed_on};
-    ghost use Rattle.subsumption.specs.Progress.{IsGoing, HasStopped, Advances, is_settled, IsDone, IsOpenAt};
+    ghost use Rattle.subsumption.specs.Progress.{IsGoing, HasStopped, Advances, is_settled, IsDone, IsOpenAt, HasOpen};
     ghost use Rattle.subsumption.specs.Told.{AreOf};
 
     /// What holds before any question.
@@ -137,7 +137,8 @@ impl Progress {
         ensures alike { AreAlike oracle.old oracle.new }
     {
         let mut kept = None;
-        while let Some(other) = self.next_question(class)? {
+        let mut unsettled = self.classes.try_clone()?;
+        while let Some(other) = self.next_question(class, &mut unsettled) {
             self.ask(oracle, &mut kept, class, other)?;
         }
         Ok(())
@@ -191,33 +192,36 @@ impl Progress {
     }
 
     // The class of none, where it is open whether the class is part of it; else a most general class of which that is
-    // open.
-    fn next_question(&self, class: u32) -> Result<Option<u32>, NoMemory>
+    // open. The set has each of these classes; those that are settled are taken out of it.
+    fn next_question(&self, class: u32, unsettled: &mut AxiomSet) -> Option<u32>
         requires class { class < self.now.known.count + 2 }
         requires ruled_out { self.now.ruled_out.size ≡ self.now.known.count + 2 }
-        requires limit { self.now.classes.limit ≡ self.now.known.count + 2 }
-        requires full { IsFull (self.now.known.count + 2) self.now.classes.members }
-        ensures { IfOk result (IsOpenAt self.now class) }
+        requires limit { unsettled.old.limit ≡ self.now.known.count + 2 }
+        requires unsettled { HasOpen self.now class unsettled.old }
+        ensures found { IsOpenAt self.now class result }
+        ensures limit { unsettled.new.limit ≡ unsettled.old.limit }
+        ensures unsettled { HasOpen self.now class unsettled.new }
     {
         let none = self.known.class_count() + 1;
         if self.known.relates(class, none) || self.ruled_out.has(class, none) {
-            return self.next_open(class);
+            return self.next_open(class, unsettled);
         }
-        Ok(Some(none))
+        Some(none)
     }
 
     // A most general class such that it is not settled whether the class is part of it; none where all are settled.
-    fn next_open(&self, class: u32) -> Result<Option<u32>, NoMemory>
+    fn next_open(&self, class: u32, unsettled: &mut AxiomSet) -> Option<u32>
         requires class { class < self.now.known.count + 2 }
         requires ruled_out { self.now.ruled_out.size ≡ self.now.known.count + 2 }
-        requires limit { self.now.classes.limit ≡ self.now.known.count + 2 }
-        requires full { IsFull (self.now.known.count + 2) self.now.classes.members }
-        ensures { IfOk result (IsOpenAt self.now class) }
+        requires limit { unsettled.old.limit ≡ self.now.known.count + 2 }
+        requires unsettled { HasOpen self.now class unsettled.old }
+        ensures found { IsOpenAt self.now class result }
+        ensures limit { unsettled.new.limit ≡ unsettled.old.limit }
+        ensures unsettled { HasOpen self.now class unsettled.new }
     {
-        let mut open = self.classes.try_clone()?;
-        open.take_all(self.known.above(class));
-        open.take_all(self.ruled_out.row(class));
-        most_general(&self.known, &open)
+        unsettled.take_all(self.known.above(class));
+        unsettled.take_all(self.ruled_out.row(class));
+        most_general(&self.known, unsettled)
     }
 
     // It is known that x is part of y, with all that follows from it.
