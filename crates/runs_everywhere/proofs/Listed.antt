@@ -60,8 +60,8 @@ module _ {d : Type 0} (w : World d) where
       of_list wanted statement budget bytes out log Done p true (done_is_finished p.listed.finished p.listed.status)
       (HasAllIn w wanted)
       (λ listing.
-        has_all w p.ontology p.query (of_question w (follows statement) bytes p.ontology p.query p.is_question)
-        wanted p.listed.sets listing.0)
+      has_all w p.ontology p.query (of_question w (follows statement) bytes p.ontology p.query p.is_question)
+      wanted p.listed.sets listing.0)
 
   pub partial_lists : PartialListsHoldIn w
   partial_lists wanted statement budget bytes out log answer =
@@ -69,8 +69,8 @@ module _ {d : Type 0} (w : World d) where
       of_list wanted statement budget bytes out log Undecided p false
       (undecided_is_unfinished p.listed.finished p.listed.status) (HasSomeIn w wanted)
       (λ listing.
-        has_some w p.ontology p.query (of_question w (follows statement) bytes p.ontology p.query p.is_question)
-        wanted log p.listed.sets listing.0)
+      has_some w p.ontology p.query (of_question w (follows statement) bytes p.ontology p.query p.is_question)
+      wanted log p.listed.sets listing.0)
 
   pub accepted_audits : AcceptedAuditsListAllIn w
   accepted_audits query bytes log answer =
