@@ -19,6 +19,11 @@ use step_finders::{Rules, State, StateWithBlocks, StateWithRules, Step};
 // So many choices are made at first nodes before blocks are looked at.
 const FEW_CHOICES: usize = 16;
 
+// A search turns in circles once it has made so many steps, and for each entry of its trail more than so many.
+const MANY_STEPS: u64 = 10_000;
+
+const STEPS_AN_ENTRY: u64 = 4;
+
 // Up to which entry of the trail, from 0, a search has looked for each kind of step.
 #[derive(Clone, Copy, Debug, PartialEq, Eq)]
 struct Cursors {
@@ -100,6 +105,9 @@ pub struct Agenda {
     nearness: Nearness,
     waiting: WaitingRows,
     index: UnionIndex,
+    // How many steps were looked for, and whether the search has turned in circles.
+    steps: u64,
+    has_turned: bool,
     // How many entries were looked at, each once for each kind of step.
     looks: u64,
 }
@@ -116,6 +124,8 @@ impl Agenda {
             nearness: Nearness::none(heap),
             waiting: WaitingRows::new(heap),
             index: UnionIndex::new(heap),
+            steps: 0,
+            has_turned: false,
             looks: 0,
         }
     }
@@ -173,6 +183,14 @@ impl Agenda {
         self.looks
     }
 
+    // Counts a step over a trail of so many entries, and notes when the search turns in circles.
+    fn count_step(&mut self, len: u32) {
+        self.steps = self.steps.wrapping_add(1);
+        if self.steps >= MANY_STEPS && self.steps / STEPS_AN_ENTRY > u64::from(len) {
+            self.has_turned = true;
+        }
+    }
+
     // Counts the entries from the one to the other as looked at.
     fn count_looks(&mut self, from: u32, to: u32) {
         let count = u64::from(to.saturating_sub(from)) + 1;
@@ -198,6 +216,7 @@ impl Agenda {
             (λ found. IfSome found (IsStep (R.context search.now.rules.now) (S.facts search.now.state.now)
             (R.files search.now.rules.now))) }
     {
+        self.count_step(tree.len());
         if let Some(step) = self.given(heap, search)? {
             return Ok(Some(step));
         }
@@ -491,7 +510,7 @@ impl Agenda {
             (λ found. IfSome found (IsStep (R.context search.now.rules.now) (S.facts search.now.state.now)
             (R.files search.now.rules.now))) }
     {
-        if search.rules.first() == 1 || self.has_many_choices() {
+        if search.rules.first() == 1 || self.has_turned || self.has_many_choices() {
             return Ok(None);
         }
         let from = self.cursors.first_unions;
@@ -526,7 +545,7 @@ impl Agenda {
         ensures { IfSome result (IsStep (R.context search.now.rules.now) (S.facts search.now.state.now)
             (R.files search.now.rules.now)) }
     {
-        if search.rules.first() == 1 {
+        if search.rules.first() == 1 || self.has_turned {
             return None;
         }
         let from = self.cursors.unions;

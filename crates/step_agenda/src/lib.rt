@@ -33,7 +33,8 @@
 //! not after each step. Unions of individuals are among it. But a clash below other nodes shows only once these are
 //! made, and what goes back then loses all choices that came later. So it looks for such nodes after some choices at
 //! individuals, and again whenever these have doubled. Unions of another node are decided one behind the other where
-//! there are individuals, before blocks are found again.
+//! there are individuals, before blocks are found again. A search turns in circles if it has made many more steps than
+//! its trail has entries. From then on unions of individuals come in their turn, behind all nodes that are to be made.
 //!
 //! A search may go on behind a trail that it was given. Then the entries behind its start are passed over: what follows
 //! from them was done when that trail was made.
