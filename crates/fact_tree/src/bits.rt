@@ -9,7 +9,7 @@ use lane_sieve::{put_number, take_number};
 use std::alloc::Allocator;
 
 // So few concepts are looked through, and have no bits.
-const FEW: usize = 64;
+const FEW: usize = 16;
 
 /// Puts a concept last, with its bit where they are many.
 ///
