@@ -7,8 +7,8 @@ whatever else lists commands are made from here: `COMMANDS` and `GENERAL_OPTIONS
 A row with a `runner`, as `shq_tools.cut:main`, is a script of this folder: the call gets the words behind the
 command's name, and its answer is the exit status. A row without one is a job of the program.
 
-An option with `prepares`, as `shq_tools.approximating:prepared`, changes what a job reads before the program is asked:
-see `preparing` for what that call gets and answers.
+An option with `prepares`, as `shq_tools.approximation.command:prepared`, changes what a job reads before the program is
+asked: see `preparing` for what that call gets and returns.
 """
 import difflib
 import importlib
