@@ -19,6 +19,7 @@ DEFINITION = re.compile(r"(?:abbrev |unfoldable )pub (\S+) |pub (?:record|data) 
 IN_MUTUAL = re.compile(r"  pub (\S+) :")
 MUTUAL = re.compile(r"(?:abbrev |unfoldable )?mutual\b")
 IMPORT = re.compile(r"\buse Rattle\.(\w+)\.specs\.((?:\w+\.)*)\{([^}]*)\}")
+PASSED_ON = re.compile(r"(?m)^pub use Rattle\.(\w+)\.specs\.((?:\w+\.)*\w+)(?: as (\w+))?$")
 HEAD = """# Index of definitions
 
 This page lists each definition of a specification that a contract or another crate names: crate by crate, from the
@@ -77,6 +78,20 @@ def imported_names(text):
             yield crate, path.rstrip("."), name.strip()
 
 
+def files_passed_on(crate, text):
+    """Which files of other crates a crate passes on, by `text` of its `specs/Lib.antt` and by its names for them."""
+    return {(crate, name or file.rpartition(".")[2]): (other, file) for other, file, name in PASSED_ON.findall(text)}
+
+
+def defined_at(crate, file, passed_on):
+    """The crate and the file that define what an import names: the import may name a crate that passes the file on."""
+    first, _, rest = file.partition(".")
+    while (crate, first) in passed_on:
+        crate, file = passed_on[crate, first]
+        first, _, rest = (f"{file}.{rest}" if rest else file).partition(".")
+    return crate, f"{first}.{rest}" if rest else first
+
+
 def crates_in_order():
     """The crates of the list, the lowest first."""
     names = re.findall(r"(?m)^(\w+):", CRATE_LIST.read_text(encoding="utf-8"))
@@ -102,15 +117,16 @@ class Specifications:
 
 def read_specifications():
     """Reads all specifications, and what every source file imports."""
-    found, users = [], defaultdict(set)
+    found, users, passed_on = [], defaultdict(set), {}
     for crate in crates_in_order():
+        passed_on |= files_passed_on(crate, (CRATES / crate / "specs" / "Lib.antt").read_text(encoding="utf-8"))
         for path in sorted((CRATES / crate / "specs").rglob("*.antt")):
             file = ".".join(path.relative_to(CRATES / crate / "specs").with_suffix("").parts)
             found += definitions_in(crate, file, path.read_text(encoding="utf-8"))
     for path in [*CRATES.glob("*/src/**/*.rt"), *CRATES.glob("*/specs/**/*.antt"), *CRATES.glob("*/proofs/**/*.antt")]:
         crate, folder = path.relative_to(CRATES).parts[:2]
-        for key in imported_names(path.read_text(encoding="utf-8")):
-            users[key].add((crate, folder, path.name))
+        for other, file, name in imported_names(path.read_text(encoding="utf-8")):
+            users[(*defined_at(other, file, passed_on), name)].add((crate, folder, path.name))
     return Specifications(found, users)
 
 

@@ -5,7 +5,7 @@ import sys
 import unittest
 
 from shq_tools import definition_index
-from shq_tools.definition_index import Specifications, definitions_in, imported_names
+from shq_tools.definition_index import Specifications, defined_at, definitions_in, files_passed_on, imported_names
 from shq_tools.places import TOOLS, TOP
 
 TEXT = """-- What the file is about.
@@ -59,6 +59,16 @@ class Reading(unittest.TestCase):
         text = "ghost use Rattle.a_b.specs.deep.File.{One,\n  ◌two◌};\npub use Rattle.c.specs.X.{y}\nuse crate::z::{w};\n"
         wanted = [("a_b", "deep.File", "One"), ("a_b", "deep.File", "◌two◌"), ("c", "X", "y")]
         self.assertEqual(list(imported_names(text)), wanted)
+
+    def test_imports_from_a_crate_that_passes_a_file_on(self):
+        """A file may be passed on over several crates, and under another name."""
+        passed_on = files_passed_on("a", "pub mod Own\npub use Rattle.b.specs.Sets as NumberSets\n")
+        passed_on |= files_passed_on("b", "pub use Rattle.c.specs.deep.Sets\n")
+        wanted = ("c", "deep.Sets.TheVariants")
+        self.assertEqual(defined_at("a", "NumberSets.TheVariants", passed_on), wanted)
+        self.assertEqual(defined_at("b", "Sets.TheVariants", passed_on), wanted)
+        self.assertEqual(defined_at("a", "Own", passed_on), ("a", "Own"))
+        self.assertEqual(defined_at("a", "Sets", passed_on), ("a", "Sets"))
 
     def test_what_is_cited_and_what_lacks_a_comment(self):
         """What only its own file uses is a helper; what only its own specifications use is not for the index."""
