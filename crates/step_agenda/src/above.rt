@@ -1,5 +1,5 @@
-// The nodes from which edges lead to a node. Where its representative is no first node, that is its parent alone; else
-// they are the beginnings of the edges that are given into the nodes that are one with it.
+// From which nodes edges lead to a node. If its representative is no first node, from its parent alone; otherwise from
+// the beginnings of the edges that are given into the nodes that are joined with it.
 ghost use Rattle.std.specs.Prelude.{◌≡◌, ◌<◌};
 
 use step_finders::State;
@@ -13,7 +13,7 @@ pub(crate) fn above<S: State>(state: &S, node: u32) -> Option<u32> {
     Some(state.representative(parent))
 }
 
-/// The nodes that are one with a node.
+/// The nodes that are joined with a node, itself included.
 pub(crate) fn members_at<S: State>(state: &S, node: u32) -> &[u32] {
     if node >= state.nodes() {
         return &[];

@@ -1,4 +1,4 @@
-// Concepts that a fact adds.
+// Concepts that are added by a fact: by its form, by rows, and by what the node at its end or its beginning has.
 ghost use Rattle.std.specs.Prelude.{◌≡◌, ◌<◌, true, IsTrue, IfOk, IfSome};
 ghost use Rattle.std.specs.List.{list_all};
 ghost use Rattle.calculus_specs.specs.State.{node_count_from, has as holds};
@@ -17,18 +17,18 @@ use step_finders::{
     find_by_concept, find_by_edge, find_from, find_general,
 };
 
-/// Up to where it was looked for a concept that an entry adds.
+/// Up to where a search has looked for a concept that an entry adds.
 #[derive(Clone, Copy, Debug, PartialEq, Eq)]
 pub(crate) struct Reached {
     /// The first entry that may add more.
     pub(crate) place: u32,
-    /// Where that is an edge to a new node: how many of the rows that are used at each node were asked what they give
-    /// that node. Where it gives a concept: how many of the rows that wait for this were asked. Where it is none, what
-    /// the entry adds otherwise was not looked for.
+    /// If that is an edge to a new node: how many of the rows that are used at each node were asked what they give that
+    /// node. If it gives a concept: how many of the rows that wait for this concept were asked. While the number is 0,
+    /// what the entry adds in another way is looked for too.
     pub(crate) rows: usize,
 }
 
-/// Which rows that wait for classes are used at first nodes.
+/// Which of the rows that wait for classes are used at first nodes.
 #[derive(Clone, Copy, Debug, PartialEq, Eq)]
 pub(crate) enum WantedRows {
     /// All.
@@ -39,12 +39,12 @@ pub(crate) enum WantedRows {
     Alone,
 }
 
-/// The first concept that an entry adds from here on, and up to where it was looked for then. Some entries are passed
-/// over; their concepts are met all the same.
+/// The first concept that an entry adds from `from` on, and up to where it was looked for then. The entries in `passed`
+/// are passed over; `waiting` meets their concepts all the same.
 ///
 /// # Errors
 ///
-/// Want of memory.
+/// Out of memory.
 pub(crate) fn first_addition<A: Allocator + Copy, S: State, R: Rules>(
     tree: &Tree<A>,
     search: &StateWithRules<'_, S, R>,
@@ -76,7 +76,7 @@ pub(crate) fn first_addition<A: Allocator + Copy, S: State, R: Rules>(
 }
 
 /// The first rank from `from` on and below `to`, in the order of nearness, of a first node to which a row that is used
-/// at each node adds a concept, and what; or `to`.
+/// at each node adds a concept, and that addition; or `to`.
 pub(crate) fn first_general<S: State, R: Rules>(
     search: &StateWithRules<'_, S, R>,
     nearness: &Nearness,
@@ -98,8 +98,8 @@ pub(crate) fn first_general<S: State, R: Rules>(
     (to, None)
 }
 
-// What the entry adds, where so many rows that are used at each node were asked what they give the end of its edge, or
-// so many of those that wait for its concept; and how many of them were asked then.
+// What the entry adds, if `rows` of the rows that are used at each node were asked already what they give the end of
+// its edge, or `rows` of those that wait for its concept; and how many of them have been asked after that.
 fn addition_at<S: State, R: Rules>(
     item: Item,
     search: &StateWithRules<'_, S, R>,
@@ -145,7 +145,8 @@ fn any_addition_at<S: State, R: Rules>(
     }
 }
 
-// What the entry adds by the rows from this one on that wait for its concept, and by those that are filed elsewhere.
+// What the entry adds by the rows from number `rows` on that wait for its concept, and by those that are filed under
+// other names.
 fn row_at<S: State, R: Rules>(
     item: Item,
     search: &StateWithRules<'_, S, R>,
@@ -210,8 +211,8 @@ fn by_edge_alone<S: State, R: Rules>(
     }
 }
 
-// What the rows from this one on that are used at each node add to the node's representative, and how many were asked
-// then.
+// What the rows from number `from` on that are used at each node add to the node's representative, and how many have
+// been asked after that.
 fn by_general<S: State, R: Rules>(
     search: &StateWithRules<'_, S, R>,
     node: u32,
@@ -254,7 +255,7 @@ fn by_general_at<S: State, R: Rules>(
     }
 }
 
-// The row at a place, where it gives the node what that does not have.
+// The row at a place, if it gives a concept that the node lacks.
 fn due_at<S: State>(state: &S, node: u32, rows: &[PlainRow], place: usize) -> Option<PlainRow>
     ensures { IfSome result (PlainDue (S.facts state.now) node rows.now) }
 {
@@ -265,7 +266,7 @@ fn due_at<S: State>(state: &S, node: u32, rows: &[PlainRow], place: usize) -> Op
     }
 }
 
-// What a universal restriction of the node adds, where one may say something of this successor.
+// What a universal restriction of the node adds, if it may say something new of this successor.
 fn by_universals<S: State, R: Rules>(
     search: &StateWithRules<'_, S, R>,
     node: u32,
@@ -285,7 +286,7 @@ fn by_universals<S: State, R: Rules>(
     None
 }
 
-// Whether the concept is a universal restriction that the node may not meet yet as a successor.
+// Whether the concept is a universal restriction by which the node `to` may still have to get something.
 fn may_reach<S: State, R: Rules>(search: &StateWithRules<'_, S, R>, concept: u32, to: u32) -> bool {
     match search.rules.shape(concept) {
         Shape::AllOf(_, filler) => {
@@ -340,8 +341,8 @@ fn at_node<S: State, R: Rules>(search: &StateWithRules<'_, S, R>, node: u32) -> 
     find_from(search, node)
 }
 
-// What a concept of the node adds: by its form, and then by the rows from this one on that wait for it, one behind the
-// other; and how many of these were asked then. Rows that give unions may be left out at first nodes.
+// What a concept of the node adds: by its form, and then by the rows from number `rows` on that wait for it, one after
+// the other; and how many of these have been asked after that. Rows that give unions may be left out at first nodes.
 fn by_concept<S: State, R: Rules>(
     search: &StateWithRules<'_, S, R>,
     skips_unions: bool,
@@ -365,8 +366,8 @@ fn by_concept<S: State, R: Rules>(
     by_named(search, skips, node, concept, rows)
 }
 
-// What the rows from this one on that wait for the concept add to the node, where that is one, and how many were asked
-// then.
+// What the rows from number `rows` on that wait for the concept add to the node, if there is such a node, and how many
+// have been asked after that.
 fn by_rows<S: State, R: Rules>(
     search: &StateWithRules<'_, S, R>,
     node: u32,
@@ -382,7 +383,7 @@ fn by_rows<S: State, R: Rules>(
     by_named(search, false, node, concept, rows)
 }
 
-// The same of a node, where rows that give unions may be left out.
+// The same of a node that there is. Rows that give unions may be left out.
 fn by_named<S: State, R: Rules>(
     search: &StateWithRules<'_, S, R>,
     skips_unions: bool,
@@ -407,8 +408,8 @@ fn by_named<S: State, R: Rules>(
     None
 }
 
-// What a row adds to the node that waits for the name too and is filed at another one, once all that are filed at the
-// name were asked. Rows that give unions may be left out at first nodes.
+// What the node gets by a row that waits for the name too but is filed under another one. All rows that are filed under
+// the name have been asked before. Rows that give unions may be left out at first nodes.
 fn by_waiting<S: State, R: Rules>(
     search: &StateWithRules<'_, S, R>,
     waiting: &WaitingRows,
@@ -429,7 +430,7 @@ fn by_waiting<S: State, R: Rules>(
     None
 }
 
-// What a row adds to the node that is filed at this name, where the node has it.
+// What a row adds to the node that is filed under this name, if the node has the name.
 fn by_file<S: State, R: Rules>(
     search: &StateWithRules<'_, S, R>,
     skips_unions: bool,
@@ -472,8 +473,7 @@ fn is_union<R: Rules>(rules: &R, concept: u32) -> bool {
     matches!(rules.shape(concept), Shape::Or(_))
 }
 
-// What the row at a place gives the node, where that has all the concepts that the row waits for, and lacks what it
-// gives.
+// What the row at a place gives the node, if the node has all concepts that the row waits for, and lacks what it gives.
 fn named_due_at<S: State>(state: &S, node: u32, rows: &[NamedRow], place: usize) -> Option<u32>
     ensures { IfSome result (NamedDue (S.facts state.now) node rows.now place) }
 {

@@ -1,4 +1,4 @@
-// The agenda.
+// The agenda: up to where a search has looked for each kind of step, and the phases of a look.
 ghost use Rattle.std.specs.Prelude.{◌≡◌, IfOk, IfSome};
 ghost use Rattle.step_finders.specs.Stepping.{IsStep};
 
@@ -16,41 +16,49 @@ use blocking::{Tree, least_changed};
 use std::alloc::{Allocator, Global};
 use step_finders::{Rules, State, StateWithBlocks, StateWithRules, Step};
 
-// So many choices are made at first nodes before blocks are looked at.
+// Unions of first nodes come before new nodes of other nodes until there are twice as many choices as these, and twice
+// as many as when all new nodes were looked for last.
 const FEW_CHOICES: usize = 16;
 
-// A search turns in circles once it has made so many steps, and for each entry of its trail more than so many.
+// A search may turn in circles once it has looked for so many steps.
 const MANY_STEPS: u64 = 10_000;
 
+// It does so if it has looked for more than so many steps to each entry of its trail.
 const STEPS_AN_ENTRY: u64 = 4;
 
-// Up to which entry of the trail, from 0, a search has looked for each kind of step.
+// Up to which entry of the trail, counted from 0, a search has looked for each kind of step.
 #[derive(Clone, Copy, Debug, PartialEq, Eq)]
 struct Cursors {
     // The last ring of given facts that is open.
     ring: usize,
-    // Up to which of the given facts, by nearness, it has looked for one that is not so.
+    // Up to which of the given facts, by nearness, it has looked for one that does not hold yet.
     given: usize,
-    // Up to which of the first nodes, by nearness, it has looked for what rows add that are used at each node.
+    // Up to which of the first nodes, by nearness, it has looked for a concept that each node gets.
     general: usize,
+    // For concepts that are added.
     additions: Reached,
-    // For what rows add that wait for classes, where they were looked at for other concepts than unions.
+    // For what rows add that wait for classes, unions too, where `additions` has left these out.
     rows: Reached,
+    // For unions of which all parts but one would clash at once.
     forced: u32,
+    // For successors that may be one.
     pairs: u32,
-    // For new nodes below first nodes, and for unions of these.
+    // For new nodes below first nodes, and for unions of first nodes.
     first_makings: u32,
     first_unions: u32,
-    // For new nodes below the node in question alone.
+    // For new nodes below the node in question.
     asked_makings: u32,
+    // For new nodes below any node, and for unions of any node.
     makings: u32,
     unions: u32,
-    // The node of the union that was found last, as its entry has it.
+    // The node of the union that was found last, as its entry has it; no node before that.
     union_node: u32,
+    // For fillers that successors may have.
     mosts: u32,
-    // How many choices had been made when it last looked for all nodes that are to be made, and found none.
+    // How many choices had been made when it last looked for all new nodes, and found none.
     choices: usize,
-    // Nodes that were not clear: those below this one were looked at, as the first so many entries left them.
+    // The least node that has changed since all held entries were asked in vain, as far as the first `seen` entries of
+    // the trail tell. Held entries of nodes below it need not be asked again.
     touched: u32,
     seen: u32,
 }
@@ -79,7 +87,7 @@ impl Cursors {
         }
     }
 
-    // At the first entry of a trail of so many, over which all given facts are so, and whose nodes were looked at.
+    // At the first entry of a trail of so many entries, in which all given facts hold, and whose nodes were looked at.
     fn behind(len: u32) -> Cursors {
         Cursors {
             ring: usize::MAX,
@@ -94,14 +102,15 @@ impl Cursors {
 #[derive(Drop)]
 pub struct Agenda {
     cursors: Cursors,
-    // Those at the choices, in order.
+    // The cursors at each choice, in order.
     saved: Vec<Cursors>,
     // The entries that are never looked at.
     passed: Passed,
-    // The entries that were passed over since their nodes were not clear, in order.
+    // The entries that ask for nodes and were passed over since their own nodes were not clear, in order.
     held: Vec<Held>,
-    // The node in question, and in which order facts are given around it, once a step was looked for.
+    // The node in question.
     at: u32,
+    // In which order facts are given around it, made at the first look for a step.
     nearness: Nearness,
     waiting: WaitingRows,
     index: UnionIndex,
@@ -113,7 +122,8 @@ pub struct Agenda {
 }
 
 impl Agenda {
-    /// Nothing was looked at; the search asks of the first node `at`. It takes no memory.
+    /// An agenda that has looked at nothing, of a search that asks of the first node `at`. It takes no memory of `heap`
+    /// yet.
     pub fn new(heap: Global, at: u32) -> Agenda {
         Agenda {
             cursors: Cursors::start(),
@@ -130,9 +140,9 @@ impl Agenda {
         }
     }
 
-    /// The search asks of the first node `at`, and goes on behind a trail of so many entries that it was given. What
-    /// follows from the entries behind its start was done when that trail was made, all given facts too: they are
-    /// passed over.
+    /// An agenda of a search that asks of the first node `at`, and goes on behind a given trail of `len` entries. What
+    /// follows from the entries behind its start was done when that trail was made, and all given facts are among them:
+    /// they are passed over.
     pub fn behind(heap: Global, at: u32, len: u32) -> Agenda {
         let mut agenda = Agenda::new(heap, at);
         agenda.cursors = Cursors::behind(len);
@@ -140,18 +150,17 @@ impl Agenda {
         agenda
     }
 
-    /// Keeps where it looks, as a choice is made.
+    /// Keeps up to where it has looked, when a choice is made.
     ///
     /// # Errors
     ///
-    /// Want of memory.
+    /// Out of memory.
     pub fn put_mark(&mut self) -> Result<(), NoMemory> {
         self.saved.push(self.cursors)?;
         Ok(())
     }
 
-    /// Looks again where it looked when the latest of the first `count` choices was made: the search has gone back to
-    /// it.
+    /// Looks on from where it had looked when choice number `count`, from 1, was made: the search has gone back to it.
     pub fn back_to(&mut self, count: usize) {
         self.saved.truncate(count);
         self.cursors = match self.saved.last() {
@@ -168,12 +177,12 @@ impl Agenda {
         }
     }
 
-    /// Leaves the node in question out, where it looks for what rows add that are used at each node.
+    /// Goes past the node in question in the look for what rows give that are used at each node.
     pub fn leave_node_out(&mut self) {
         self.cursors.general = self.cursors.general.max(1);
     }
 
-    /// Looks at all first nodes again for what such rows add, also at the node in question.
+    /// Looks again at all first nodes for what such rows give, the node in question included.
     pub fn take_node_in(&mut self) {
         self.cursors.general = 0;
     }
@@ -183,7 +192,7 @@ impl Agenda {
         self.looks
     }
 
-    // Counts a step over a trail of so many entries, and notes when the search turns in circles.
+    // Counts a look for a step over a trail of `len` entries, and notes when the search turns in circles.
     fn count_step(&mut self, len: u32) {
         self.steps = self.steps.wrapping_add(1);
         if self.steps >= MANY_STEPS && self.steps / STEPS_AN_ENTRY > u64::from(len) {
@@ -191,21 +200,23 @@ impl Agenda {
         }
     }
 
-    // Counts the entries from the one to the other as looked at.
+    // Counts the entries from `from` to `to` as looked at.
     fn count_looks(&mut self, from: u32, to: u32) {
         let count = u64::from(to.saturating_sub(from)) + 1;
         self.looks = self.looks.wrapping_add(count);
     }
 
-    /// A step that can be made whatever is blocked, where one is seen at the facts that were not looked at before.
-    /// These are the phases of a look, in their order; the first step that one of them finds is taken, of each the
-    /// oldest. Given facts that are not near the node in question come after what follows from those that are, and rows
-    /// that give individuals unions behind all of them; where none is near, all given facts come behind all other
-    /// phases.
+    /// A step that can be made whatever is blocked, if one is seen at the facts that were not looked at before. `tree`
+    /// is the tree of the state of `search`.
+    ///
+    /// These are the phases of a look, in their order. The first phase that finds a step ends the look, with the oldest
+    /// step of its kind. Given facts that are not near the node in question come after what follows from those that
+    /// are, and rows that give unions to individuals come after all of these. If no given fact is near, all given facts
+    /// come after all other phases.
     ///
     /// # Errors
     ///
-    /// Want of memory.
+    /// Out of memory.
     pub fn next_at_any<A: Allocator + Copy, S: State, R: Rules>(
         &mut self,
         heap: Global,
@@ -252,12 +263,12 @@ impl Agenda {
         Ok(self.next_union(tree, search))
     }
 
-    /// A step that can be made where none is seen that can be made whatever is blocked. These are the phases that come
-    /// behind the others.
+    /// A step that rests on blocks, or comes after those that do, to be asked for when [`Agenda::next_at_any`] sees
+    /// none. These are the phases that come after the others.
     ///
     /// # Errors
     ///
-    /// Want of memory.
+    /// Out of memory.
     pub fn next_with_blocks<A: Allocator + Copy, S: StateWithBlocks, R: Rules>(
         &mut self,
         heap: Global,
@@ -287,12 +298,12 @@ impl Agenda {
         Ok(self.outwards(search))
     }
 
-    // Whether given facts name the node in question.
+    // Whether a given fact names the node in question.
     fn is_on_individual(&self) -> bool {
         self.nearness.facts_within(0) > 0
     }
 
-    // A given fact that is not so, of the rings that are open.
+    // A given fact that does not hold yet, of the rings that are open.
     fn given<S: State, R: Rules>(
         &mut self,
         heap: Global,
@@ -314,7 +325,7 @@ impl Agenda {
         }
     }
 
-    // A concept that each node has, at a first node of these rings.
+    // A concept that a row gives to each node, at a first node of these rings.
     fn general<S: State, R: Rules>(&mut self, search: &StateWithRules<'_, S, R>) -> Option<Step>
         ensures { IfSome result (IsStep (R.context search.now.rules.now) (S.facts search.now.state.now)
             (R.files search.now.rules.now)) }
@@ -325,8 +336,9 @@ impl Agenda {
         Some(Step::Add(addition?))
     }
 
-    // The next given fact that is not so, of whichever ring, up to which all are open then. Where there is none, all
-    // are, and a concept is looked for that each node has. Where all were open before, nothing is looked for.
+    // The next given fact that does not hold yet, of any ring; the rings up to its own are open from then on. If there
+    // is none, all rings are open, and a concept is looked for that a row gives to each node. If all were open before,
+    // nothing is looked for.
     fn outwards<S: State, R: Rules>(&mut self, search: &StateWithRules<'_, S, R>) -> Option<Step>
         ensures { IfSome result (IsStep (R.context search.now.rules.now) (S.facts search.now.state.now)
             (R.files search.now.rules.now)) }
@@ -344,7 +356,7 @@ impl Agenda {
         }
     }
 
-    // A concept that an entry adds.
+    // A concept that an entry adds. If the question is on an individual, first nodes get no unions from rows here.
     fn addition<A: Allocator + Copy, S: State, R: Rules>(
         &mut self,
         tree: &Tree<A>,
@@ -376,7 +388,7 @@ impl Agenda {
         }
     }
 
-    // A concept that a row adds that waits for classes, unions too.
+    // A concept that is added by a row that waits for classes, also if it is a union.
     fn by_rows<A: Allocator + Copy, S: State, R: Rules>(
         &mut self,
         tree: &Tree<A>,
@@ -403,7 +415,7 @@ impl Agenda {
         }
     }
 
-    // A part of a union of which at most one part does not clash at once.
+    // A part of a union of which all parts but one would clash at once, or such a union that a row gives.
     fn forced<A: Allocator + Copy, S: State, R: Rules>(
         &mut self,
         tree: &Tree<A>,
@@ -422,7 +434,7 @@ impl Agenda {
         Ok(forced)
     }
 
-    // Whether two successors are one, where there may be too many.
+    // Two successors to be made one or kept apart, where there may be too many.
     fn pair<A: Allocator + Copy, S: State, R: Rules>(
         &mut self,
         heap: Global,
@@ -443,8 +455,8 @@ impl Agenda {
         }
     }
 
-    // New nodes below first nodes, where there are individuals, whose nodes these are. A first node is clear, whatever
-    // its label is, so they are made before blocks are looked at.
+    // New nodes below first nodes, if there are individuals. A first node is clear, whatever its label is, so these new
+    // nodes are made before blocks are looked at.
     fn below_first<A: Allocator + Copy, S: State, R: Rules>(
         &mut self,
         heap: Global,
@@ -468,7 +480,7 @@ impl Agenda {
         }
     }
 
-    // New nodes below the node in question, once the facts that name its neighbours are given.
+    // New nodes below the node in question, once the ring of its neighbours is open.
     fn below_asked<A: Allocator + Copy, S: State, R: Rules>(
         &mut self,
         heap: Global,
@@ -499,7 +511,8 @@ impl Agenda {
         }
     }
 
-    // A part of a union of a first node, where there are individuals, and it need not look for nodes to be made first.
+    // A part of a union of a first node, if there are individuals, the search does not turn in circles, and the time to
+    // look for all new nodes has not come.
     fn first_union<A: Allocator + Copy, S: State, R: Rules>(
         &mut self,
         heap: Global,
@@ -530,13 +543,13 @@ impl Agenda {
         }
     }
 
-    // Whether the choices have doubled since it last looked for all nodes that are to be made.
+    // Whether the choices are many, and have doubled since it last looked for all new nodes.
     fn has_many_choices(&self) -> bool {
         self.saved.len() / 2 >= self.cursors.choices.max(FEW_CHOICES)
     }
 
-    // A part of a further union of the node of which one was decided last, where there are individuals: as far as its
-    // concepts stand one behind the other.
+    // A part of a further union of the node of which a union was decided last, if there are individuals and the search
+    // does not turn in circles: as far as the concepts of this node stand one after the other.
     fn next_union<A: Allocator + Copy, S: State, R: Rules>(
         &mut self,
         tree: &Tree<A>,
@@ -582,7 +595,7 @@ impl Agenda {
         }
     }
 
-    // New nodes below one that was not clear when it was looked at.
+    // New nodes below a node that was not clear when it was looked at.
     fn held<A: Allocator + Copy, S: StateWithBlocks, R: Rules>(
         &mut self,
         heap: Global,
@@ -605,7 +618,7 @@ impl Agenda {
         }
     }
 
-    // A part of a union.
+    // A part of a union of any node.
     fn union<A: Allocator + Copy, S: State, R: Rules>(
         &mut self,
         heap: Global,
@@ -627,7 +640,7 @@ impl Agenda {
         }
     }
 
-    // Whether a successor has a filler.
+    // Whether a successor has a filler, to be chosen.
     fn most<A: Allocator + Copy, S: StateWithBlocks, R: Rules>(
         &mut self,
         heap: Global,

@@ -1,4 +1,4 @@
-// What a fact makes to be chosen.
+// Choices that a fact makes possible: of a part of a union, a filler of a successor, or whether two successors are one.
 ghost use Rattle.std.specs.Prelude.{◌≡◌, ◌<◌, IfOk, IfSome};
 ghost use Rattle.step_finders.specs.Choosing.{IsChoosable};
 
@@ -12,7 +12,7 @@ use step_finders::{
     Choosing, Rules, State, StateWithRules, count_of, find_most_at, find_most_by, find_union_by,
 };
 
-/// What is looked for.
+/// Which kind of choice is looked for.
 #[derive(Clone, Copy)]
 pub(crate) enum Wanted {
     /// Two successors that are to be made one or kept apart.
@@ -25,11 +25,11 @@ pub(crate) enum Wanted {
     Most,
 }
 
-/// The first entry from this one on by which there is something to choose, and what; or the length of the trail.
+/// The first entry from `from` on by which there is a choice of this kind, and that choice; or the length of the trail.
 ///
 /// # Errors
 ///
-/// Want of memory.
+/// Out of memory.
 pub(crate) fn first_branching<A: Allocator + Copy, S: State, R: Rules>(
     heap: Global,
     tree: &Tree<A>,
@@ -70,7 +70,7 @@ fn branching_by<S: State, R: Rules>(
     }
 }
 
-// A filler or a pair that is to be chosen by the entry.
+// A choice of a filler, or of a pair of successors, that the entry makes possible.
 fn most_by<S: State, R: Rules>(
     heap: Global,
     item: Item,
@@ -123,7 +123,7 @@ fn most_at<S: State, R: Rules>(
     find_most_at(heap, search, node)
 }
 
-/// The node that the entry at a place gives a concept; no node where there is none.
+/// The node to which the entry at a place gives a concept; `u32::MAX`, which is no node, if it gives none.
 pub(crate) fn node_at<A: Allocator + Copy>(tree: &Tree<A>, place: u32) -> u32 {
     if place >= tree.len() {
         return u32::MAX;
@@ -137,8 +137,8 @@ pub(crate) fn node_at<A: Allocator + Copy>(tree: &Tree<A>, place: u32) -> u32 {
     }
 }
 
-/// The first entry from this one on by which a union of the node is to be decided, and that union; or the first one
-/// that gives the node no concept.
+/// The first entry from `from` on by which a part of a union of the node is to be chosen, and that choice; or the first
+/// entry that gives the node no concept.
 pub(crate) fn next_union_of<A: Allocator + Copy, S: State, R: Rules>(
     tree: &Tree<A>,
     search: &StateWithRules<'_, S, R>,
@@ -163,7 +163,7 @@ pub(crate) fn next_union_of<A: Allocator + Copy, S: State, R: Rules>(
     (tree.len(), None)
 }
 
-// The union of the entry, where a part of it is to be chosen, and its node is below this one.
+// The choice of a part, if the entry gives a union of which one is to be chosen, to a node below `below`.
 fn union_by<S: State, R: Rules>(
     item: Item,
     search: &StateWithRules<'_, S, R>,

@@ -1,5 +1,5 @@
-// Unions of which at most one part does not clash at once, at the facts by which they may have become such: those that
-// a node has, and where it is wanted those that a row would give it.
+// Unions of which all parts but at most one would clash at once, looked for at the facts by which this may have become
+// so: unions that a node has, and, where the index says so, unions that a row would give it.
 ghost use Rattle.std.specs.Prelude.{◌≡◌, ◌<◌, IfOk, IfSome};
 ghost use Rattle.calculus_specs.specs.State.{node_count_from};
 ghost use Rattle.step_finders.specs.Stepping.{IsStep};
@@ -14,15 +14,15 @@ use calculus_specs::Fact;
 use std::alloc::Allocator;
 use step_finders::{Rules, Shape, State, StateWithRules, Step, count_of, find_union_by};
 
-// Top, which is what closes that there is no successor.
+// Top, which every node has: an edge alone closes a part that allows no successor.
 const TOP: u32 = 0;
 
-/// The first entry from this one on by which a union is forced, and which: one of which a part is to be chosen, and all
-/// parts but one clash at once; or the length of the trail.
+/// The first entry from `from` on by which a union is forced, and the step that it forces; or the length of the trail.
+/// A union is forced if a part of it is to be chosen, and all parts but at most one would clash at once.
 ///
 /// # Errors
 ///
-/// Want of memory.
+/// Out of memory.
 pub(crate) fn first_forced<A: Allocator + Copy, S: State, R: Rules>(
     tree: &Tree<A>,
     search: &StateWithRules<'_, S, R>,
@@ -45,7 +45,7 @@ pub(crate) fn first_forced<A: Allocator + Copy, S: State, R: Rules>(
     Ok((tree.len(), None))
 }
 
-// A union that is forced by the entry.
+// The step of a union that is forced by the entry.
 fn forced_by<S: State, R: Rules>(
     item: Item,
     search: &StateWithRules<'_, S, R>,

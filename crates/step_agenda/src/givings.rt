@@ -1,12 +1,12 @@
-// Given facts that are not so.
+// Given facts that do not hold yet.
 ghost use Rattle.std.specs.Prelude.{◌≡◌, IfSome};
 ghost use Rattle.step_finders.specs.Giving.{IsGiving};
 
 use crate::nearness::Nearness;
 use step_finders::{Given, Rules, State, StateWithRules, is_so};
 
-/// The first rank from `from` on and below `to`, in the order of nearness, of a given fact that is not so, and the
-/// fact; or `to`.
+/// The first rank from `from` on and below `to`, in the order of nearness, of a given fact that does not hold yet, and
+/// that fact; or `to`.
 pub(crate) fn first_giving<S: State, R: Rules>(
     search: &StateWithRules<'_, S, R>,
     nearness: &Nearness,
@@ -27,7 +27,7 @@ pub(crate) fn first_giving<S: State, R: Rules>(
     (to, None)
 }
 
-// The given fact at a place, if it is not so.
+// The given fact at a place, if it does not hold yet.
 fn unless_so<S: State, R: Rules>(search: &StateWithRules<'_, S, R>, place: usize) -> Option<Given>
     ensures { IfSome result (IsGiving (R.context search.now.rules.now) (S.facts search.now.state.now)) }
 {

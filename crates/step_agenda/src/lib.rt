@@ -1,45 +1,49 @@
-//! Where a search looks for its next step first: at the facts that came in since it looked last.
+//! Where a search looks for its next step first: at the facts that were put since it looked last.
 //!
-//! A step that was not there before rests on a fact that was not there before. An [`Agenda`] keeps, for each kind of
-//! step, up to which fact of the trail it has looked, and looks at each later one for what that fact makes possible. So
-//! a search does not look through its whole state for each step, as a worklist does not (F. Baader and U. Sattler, "An
-//! Overview of Tableau Algorithms for Description Logics", Studia Logica 69, 2001, has the rules). Where it looked is
-//! kept with each choice, and is where it looks again once the search goes back to the choice: the facts before it are
-//! those of that time. At the edge to a new node it also keeps how many of the rows that are used at each node were
-//! asked, so that the node gets what they give one behind the other.
+//! A step that becomes possible rests on a new fact. For each kind of step an [`Agenda`] keeps up to which fact of the
+//! trail it has looked, and looks at each later fact for what that makes possible. So a search does not look through
+//! its whole state for each step, as a worklist does not (F. Baader and U. Sattler, "An Overview of Tableau Algorithms
+//! for Description Logics", Studia Logica 69, 2001, has the rules). These places are kept with each choice. If the
+//! search goes back to the choice, the agenda looks again from there: the facts before it are those of that time. At
+//! the edge to a new node it also keeps how many of the rows that are used at each node were asked, so that the node
+//! gets what they give one row after the other.
 //!
-//! A row that waits for several names is filed at one of them (`absorption`). A node may get another one last, so the
-//! rows that wait for a name are also found by those names at which they are filed, as far as a search has met these.
+//! A row that waits for several names is filed under one of them (`absorption`). A node may get another of these names
+//! last. So the rows that wait for a name are also found if they are filed under other names, as far as the search has
+//! met these.
 //!
-//! A part of a union is taken at once where all parts but one clash at once, as in unit propagation (I. Horrocks,
-//! *Optimising Tableaux Decision Procedures for Description Logics*, University of Manchester 1997). Whether that has
-//! become so is asked only of the unions that a new fact closes a part of, which are found by the fact's concept, as
-//! clauses are by the literals that are watched in them (M. Moskewicz and others, "Chaff: Engineering an Efficient SAT
-//! Solver", DAC 2001). What is found can be done. That nothing is found says nothing, since a join or a block that goes
-//! can make an old fact count again: then `step_finders::find_step` looks through everything.
+//! If all parts of a union but one would clash at once, that part is taken at once, as in unit propagation (I.
+//! Horrocks, *Optimising Tableaux Decision Procedures for Description Logics*, University of Manchester 1997). Whether
+//! this has become so is asked only of the unions of which a new fact closes a part. They are found by the concept of
+//! the fact, as clauses are found by the literals that are watched in them (M. Moskewicz and others, "Chaff:
+//! Engineering an Efficient SAT Solver", DAC 2001).
 //!
-//! The facts that axioms give to individuals are put outwards from the node in question: those that name it first, and
-//! those of the next ring once nothing follows from these that needs no choice between two parts. Where none names it,
-//! as where a query asks of any element, they are put where nothing else is left to do. An edge that is given
-//! may lead to a node of which more is known already than that it is there, so what it brings is looked for by all that
-//! its end has; and what comes to an individual is looked at from each individual with an edge to it, where other nodes
-//! have a parent alone.
+//! Each step that an agenda finds is legal. If it finds none, there may still be one, since a join, or a block that
+//! goes, can make an old fact count again: then `step_finders::find_step` looks through everything.
 //!
-//! Where a question is on an individual, an individual gets a union from a row only behind all given facts, unless all
-//! parts but one clash there at once: most answers that are yes need few unions. What the individual in question asks
-//! for below it is made once the facts of its neighbours are given.
+//! The facts that axioms give to individuals are put outwards from the node in question: first those that name it, and
+//! the next ring when nothing follows from the facts so far without a choice between several parts. If no given fact
+//! names the node in question, as when a query asks of any element, given facts are put when nothing else is left to
+//! do. A given edge may lead to a node of which more is known than that it is there. So what the edge brings is looked
+//! for with all concepts of its end. And if an individual gets a concept, that is looked at from each individual with
+//! an edge to it, while other nodes have only a parent.
 //!
-//! What needs no look at blocks is looked for first, so that blocks are found where nothing of it is left alone, and
-//! not after each step. Unions of individuals are among it. But a clash below other nodes shows only once these are
-//! made, and what goes back then loses all choices that came later. So it looks for such nodes after some choices at
-//! individuals, and again whenever these have doubled. Unions of another node are decided one behind the other where
-//! there are individuals, before blocks are found again. A search turns in circles if it has made many more steps than
-//! its trail has entries. From then on unions of individuals come in their turn, behind all nodes that are to be made.
+//! If a question is on an individual, rows give unions to individuals only after all given facts were put, unless all
+//! parts but one would clash there at once: most answers that are yes need few unions. The nodes that the individual
+//! in question asks for are made as soon as the facts of its neighbours are given.
 //!
-//! A search may go on behind a trail that it was given. Then the entries behind its start are passed over: what follows
-//! from them was done when that trail was made.
+//! Steps that need no look at blocks are looked for first. So blocks are found only when no such step is left, and not
+//! after each step. Unions of individuals are among these steps. But a clash below other nodes shows only when these
+//! have been made, and going back from it loses all choices that came later. So the search looks for such nodes after
+//! some choices, and again whenever the choices have doubled. Where there are individuals, the unions of one other node
+//! are decided one after the other, before blocks are found again. A search turns in circles if it has made many more
+//! steps than its trail has entries. From then on unions of individuals come in their turn, after all nodes that are to
+//! be made.
 //!
-//! [`TreeState`] is a completion tree as the state that finders look through, and [`TreeWithBlocks`] one with the
+//! A search may go on behind a trail that it was given. Then the agenda passes over the entries behind the start: what
+//! follows from them was done when that trail was made.
+//!
+//! [`TreeState`] is a completion tree as the state that finders look through, and [`TreeWithBlocks`] is one with the
 //! blocks of its nodes.
 #![tactic(auto)]
 

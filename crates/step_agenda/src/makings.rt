@@ -1,4 +1,4 @@
-// Nodes that a fact asks for.
+// New nodes that a fact asks for: below any clear node, and below first nodes, which are always clear.
 ghost use Rattle.std.specs.Prelude.{◌≡◌, ◌<◌, true, IsTrue, IfOk, IfSome};
 ghost use Rattle.calculus_specs.specs.Joins.{rep};
 ghost use Rattle.calculus_specs.specs.State.{node_count_from, has as holds};
@@ -14,21 +14,21 @@ use step_finders::{
     NewNodes, Rules, Shape, State, StateWithBlocks, StateWithRules, count_of, find_making_by,
 };
 
-/// An entry that asks for nodes, as far as its node was not clear.
+/// An entry that asks for nodes, and whose own node was not clear when it was looked at.
 #[derive(Clone, Copy, Debug, PartialEq, Eq)]
 pub(crate) struct Held {
     /// Its place.
     pub(crate) place: u32,
-    /// Its node, which may be one with a lesser one.
+    /// Its node, which may be joined with a lesser one.
     pub(crate) node: u32,
 }
 
-/// Looks for new nodes from this entry on. Answers the entry for which nodes are to be made, or the length of the
-/// trail, and the nodes; and puts each entry last in the list that may ask for nodes once its node is clear.
+/// The first entry from `from` on for which nodes are to be made, and these nodes; or the length of the trail. Each
+/// entry on the way that may ask for nodes once its own node is clear is put last in `held`.
 ///
 /// # Errors
 ///
-/// Want of memory.
+/// Out of memory.
 pub(crate) fn first_making<A: Allocator + Copy, S: StateWithBlocks, R: Rules>(
     heap: Global,
     tree: &Tree<A>,
@@ -75,12 +75,12 @@ fn hold<S: StateWithBlocks, R: Rules>(
     }
 }
 
-/// The nodes that the first of these entries asks for that asks for some now, of those whose nodes are not below
-/// `from`.
+/// The nodes that are to be made for the first of the held entries that asks for some now. Entries of nodes below
+/// `from` are not asked.
 ///
 /// # Errors
 ///
-/// Want of memory.
+/// Out of memory.
 pub(crate) fn first_held<A: Allocator + Copy, S: StateWithBlocks, R: Rules>(
     heap: Global,
     tree: &Tree<A>,
@@ -102,7 +102,7 @@ pub(crate) fn first_held<A: Allocator + Copy, S: StateWithBlocks, R: Rules>(
     Ok(None)
 }
 
-// What nodes the entry asks for.
+// The nodes that the entry asks for, if its own node is clear.
 fn making_by<S: StateWithBlocks, R: Rules>(
     heap: Global,
     item: Item,
@@ -122,7 +122,7 @@ fn making_by<S: StateWithBlocks, R: Rules>(
     }
 }
 
-// What nodes are to be made since the node has the concept, where it is a representative and clear.
+// The nodes that are to be made since the node has the concept, if it is a representative and clear.
 fn making_at<S: StateWithBlocks, R: Rules>(
     heap: Global,
     search: &StateWithRules<'_, S, R>,
@@ -141,12 +141,12 @@ fn making_at<S: StateWithBlocks, R: Rules>(
     find_making_by(heap, search, node, concept)
 }
 
-/// Looks from this entry on for new nodes below a first node, or below one of them alone. Answers the entry for which
-/// they are to be made, or the length of the trail, and the nodes. First nodes are clear, whatever blocks others.
+/// The first entry from `from` on for which nodes are to be made below a first node, or below the node `alone` if there
+/// is one, and these nodes; or the length of the trail. First nodes are clear, whatever blocks others.
 ///
 /// # Errors
 ///
-/// Want of memory.
+/// Out of memory.
 pub(crate) fn first_below_first<A: Allocator + Copy, S: State, R: Rules>(
     heap: Global,
     tree: &Tree<A>,
@@ -169,7 +169,7 @@ pub(crate) fn first_below_first<A: Allocator + Copy, S: State, R: Rules>(
     Ok((tree.len(), None))
 }
 
-// Whether the entry at a place gives this node a concept; where no node is named each entry counts.
+// Whether the entry at a place gives a concept to the node `alone`. If there is no such node, each entry counts.
 fn is_wanted<A: Allocator + Copy>(tree: &Tree<A>, place: u32, alone: Option<u32>) -> bool {
     match alone {
         Some(node) => node_at(tree, place) == node,
@@ -177,7 +177,7 @@ fn is_wanted<A: Allocator + Copy>(tree: &Tree<A>, place: u32, alone: Option<u32>
     }
 }
 
-// What nodes below a first node the entry asks for.
+// The nodes below a first node that the entry asks for.
 fn below_first_by<S: State, R: Rules>(
     heap: Global,
     item: Item,
@@ -197,7 +197,7 @@ fn below_first_by<S: State, R: Rules>(
     }
 }
 
-// What nodes are to be made since the node has the concept, where it is a first node and a representative.
+// The nodes that are to be made since the node has the concept, if it is a first node and a representative.
 #[tactic(auto, using(blocking::proofs::BlockLists::first_is_clear))]
 fn below_first<S: State, R: Rules>(
     heap: Global,

@@ -1,5 +1,5 @@
-// In which order given facts are given: those that name the node in question first, then those of the nodes that these
-// name, and so on outwards. So what follows from a few facts near the node is found before the others are given, as
+// In which order given facts are put: first those that name the node in question, then those that name a node which
+// these name, and so on outwards. So what follows from a few facts near the node is found before the others are put, as
 // resolution with a set of support begins with what the question says (L. Wos, G. Robinson and D. Carson, "Efficiency
 // and Completeness of the Set of Support Strategy in Theorem Proving", Journal of the ACM 12, 1965).
 
@@ -8,7 +8,7 @@ use calculus_specs::Fact;
 use std::alloc::Global;
 use step_finders::{Given, Rules};
 
-// No place, where a chain ends.
+// The end of a chain of mentions, which is no place.
 const END: u32 = u32::MAX;
 
 // That a fact names a node.
@@ -16,11 +16,11 @@ const END: u32 = u32::MAX;
 struct Mention {
     // The place of the fact among those that are given.
     place: usize,
-    // The next one of this node.
+    // The place of the next mention of this node.
     next: u32,
 }
 
-// By node, the facts that name it, in their order.
+// For each node the facts that name it, in their order, as a chain.
 #[derive(Drop)]
 struct Mentions {
     first: Vec<u32>,
@@ -28,7 +28,7 @@ struct Mentions {
 }
 
 impl Mentions {
-    // None of any of so many nodes.
+    // No mention yet, of so many nodes.
     fn none(heap: Global, nodes: u32) -> Result<Mentions, NoMemory> {
         let mut first = Vec::new(heap);
         for _ in 0..nodes {
@@ -40,7 +40,7 @@ impl Mentions {
         })
     }
 
-    // The place of the first one of a node.
+    // The place of the first mention of a node.
     fn first(&self, node: u32) -> u32 {
         match self.first.get(node as usize) {
             Some(at) => *at,
@@ -55,7 +55,7 @@ impl Mentions {
         }
     }
 
-    // Puts that the fact at a place names the node, before the others of this node.
+    // Puts the mention of a node by the fact at a place, before the other mentions of this node.
     fn put(&mut self, node: u32, place: usize) -> Result<(), NoMemory> {
         let at = node as usize;
         let count = self.all.len();
@@ -73,7 +73,7 @@ impl Mentions {
         Ok(())
     }
 
-    // Puts all that the facts name, the last one first.
+    // Puts the mentions by all facts, those by the last fact first.
     fn put_all(&mut self, given: &[Given]) -> Result<(), NoMemory> {
         let count = given.len();
         for back in 0..count {
@@ -88,7 +88,7 @@ impl Mentions {
     }
 }
 
-// The nodes that a fact names, twice the same where it names one.
+// The nodes that a fact names: twice the same node if it names one alone.
 fn nodes_of(fact: Fact<u32>) -> (u32, u32) {
     match fact {
         Fact::Has(node, _) => (node, node),
@@ -98,8 +98,9 @@ fn nodes_of(fact: Fact<u32>) -> (u32, u32) {
     }
 }
 
-/// The places of the given facts and the first nodes in this order, and where each ring of it ends: the facts that name
-/// the node, then those that name a node that is named by these, and so on; and with each ring the nodes that it names.
+/// The given facts, by their places, and the first nodes, both in this order, and where each ring ends. The first ring
+/// has the facts that name the node in question, the next one those that name a node that these name, and so on; with
+/// each ring come the nodes that it names. What no chain of facts joins with the node is the last ring.
 #[derive(Drop)]
 pub(crate) struct Nearness {
     facts: Vec<usize>,
@@ -128,7 +129,7 @@ impl Nearness {
     ///
     /// # Errors
     ///
-    /// Want of memory.
+    /// Out of memory.
     pub(crate) fn around<R: Rules>(
         heap: Global,
         rules: &R,
@@ -145,7 +146,7 @@ impl Nearness {
         Ok(walk.nearness)
     }
 
-    /// Whether it was made: it has a ring then.
+    /// Whether the order was made: it has a ring then.
     pub(crate) fn is_made(&self) -> bool {
         self.rings.len() > 0
     }
@@ -163,7 +164,7 @@ impl Nearness {
         }
     }
 
-    /// How many nodes are.
+    /// How many nodes are in this ring and those before it.
     pub(crate) fn nodes_within(&self, ring: usize) -> usize {
         match self.rings.get(ring) {
             Some(ring) => ring.nodes,
@@ -171,7 +172,7 @@ impl Nearness {
         }
     }
 
-    /// The first ring from this one on that has the fact of this rank, or how many rings there are.
+    /// The ring of the fact of a rank, looked for from ring `from` on; or how many rings there are.
     pub(crate) fn ring_of(&self, rank: usize, from: usize) -> usize {
         for at in from..self.rings.len() {
             if rank < self.facts_within(at) {
@@ -207,7 +208,7 @@ impl Nearness {
 #[derive(Drop)]
 struct Walk {
     mentions: Mentions,
-    // Of how many of the nodes in order the facts were taken.
+    // Of how many of the nodes that were reached the facts were taken.
     looked: usize,
     // By node whether it was reached, and by place whether a fact was taken.
     is_reached: Vec<bool>,
@@ -283,7 +284,7 @@ impl Walk {
         Ok(())
     }
 
-    // Takes the facts and nodes to which no way leads, as the last ring.
+    // Takes the facts and nodes that were not reached, as the last ring.
     fn take_others(&mut self, given: &[Given], nodes: u32) -> Result<(), NoMemory> {
         for place in 0..given.len() {
             self.take(given, place)?;

@@ -12,20 +12,20 @@ use step_finders::{Choosing, Rules, Shape, State, StateWithRules, count_of, find
 // Top, the filler that each node has.
 const TOP: u32 = 0;
 
-// The concepts of a node that are asked.
+// Which concepts of a node are looked at.
 #[derive(Clone, Copy)]
 enum Asked<'a> {
-    // These, where the node has them.
+    // These, if the node has them.
     These(&'a [u32]),
     // All that it has.
     Own,
 }
 
-/// A pair that is to be chosen by the entry.
+/// A choice that the entry makes possible: whether two successors are made one or kept apart. It is called a pair here.
 ///
 /// # Errors
 ///
-/// Want of memory.
+/// Out of memory.
 pub(crate) fn pair_by<S: State, R: Rules>(
     heap: Global,
     item: Item,
@@ -49,7 +49,7 @@ pub(crate) fn pair_by<S: State, R: Rules>(
     }
 }
 
-// A pair by the concept, where it is an 'at most', or by an 'at most' above of which it is the filler.
+// A pair by the concept, if that is an 'at most', or by an 'at most' of a node above, if the concept is its filler.
 fn pair_by_concept<S: State, R: Rules>(
     heap: Global,
     search: &StateWithRules<'_, S, R>,
@@ -65,7 +65,7 @@ fn pair_by_concept<S: State, R: Rules>(
     }
 }
 
-// A pair by one of these, all of them an 'at most', where a node above has it.
+// A pair by one of these concepts, each an 'at most', if a node above has it.
 fn pair_by_mosts_above<S: State, R: Rules>(
     heap: Global,
     search: &StateWithRules<'_, S, R>,
@@ -81,7 +81,7 @@ fn pair_by_mosts_above<S: State, R: Rules>(
     pair_above(heap, search, node, Asked::These(mosts))
 }
 
-// A pair by a concept that is asked of a node from which an edge leads to this one.
+// A pair by a concept of a node from which an edge leads to this one.
 fn pair_above<S: State, R: Rules>(
     heap: Global,
     search: &StateWithRules<'_, S, R>,
@@ -104,7 +104,7 @@ fn pair_above<S: State, R: Rules>(
     Ok(None)
 }
 
-// A pair by a concept that is asked of a node from which an edge to this one is given.
+// A pair by a concept of a node from which an edge to this one is given.
 fn pair_into<S: State, R: Rules>(
     heap: Global,
     search: &StateWithRules<'_, S, R>,
@@ -123,7 +123,7 @@ fn pair_into<S: State, R: Rules>(
     Ok(None)
 }
 
-// A pair by a concept of the node that is asked.
+// A pair by one of the concepts of the node that are looked at.
 fn pair_of_asked<S: State, R: Rules>(
     heap: Global,
     search: &StateWithRules<'_, S, R>,
@@ -139,7 +139,7 @@ fn pair_of_asked<S: State, R: Rules>(
     }
 }
 
-// A pair by one of these concepts, where the node has it.
+// A pair by one of these concepts, if the node has it.
 fn pair_of_any<S: State, R: Rules>(
     heap: Global,
     search: &StateWithRules<'_, S, R>,
@@ -158,8 +158,8 @@ fn pair_of_any<S: State, R: Rules>(
     Ok(None)
 }
 
-// A pair by an 'at most' of the beginning of an edge that counts its end: where that is no first node, one of all
-// successors, since what else the end has came after the edge.
+// A pair by an 'at most' of the beginning of an edge that counts its end. If the end is no first node, only an 'at
+// most' of all successors is looked for, since whatever else the end has came after the edge.
 fn pair_by_edge<S: State, R: Rules>(
     heap: Global,
     search: &StateWithRules<'_, S, R>,
@@ -220,7 +220,7 @@ fn counts<R: Rules>(rules: &R, concept: u32, role: u32) -> bool {
     }
 }
 
-// A pair by what a node has that was joined, or a node above.
+// A pair by a concept that a joined node has, or a node above it.
 fn pair_by_join<S: State, R: Rules>(
     heap: Global,
     search: &StateWithRules<'_, S, R>,
@@ -235,7 +235,7 @@ fn pair_by_join<S: State, R: Rules>(
     }
 }
 
-// A pair by the concept, where the node has it.
+// A pair by the concept, if the node has it.
 fn pair_of<S: State, R: Rules>(
     heap: Global,
     search: &StateWithRules<'_, S, R>,

@@ -1,9 +1,10 @@
-// Entries of a trail that a search passes over.
+// Entries of a trail that an agenda passes over.
 
-// How many facts a search begins with.
+// With how many entries a search begins.
 const START: u32 = 2;
 
-/// The entries that a search never looks at for a step: none, or those of a trail that it was given, behind its start.
+/// The entries at which an agenda never looks for a step: none, or those of a trail that its search was given, behind
+/// the start.
 #[derive(Clone, Copy, Debug, PartialEq, Eq)]
 pub(crate) struct Passed {
     from: u32,
@@ -16,7 +17,7 @@ impl Passed {
         Passed { from: 0, to: 0 }
     }
 
-    /// Those behind the start of a trail of so many.
+    /// Those behind the start of a trail of `len` entries.
     pub(crate) fn behind_start(len: u32) -> Passed {
         Passed {
             from: START,

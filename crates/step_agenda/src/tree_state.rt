@@ -1,5 +1,4 @@
-//! A completion tree as the state that the finders of steps look through, by itself and with the blocks of its nodes.
-// A tree as a state.
+// A completion tree as the state that the finders of steps look through, by itself and with the blocks of its nodes.
 ghost use Rattle.std.specs.Prelude.{◌≡◌};
 ghost use Rattle.blocking.specs.Trail.{facts_in};
 ghost use Rattle.blocking.specs.Followed.{IsCurrent};

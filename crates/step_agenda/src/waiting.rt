@@ -1,4 +1,4 @@
-// Rows that wait for a name and are filed at another one.
+// Rows that wait for a name and are filed under another one.
 
 use crate::NoMemory;
 use blocking::Item;
@@ -6,14 +6,14 @@ use calculus_specs::Fact;
 use std::alloc::Global;
 use step_finders::{NamedRow, Rules};
 
-/// A row that waits for several names is filed at one of them. For each of the others, these are the names at which
-/// such rows are filed, of those that a search has met.
+/// For each name, under which other names rows are filed that wait for it too. A row that waits for several names is
+/// filed under one of them. Only those names are here that some entry of the search has given to a node: these are met.
 #[derive(Drop)]
 pub(crate) struct WaitingRows {
     heap: Global,
     // By the number of a concept, whether it was met.
     is_met: Vec<bool>,
-    // By the number of a name, those at which rows are filed that wait for it too.
+    // By the number of a name, the met names under which rows are filed that wait for it too.
     files: Vec<Vec<u32>>,
 }
 
@@ -27,7 +27,7 @@ impl WaitingRows {
         }
     }
 
-    /// The names that were met at which rows are filed that wait for this one too.
+    /// The met names under which rows are filed that wait for this name too.
     pub(crate) fn files(&self, name: u32) -> &[u32] {
         match self.files.get(name as usize) {
             Some(files) => files.as_slice(),
@@ -39,7 +39,7 @@ impl WaitingRows {
     ///
     /// # Errors
     ///
-    /// Want of memory.
+    /// Out of memory.
     pub(crate) fn meet<R: Rules>(&mut self, rules: &R, item: Item) -> Result<(), NoMemory> {
         match item {
             Item::Fact(Fact::Has(_, concept)) => self.meet_concept(rules, concept),

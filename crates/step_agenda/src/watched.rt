@@ -4,7 +4,7 @@ use crate::NoMemory;
 use std::alloc::Global;
 use step_finders::{Rules, Shape};
 
-// The end of a chain.
+// The end of a chain of watches, which is no place.
 const END: u32 = u32::MAX;
 
 /// Where a concept closes a part of a union.
@@ -23,7 +23,7 @@ pub(crate) struct Watch {
     pub(crate) union: u32,
     /// Where the concept closes the part.
     pub(crate) closes: Closes,
-    /// The place of the watch of this concept that was put before, or none's.
+    /// The place of the watch of this concept that was put before this one, or the end.
     pub(crate) next: u32,
 }
 
@@ -39,12 +39,13 @@ pub(crate) struct RowPlace {
 /// For each concept, the unions that it closes a part of, of those that a search has met.
 #[derive(Drop)]
 pub(crate) struct UnionIndex {
-    // By the number of a concept, the place of its latest watch, or none's.
+    // By the number of a concept, the place of its latest watch, or the end.
     latest: Vec<u32>,
     // By the number of a union, whether it was met.
     is_met: Vec<bool>,
     // By the number of a union, a row that gives it, where one was met.
     rows: Vec<Option<RowPlace>>,
+    // Whether unions that a row would give count too.
     looks_at_rows: bool,
     watches: Vec<Watch>,
 }
@@ -66,7 +67,7 @@ impl UnionIndex {
         self.watches.len()
     }
 
-    /// The place of the latest watch of a concept, or none's.
+    /// The place of the latest watch of a concept, or the end, at which there is no watch.
     pub(crate) fn latest(&self, concept: u32) -> u32 {
         match self.latest.get(concept as usize) {
             Some(place) => *place,
@@ -74,7 +75,7 @@ impl UnionIndex {
         }
     }
 
-    /// The watch at a place; none where none is.
+    /// The watch at a place, if there is one.
     pub(crate) fn watch(&self, place: u32) -> Option<Watch> {
         match self.watches.get(place as usize) {
             Some(watch) => Some(*watch),
@@ -86,7 +87,7 @@ impl UnionIndex {
     ///
     /// # Errors
     ///
-    /// Want of memory.
+    /// Out of memory.
     pub(crate) fn meet<R: Rules>(
         &mut self,
         rules: &R,
@@ -102,12 +103,12 @@ impl UnionIndex {
         self.put_met(union)
     }
 
-    /// Whether rows are looked at that give unions.
+    /// Whether unions that a row would give count too.
     pub(crate) fn looks_at_rows(&self) -> bool {
         self.looks_at_rows
     }
 
-    /// Whether rows are looked at that give unions from now on.
+    /// Says whether unions that a row would give count from now on.
     pub(crate) fn look_at_rows(&mut self, looks_at_rows: bool) {
         self.looks_at_rows = looks_at_rows;
     }
@@ -116,7 +117,7 @@ impl UnionIndex {
     ///
     /// # Errors
     ///
-    /// Want of memory.
+    /// Out of memory.
     pub(crate) fn meet_row(&mut self, union: u32, row: RowPlace) -> Result<(), NoMemory> {
         let place = union as usize;
         for _ in self.rows.len()..place + 1 {
@@ -169,7 +170,7 @@ impl UnionIndex {
         }
     }
 
-    // Puts what closes a part that says this of all successors.
+    // Puts what closes a part that says of all successors that they have the filler.
     fn put_filler<R: Rules>(&mut self, rules: &R, union: u32, filler: u32) -> Result<(), NoMemory> {
         match rules.shape(filler) {
             Shape::Bottom | Shape::Name(_) | Shape::NotName(_) => {
