@@ -66,8 +66,8 @@ one_more axioms ks i old new lt has put k =
     ∙ sym (ap (λ (b : Bool). b && is) among ∙ and-or_distrib_right before (eqb n k) is)
 
 -- each of the numbers may be a member
-pub may_be_member : (s : Limited) (ks : List ℕ) (i : ℕ) → IsWithin s.limit s.members → ks ≡ member_list s → i < length ks
-    → (1 ≤ get_or ks i 0) × (get_or ks i 0 ≤ s.limit)
+pub may_be_member : (s : Limited) (ks : List ℕ) (i : ℕ) → IsWithin s.limit s.members → ks ≡ member_list s
+    → i < length ks → (1 ≤ get_or ks i 0) × (get_or ks i 0 ≤ s.limit)
 may_be_member s ks i within e lt =
     All-get_or (λ k. (1 ≤ k) × (k ≤ s.limit)) ks i 0 lt (members_within s s.limit ks e within)
 

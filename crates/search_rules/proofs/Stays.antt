@@ -1,5 +1,6 @@
 -- The rows of a set stay its rows while the table of concepts grows.
-use Rattle.std.proofs.Common.{◌≡◌, ℕ, ◌<◌, ◌&&◌, ◌||◌, Bool, true, false, List, [], ◌∷◌, length, Some, refl, ap, sym, ◌∙◌}
+use Rattle.std.proofs.Common.{◌≡◌, ℕ, ◌<◌, ◌&&◌, ◌||◌, Bool, true, false, List, [], ◌∷◌, length, Some, refl, ap, sym}
+use Rattle.std.proofs.Common.{◌∙◌}
 use Rattle.std.proofs.Common.{subst, arith, Option}
 use Rattle.std.specs.FinSet as sets
 use Rattle.std.proofs.lemmas.Bool.{or_right}
@@ -104,7 +105,8 @@ module _ (old new : List Shape) (grown : Extends old new) where
 pub kept_all : (o : Listed) (set copy role_set : Limited) (only : List ℕ) (roles : List RoleAxiom)
     (a b d : List Shape) (f : FiledRows) (gs : List Given) (numbers : NumberLists) (edges : EdgeLists)
     → IsOntologyInLimit o → copy ≡ set → role_set.limit ≡ set.limit
-    → ((k : ℕ) → sets.contains role_set.members k ≡ (sets.contains set.members k && is_role_number o.axioms k)) → only ≡ member_list set → roles ≡ role_axioms o.axioms only → IsTable d
+    → ((k : ℕ) → sets.contains role_set.members k ≡ (sets.contains set.members k && is_role_number o.axioms k))
+    → only ≡ member_list set → roles ≡ role_axioms o.axioms only → IsTable d
     → IsClosed (is_below roles) (is_transitive roles) d → Extends a b → Extends b d
     → IsRowTable o.axioms (member_list set) a f → AreNumbered b (stated_facts o.axioms only) gs
     → AreNumberLists d roles f.at_names numbers → AreEdgeLists (is_below roles) f edges
@@ -140,8 +142,8 @@ kept_all o set copy role_set only roles a b d f gs numbers edges limits same rol
     })
 
 -- and stays so with the new concepts of a query
-pub kept_grown : (r : RuleLists) (role_set : Limited) (roles : List RoleAxiom) (numbers lists : NumberLists) (edges : EdgeLists)
-    (new : List Shape) (q : Query) (found : QueryNumbers)
+pub kept_grown : (r : RuleLists) (role_set : Limited) (roles : List RoleAxiom) (numbers lists : NumberLists)
+    (edges : EdgeLists) (new : List Shape) (q : Query) (found : QueryNumbers)
     → AreKept r role_set roles numbers edges → IsFound r.table new roles r.filed.at_names q found
     → found.tables ≡ Some lists
     → AreKept (record { ontology = r.ontology; set = r.set; table = new; filed = r.filed; given = r.given }) role_set

@@ -13,7 +13,8 @@ invariant_of-result c =
     let only = c.args.only.now in
     let b = c.rows_and_facts.new.concepts in
     let d = c.tables_of.new.concepts in
-    kept_all o c.args.set.now c.in_ok-set.set c.in_ok-set.role_axioms only c.in_ok-roles.roles b b d c.in_ok-rows.rows c.in_ok-rows.given
+    kept_all o c.args.set.now c.in_ok-set.set c.in_ok-set.role_axioms only c.in_ok-roles.roles b b d
+    c.in_ok-rows.rows c.in_ok-rows.given
     c.in_ok-numbers.numbers c.in_ok-numbers.edges
     c.requires.in_limit c.in_ok-set.ensures.same c.in_ok-set.ensures.limit c.in_ok-set.ensures.members
     c.requires.listed c.in_ok-roles.ensures c.tables_of.ensures.concepts c.in_ok-numbers.ensures.closed
