@@ -19,7 +19,7 @@ use shq_terms::{NoMemory, Ontology};
 use std::alloc::Global;
 use std::mem;
 
-/// Which class of the ontology is part of which, within a budget of steps.
+/// Which class of the ontology is included in which, within a budget of steps.
 ///
 /// # Errors
 ///

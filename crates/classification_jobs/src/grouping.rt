@@ -43,7 +43,7 @@ fn hierarchy(alloc: Global, relation: &Relation) -> Result<Hierarchy, NoMemory>
     Ok(Hierarchy::new(nothing, thing, groups))
 }
 
-// The classes that are part of `owl:Nothing`.
+// The classes that are included in `owl:Nothing`.
 fn empty_classes(alloc: Global, relation: &Relation) -> Result<Vec<u32>, NoMemory>
     ensures { IfOk result
         (λ cs. cs.items ≡ passing (is_empty relation.now.count (holds relation.now)) 0 relation.now.count) }
@@ -56,7 +56,7 @@ fn empty_classes(alloc: Global, relation: &Relation) -> Result<Vec<u32>, NoMemor
     Ok(classes)
 }
 
-// The classes that `owl:Thing` is part of.
+// The classes in which `owl:Thing` is included.
 fn full_classes(alloc: Global, relation: &Relation) -> Result<Vec<u32>, NoMemory>
     ensures { IfOk result
         (λ cs. cs.items ≡ passing (holds_all relation.now.count (holds relation.now)) 0 relation.now.count) }

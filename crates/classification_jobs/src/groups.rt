@@ -1,10 +1,10 @@
 //! The taxonomy of an ontology: which classes have no element, which have every element, and how the others lie in one
 //! another.
 //!
-//! Classification finds for each two classes whether the one is part of the other (Baader, Hollunder, Nebel, Profitlich
-//! and Franconi, "An empirical analysis of optimization techniques for terminological representation systems", Applied
-//! Intelligence 4, 1994). A taxonomy says the same in short: classes that are equal stand together, and each group
-//! names only the groups directly above it, from which all others follow.
+//! Classification finds for each two classes whether the one is included in the other (Baader, Hollunder, Nebel,
+//! Profitlich and Franconi, "An empirical analysis of optimization techniques for terminological representation
+//! systems", Applied Intelligence 4, 1994). A taxonomy says the same in short: classes that are equal stand together,
+//! and each group names only the groups directly above it, from which all others follow.
 // What a taxonomy says.
 ghost use Rattle.std.specs.Prelude.{◌≡◌};
 
@@ -105,7 +105,7 @@ impl Hierarchy {
 /// The taxonomy of an ontology.
 #[derive(Drop)]
 pub enum Taxonomy {
-    /// Nothing can have an element: `owl:Thing` is part of `owl:Nothing`.
+    /// Nothing can have an element: `owl:Thing` is included in `owl:Nothing`.
     Inconsistent,
     /// Something can.
     Consistent(Hierarchy),

@@ -1,4 +1,4 @@
-//! The job `classify`: which class of a document is part of which.
+//! The job `classify`: which class of a document is included in which.
 //!
 //! The answer is the taxonomy of the document's classes, or that the budget of the search was spent. Whatever was asked
 //! stands in the log, and each line of the taxonomy follows from it: so a reader of the log has no need to trust the

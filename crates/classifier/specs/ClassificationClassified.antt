@@ -6,7 +6,7 @@ use Rattle.subsumption.specs.Shown.{ShowsClasses}
 use Rattle.subsumption.specs.Rows.{Rows, holds, IsOrder}
 use Rattle.subsumption.specs.Subsumption.{IsSubsumption}
 
--- it says of each two classes whether the one is part of the other, and the log shows it
+-- it says of each two classes whether the one is included in the other, and the log shows it
 pub record IsClassified (o : Listed) (log : List Entry) (r : Rows) : Type 0 where
   pub count_is : r.count ≡ length o.classes
   pub order : IsOrder (length o.classes + 2) (holds r)

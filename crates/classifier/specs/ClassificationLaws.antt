@@ -20,7 +20,7 @@ abbrev pub ExclusionsAreTrue : Type 0
 ExclusionsAreTrue = (o : Listed) (budget : ℕ) (log : List Entry) (x y : Concept) → IsClassificationLog o budget log
     → IsRuledOut log x y → ¬ Entails (all_axioms o.axioms) (record { sub = x; sup = y; on = Any })
 
--- where each pair is known or ruled out, what is known is which class is part of which
+-- where each pair is known or ruled out, what is known is which class is included in which
 abbrev pub SettledIsClassified : Type 0
 SettledIsClassified = (o : Listed) (budget : ℕ) (log : List Entry) (known : Rows) (ruled_out : Matrix)
     → IsClassificationLog o budget log → Mirrors o log known ruled_out

@@ -13,10 +13,10 @@ use shq_terms::Ontology;
 use std::alloc::Global;
 use subsumption::{Oracle, Relation, Stop, settle};
 
-/// Which class of the ontology is part of which, by all of its axioms (OWL 2 Direct Semantics, section 2.5), where the
+/// Which class of the ontology is included in which, by all of its axioms (OWL 2 Direct Semantics, section 2.5). The
 /// oracle is one for this ontology that was asked nothing yet. The log shows each pair. The first question is whether
-/// all things are in the class of none, and nothing is asked whose answer follows from the answers before, be it yes or
-/// no.
+/// `owl:Thing` is included in `owl:Nothing`, and nothing is asked whose answer follows from the answers before, be it
+/// yes or no.
 ///
 /// # Errors
 /// The budget of the oracle was spent in the middle of a test, which is the last of the log; or memory was refused, and

@@ -1,7 +1,7 @@
 //! Classification: the hierarchy of all classes of an ontology, as a relation that says of each two whether the one is
-//! part of the other, with a log that shows each pair (Franz Baader, Bernhard Hollunder, Bernhard Nebel, Hans-Jürgen
-//! Profitlich and Enrico Franconi, "An Empirical Analysis of Optimization Techniques for Terminological Representation
-//! Systems", Applied Intelligence 4, 1994).
+//! included in the other, with a log that shows each pair (Franz Baader, Bernhard Hollunder, Bernhard Nebel,
+//! Hans-Jürgen Profitlich and Enrico Franconi, "An Empirical Analysis of Optimization Techniques for Terminological
+//! Representation Systems", Applied Intelligence 4, 1994).
 //!
 //! The questions are those of `subsumption`, which asks until each pair is settled. A reader of the log needs to trust
 //! neither their order nor the relation: for each two different classes, a chain of answers leads from the one to the

@@ -16,6 +16,7 @@ use Rattle.job_inputs.specs.declared.message.Message.TheVariants as M
 abbrev pub line_rejected : ℕ → Answer
 line_rejected n = (Rejected, line (codes "rejected line " ++ decimal n))
 
+-- the status and the line of a verdict on a certificate
 abbrev pub verdict_answer : Verdict → Answer
 verdict_answer NotEntailed = (Done, line (codes "accepted not entailed"))
 verdict_answer Entailed = (Done, line (codes "accepted entailed"))

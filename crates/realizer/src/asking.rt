@@ -20,7 +20,8 @@ use subsumption::{Answer, Oracle, put_if};
 /// Asks whether an individual is in a class, by the axioms of a set. A no comes with a counter-model.
 ///
 /// # Errors
-/// Memory may be refused; the log is as before then.
+///
+/// Out of memory. The log is as before then.
 pub(crate) fn ask_class(
     oracle: &mut Oracle<'_>,
     axioms: &AxiomSet,
@@ -56,7 +57,8 @@ pub(crate) fn ask_class(
 /// Those of a set of classes that have the element in an interpretation. The classes are below a count.
 ///
 /// # Errors
-/// Memory may be refused.
+///
+/// Out of memory.
 pub(crate) fn classes_at(
     alloc: Global,
     classes: &AxiomSet,

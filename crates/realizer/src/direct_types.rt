@@ -15,7 +15,8 @@ use subsumption::{Relation, classes_between, first_classes, keep, lowest};
 /// The direct types of so many individuals, of which each has one row: the set of its classes.
 ///
 /// # Errors
-/// Memory may be refused.
+///
+/// Out of memory.
 pub(crate) fn type_lines(
     alloc: Global,
     relation: &Relation,

@@ -22,7 +22,7 @@ use subsumption::{Oracle, Relation, settle};
 
 /// The direct types of each individual of the ontology, by all of its axioms (OWL 2 Direct Semantics, section 2.5),
 /// where the oracle is one for this ontology that was asked nothing yet: the groups of equal classes of which it is an
-/// instance and that hold no other such group. It is settled first which class is part of which, and then, one
+/// instance and that hold no other such group. It is settled first which class is included in which, and then, one
 /// individual after the other, which classes it is in. The log shows both: of each two classes, and of each individual
 /// and each listed class.
 ///
@@ -52,7 +52,7 @@ pub fn realize(alloc: Global, oracle: &mut Oracle<'_>, ontology: &Ontology) -> R
     outcome
 }
 
-// The direct types, where it is settled which class is part of which.
+// The direct types, where it is settled which class is included in which.
 fn types_by(
     alloc: Global,
     oracle: &mut Oracle<'_>,

@@ -76,7 +76,7 @@ impl TypeLines {
 /// The realization of an ontology.
 #[derive(Drop)]
 pub enum Types {
-    /// Nothing can have an element: `owl:Thing` is part of `owl:Nothing`.
+    /// Nothing can have an element: `owl:Thing` is included in `owl:Nothing`.
     Inconsistent,
     /// Something can, and these are the direct types of each individual.
     Consistent(TypeLines),

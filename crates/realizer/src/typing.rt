@@ -29,7 +29,8 @@ impl Typing {
     /// Each class is possible for each individual.
     ///
     /// # Errors
-    /// Memory may be refused.
+    ///
+    /// Out of memory.
     pub(crate) fn new(alloc: Global, ontology: &Ontology) -> Result<Typing, NoMemory>
         ensures axioms { IfOk result (λ t. IsWhole ontology.now t.axioms) }
         ensures rows { IfOk result (λ t. AreCandidateRows ontology.now 0 t.rows.items) }
@@ -66,8 +67,8 @@ impl Typing {
         Ok(())
     }
 
-    // Asks until the classes of an individual are known: those that all things are in are at once, and then a class is
-    // asked about that is possible, until each that is possible is known.
+    // Asks until the classes of an individual are known. Those that have every element are known at once. Then a class
+    // that is still possible is asked about, until each class that is possible is known.
     fn settle(
         &mut self,
         oracle: &mut Oracle<'_>,
@@ -178,7 +179,7 @@ fn full_rows(alloc: Global, individuals: u32, classes: u32) -> Result<Vec<AxiomS
     Ok(rows)
 }
 
-// The set of all listed classes, with room for the class of all things and that of none.
+// The set of all listed classes, with room for `owl:Thing` and `owl:Nothing`.
 fn full_row(alloc: Global, classes: u32) -> Result<AxiomSet, NoMemory>
     requires { classes ≤ MAX_CLASSES }
     ensures { IfOk result (HoldsClasses classes (λ x. true)) }

@@ -21,6 +21,7 @@ spent_of log = sum_by cost_of log
 
 -- ---- which entries are what
 
+-- whether the entry is a test
 abbrev pub is_test : Entry → Bool
 is_test (Test s q steps e) = true
 is_test (Node s) = false
@@ -35,6 +36,7 @@ nodes_of (Node s ∷ es) = s ∷ nodes_of es
 abbrev pub test_count : List Entry → ℕ
 test_count log = count_by is_test log
 
+-- whether a test ended since the budget was spent
 abbrev pub ended_spent : TestEnd → Bool
 ended_spent (Yes u) = false
 ended_spent No = false

@@ -118,14 +118,14 @@ pub record IsOneTest (o : Listed) (q : Query) (log : List Entry) : Type 0 where
 
 -- ---- classification
 
--- a class of the ontology, the class of all things or that of none
+-- a class of the ontology, owl:Thing or owl:Nothing
 abbrev pub IsClass : Listed → Concept → Type 0
 IsClass o (name a) = a < length o.classes
 IsClass o top = Unit {0}
 IsClass o bottom = Unit {0}
 IsClass o _ = ⊥
 
--- the entry tests, by all axioms and of all elements, whether one class is part of another
+-- the entry tests, by all axioms and of all elements, whether one class is included in another
 abbrev pub IsClassTest : Listed → Entry → Type 0
 IsClassTest o (Test s q steps e) = IsWhole o s × IsClass o q.sub × IsClass o q.sup × ¬ (q.sub ≡ q.sup) × (q.on ≡ Any)
 IsClassTest o (Node s) = ⊥
@@ -139,8 +139,8 @@ abbrev pub AsksNothingTwice : List Entry → Type 0
 AsksNothingTwice log = (i j : ℕ) (s t : Limited) (p q : Query) (m n : ℕ) (e f : TestEnd)
     → i < j → slice_get log i ≡ Some (Test s p m e) → slice_get log j ≡ Some (Test t q n f) → ¬ (p ≡ q)
 
--- one step from a class to one of which it is part: a test of all that is in the former found so, or the latter has all
--- things, or the former has none
+-- one step from a class to one in which it is included: a test of all elements of the former found so, or the latter is
+-- owl:Thing, or the former is owl:Nothing
 pub data IsStep (log : List Entry) : Concept → Concept → Type 0 where
   by_test : (s : Limited) (q : Query) (steps : ℕ) (u : Limited) → q.on ≡ Any → Contains log (Test s q steps (Yes u))
       → IsStep log q.sub q.sup
@@ -209,16 +209,21 @@ pub data Purpose : Type 0 where
   classification : Purpose
   pinpointing : Query → Purpose
 
+-- an honest log of the question whether a query follows: it has one test, of that
 pub record IsDecisionLog (o : Listed) (q : Query) (budget : ℕ) (log : List Entry) : Type 0 where
   pub budget_kept : IsHonestWithin o budget log
   pub one : IsOneTest o q log
 
+-- an honest log of a classification: its tests are between classes, none is made twice, and none if earlier tests lead
+-- to a yes
 pub record IsClassificationLog (o : Listed) (budget : ℕ) (log : List Entry) : Type 0 where
   pub budget_kept : IsHonestWithin o budget log
   pub tests : AreClassTests o log
   pub once : AsksNothingTwice log
   pub new : AsksNoChain log
 
+-- an honest log of a search for justifications and repairs: its tests are of the query and within its local module, and
+-- none is made that an earlier entry answers; its nodes are those of a hitting-set tree, with few tests for each
 pub record IsPinpointingLog (o : Listed) (q : Query) (budget : ℕ) (log : List Entry) : Type 0 where
   pub budget_kept : IsHonestWithin o budget log
   pub tests : AreTestsOf q log

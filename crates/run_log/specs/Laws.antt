@@ -42,7 +42,8 @@ AnswersAreTrue = (o : Listed) (log : List Entry) (asked s : Limited) (q : Query)
     → EachIsHonest o log → IsAxiomSet o asked
     → Contains log (Test s q steps e) → EndAnswers s e asked → Tells o asked q e
 
--- where a chain of an honest classification leads from one class to another, the former is part of the latter
+-- where a chain of an honest classification leads from one class to another, the former is included in the
+-- latter
 abbrev pub ChainsAreTrue : Type 0
 ChainsAreTrue = (o : Listed) (log : List Entry) (x y : Concept) → EachIsHonest o log → AreClassTests o log
     → IsChain log x y

@@ -31,7 +31,7 @@ bare =
 abbrev pub no_axioms : Limited
 no_axioms = record { limit = 0; members = set.empty }
 
--- the query whether one class is part of another
+-- the query whether one class is included in another
 abbrev pub inclusion : ℕ → ℕ → Query
 inclusion a b = record { sub = name a; sup = name b; on = Any }
 
@@ -115,7 +115,7 @@ two_are_not_one h = let k = h.is_log in cc
 
 -- ---- classification
 
--- class 0 is part of class 1, which is part of class 2
+-- class 0 is included in class 1, which is included in class 2
 abbrev first_test : Entry
 first_test = Test no_axioms (inclusion 0 1) 4 (Yes no_axioms)
 
@@ -213,7 +213,7 @@ asks_what_is_open (suc zero) s q steps e at chain =
     let c : is_top_or 1 (name 2) ≡ true = ap (is_top_or 1) m ∙ b in cc
 asks_what_is_open (suc (suc place)) s q steps e at chain = cc
 
--- whether class 0 is part of class 2 follows from the two tests before
+-- whether class 0 is included in class 2 follows from the two tests before
 pub asks_what_follows : ¬ AsksNoChain three_tests
 asks_what_follows h =
     h 2 no_axioms (inclusion 0 2) 4 No refl

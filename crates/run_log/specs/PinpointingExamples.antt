@@ -113,7 +113,7 @@ asks_more h = h 1 (numbers 3 (1 ∷ 2 ∷ 3 ∷ [])) (inclusion 0 1) 4 (Yes (num
 
 -- ---- nodes
 
--- one axiom: class 0 is part of class 1
+-- one axiom: class 0 is included in class 1
 abbrev pub one_axiom : Listed
 one_axiom = record {
   axioms = record { «axiom» = SubClassOf (name 0) (name 1); line = 1 } ∷ [];

@@ -13,7 +13,7 @@ use Rattle.run_log.specs.declared.entry.Entry.TheVariants.{Test}
 use Rattle.run_log.specs.declared.entry.TestEnd.TheVariants.{Yes, No}
 use Rattle.run_log.specs.HonestLog.{IsClass, IsChain}
 
--- x is no part of y: a test found that v is no part of w, where v is part of x and y is part of w
+-- x is not included in y: a test found that v is not included in w, where v is included in x and y is included in w
 pub record IsRuledOut (log : List Entry) (x y : Concept) : Type 0 where
   pub tested : Limited
   pub query : Query
@@ -23,7 +23,7 @@ pub record IsRuledOut (log : List Entry) (x y : Concept) : Type 0 where
   pub lower : IsChain log query.sub x
   pub upper : IsChain log y query.sup
 
--- the log shows of each two classes whether the one is part of the other
+-- the log shows of each two classes whether the one is included in the other
 abbrev pub ShowsClasses : Listed → List Entry → Type 0
 ShowsClasses o log = (x y : Concept) → IsClass o x → IsClass o y → ¬ (x ≡ y) → IsChain log x y ⊎ IsRuledOut log x y
 

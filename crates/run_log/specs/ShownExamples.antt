@@ -30,7 +30,7 @@ consistent = record { sub = top; sup = bottom; on = Any }
 
 -- ---- classes
 
--- whether all things are in no class is all that there is to ask
+-- whether owl:Thing is included in owl:Nothing is all that there is to ask
 abbrev one_no : List Entry
 one_no = Test no_axioms consistent 0 No ∷ []
 

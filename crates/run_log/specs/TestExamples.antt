@@ -50,8 +50,8 @@ use Rattle.run_log.specs.HonestLog.{IsHonest}
 use Rattle.run_log.specs.HonestLog.Purpose.{decision}
 use Rattle.run_log.specs.LogExamples.{bare, no_axioms, no_axioms_are_whole}
 
--- Whether class 0 is part of itself, which follows from no axioms; whether all things are in no class, which does not;
--- and whether nothing is in both of two classes.
+-- Whether class 0 is included in itself, which follows from no axioms; whether owl:Thing is included in owl:Nothing,
+-- which does not; and whether nothing is in both of two classes.
 abbrev itself : Query
 itself = record { sub = name 0; sup = name 0; on = Any }
 
@@ -214,7 +214,7 @@ module _ (w : SearchContext) (begins : shape_of w.table 0 ≡ top_shape) (no_row
     no_choose = λ b f may alt. nothing_to_choose b may;
   }
 
--- ---- searches whether all things are in no class
+-- ---- searches whether owl:Thing is included in owl:Nothing
 
 tree_of_first : (shapes : List Shape) → IsTable shapes → tree_of shapes 0 ≡ top
 tree_of_first shapes t =

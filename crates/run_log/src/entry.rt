@@ -6,7 +6,7 @@ use pinpointing_specs::AxiomSet;
 /// How a test ended.
 #[derive(Drop)]
 pub enum TestEnd {
-    /// The query follows from these axioms, which are part of the set.
+    /// The query follows from these axioms of the set.
     Yes(KeptSet),
     /// The query does not follow from the set.
     No,
@@ -17,7 +17,7 @@ pub enum TestEnd {
 /// One piece of work.
 #[derive(Drop)]
 pub enum Entry {
-    /// A set of axioms was tested for a query, by so many steps of a search.
+    /// It was tested whether the query follows from the set of axioms, by so many steps of a search.
     Test(KeptSet, KeptQuery, u64, TestEnd),
     /// The node of a hitting-set tree that stands for this set was taken.
     Node(AxiomSet),

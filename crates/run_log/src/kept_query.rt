@@ -7,7 +7,7 @@ use std::alloc::Global;
 use std::marker::Model;
 use std::rc::Rc;
 
-/// A query that an entry keeps. Entries may share the class expression that is asked about. Contracts see the query.
+/// A query that an entry keeps. Entries may share its subclass. Contracts see the query.
 #[derive(Drop)]
 pub struct KeptQuery {
     sub: Rc<Concept>,
@@ -31,7 +31,8 @@ impl KeptQuery {
     /// Keeps a copy of the query, which shares nothing yet.
     ///
     /// # Errors
-    /// Memory may be refused.
+    ///
+    /// Out of memory.
     pub fn new(alloc: Global, query: &Query) -> Result<KeptQuery, NoMemory>
         ensures { IfOk result (λ kept. kept ≡ query.now) }
     {
@@ -44,21 +45,21 @@ impl KeptQuery {
         })
     }
 
-    /// The class expression that is asked about.
+    /// The subclass of the query: of whose elements it speaks.
     pub fn sub(&self) -> &Concept
         ensures { result.now ≡ self.now.sub }
     {
         &self.sub
     }
 
-    /// The class expression of which it may be part.
+    /// The superclass of the query: in which these elements are, if it follows.
     pub fn sup(&self) -> &Concept
         ensures { result.now ≡ self.now.sup }
     {
         &self.sup
     }
 
-    /// Of which elements the query speaks.
+    /// Whether the query speaks of any element, or of one individual.
     pub fn on(&self) -> On
         ensures { result ≡ self.now.on }
     {
@@ -72,7 +73,7 @@ impl KeptQuery {
         self.sub().is_same(&other.sub) && self.sup.is_same(&other.sup) && self.on.is_same(other.on)
     }
 
-    // The other query: it shares what this one asks about, if it asks about that too.
+    // Keeps the other query, which shares the subclass of this one if it has the same.
     pub(crate) fn shared_or_copied(
         &self,
         alloc: Global,
@@ -87,7 +88,8 @@ impl KeptQuery {
         }
     }
 
-    // The other query, which asks about the same class expression. There is an end to how often that can be shared.
+    // Keeps the other query, which shares the same subclass. How often that is shared is counted; if the count has no
+    // room, this fails.
     fn sharing_sub(&self, alloc: Global, other: &Query) -> Result<KeptQuery, NoMemory>
         requires { self.now.sub ≡ other.now.sub }
         ensures { IfOk result (λ kept. kept ≡ other.now) }

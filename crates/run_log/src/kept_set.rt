@@ -7,7 +7,8 @@ use std::alloc::Global;
 use std::marker::Model;
 use std::rc::Rc;
 
-/// A set of axioms that entries keep. Several may share it, so that it takes its memory once. Contracts see the set.
+/// A set of axioms that an entry keeps. Several entries may share it, so that it takes its memory once. Contracts see
+/// the set.
 #[derive(Drop)]
 pub struct KeptSet {
     set: Rc<AxiomSet>,
@@ -27,7 +28,8 @@ impl KeptSet {
     /// Keeps this set, which nothing shares yet.
     ///
     /// # Errors
-    /// Memory may be refused.
+    ///
+    /// Out of memory.
     pub fn new(alloc: Global, set: AxiomSet) -> Result<KeptSet, NoMemory>
         ensures { IfOk result (λ kept. kept ≡ set) }
     {
@@ -46,14 +48,15 @@ impl KeptSet {
     /// A copy of the set.
     ///
     /// # Errors
-    /// Memory may be refused.
+    ///
+    /// Out of memory.
     pub fn copied(&self) -> Result<AxiomSet, NoMemory>
         ensures { IfOk result (λ set. set ≡ self.now) }
     {
         self.set().try_clone()
     }
 
-    // The other set: this one, shared, if they are equal, and else a copy.
+    // Keeps the other set: it shares this one if they are equal, and is copied otherwise.
     pub(crate) fn shared_or_copied(
         &self,
         alloc: Global,
@@ -68,7 +71,7 @@ impl KeptSet {
         }
     }
 
-    // The same set once more, shared. There is an end to how often that can be counted.
+    // The same set once more, shared. How often it is shared is counted; if the count has no room, this fails.
     fn shared(&self) -> Result<KeptSet, NoMemory>
         ensures { IfOk result (λ kept. kept ≡ self.now) }
     {

@@ -45,7 +45,8 @@ impl KeptTrail {
     /// Keeps these facts and marks, and copies the shapes of a search's concepts.
     ///
     /// # Errors
-    /// Memory may be refused.
+    ///
+    /// Out of memory.
     pub fn new(alloc: Global, items: Vec<Item>, concepts: &Concepts) -> Result<KeptTrail, NoMemory>
         ensures { IfOk result (λ t. t ≡ record { items = items.items; table = concepts.now }) }
     {

@@ -17,12 +17,12 @@ pub fn follows_in_more()
     ensures { FollowsInMore }
 {}
 
-/// Where an entry of an honest log answers whether the query of its test follows from another set, the answer is true.
+/// If an entry of an honest log answers whether the query of its test follows from another set, the answer is true.
 pub fn answers_are_true()
     ensures { AnswersAreTrue }
 {}
 
-/// Where steps of an honest classification lead from one class to another, the former is part of the latter by all
+/// If steps of an honest classification lead from one class to another, the former is included in the latter by all
 /// axioms.
 pub fn chains_are_true()
     ensures { ChainsAreTrue }

@@ -33,7 +33,7 @@ impl Model for RunLog {
 }
 
 impl RunLog {
-    /// No entries.
+    /// A log without entries. It takes its memory from `alloc`.
     pub fn new(alloc: Global) -> RunLog
         ensures { result ≡ [] }
     {
@@ -50,17 +50,19 @@ impl RunLog {
         &self.entries
     }
 
-    /// What was spent: the sum of all steps, and one for each node.
+    /// What was spent: the sum of the steps of all tests, and one for each node.
     pub fn spent(&self) -> u64
         ensures { result ≡ spent_of self.now }
     {
         self.spent
     }
 
-    /// The set for the next entry, which shares it with the latest one if that is a test of the same set.
+    /// The set, kept for the next entry: shared with the latest entry if that is a test of the same set, copied
+    /// otherwise.
     ///
     /// # Errors
-    /// Memory may be refused.
+    ///
+    /// Out of memory.
     pub fn keep_set(&self, alloc: Global, set: &AxiomSet) -> Result<KeptSet, NoMemory>
         ensures { IfOk result (λ kept. kept ≡ set.now) }
     {
@@ -70,11 +72,12 @@ impl RunLog {
         }
     }
 
-    /// The query for the next entry, which shares what it asks about with the latest one if that is a test that asks
-    /// about the same class expression.
+    /// The query, kept for the next entry. Its subclass is shared with the latest entry if that is a test of a query
+    /// with the same subclass, and copied otherwise.
     ///
     /// # Errors
-    /// Memory may be refused.
+    ///
+    /// Out of memory.
     pub fn keep_query(&self, alloc: Global, query: &Query) -> Result<KeptQuery, NoMemory>
         ensures { IfOk result (λ kept. kept ≡ query.now) }
     {
@@ -100,10 +103,11 @@ impl RunLog {
         }
     }
 
-    /// Puts an entry last. What is spent with it fits 64 bits.
+    /// Puts an entry last. With it, what was spent has to fit into 64 bits.
     ///
     /// # Errors
-    /// Memory may be refused; nothing has changed then.
+    ///
+    /// Out of memory. The log is as before then.
     pub fn push(&mut self, entry: Entry) -> Result<(), NoMemory>
         requires { spent_of self.old + cost_of entry < 2 ^ 64 }
         ensures pushed { OnOk result (self.new ≡ self.old ++ entry ∷ []) }
@@ -117,7 +121,7 @@ impl RunLog {
 }
 
 impl Entry {
-    /// What the entry takes of the budget: its steps, or one for a node.
+    /// What the entry takes of the budget: its steps if it is a test, one if it is a node.
     pub fn cost(&self) -> u64
         ensures { result ≡ cost_of self.now }
     {

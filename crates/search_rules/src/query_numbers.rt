@@ -1,4 +1,4 @@
-// The numbers of what a query asks, and the tables that have them.
+// The numbers of the two concepts that a query asks of, and the tables that have them.
 ghost use Rattle.std.specs.Prelude.{◌≡◌, IsTrue, IfOk, OnOk, OnErr};
 ghost use Rattle.calculus_specs.specs.Shape.{IsTable};
 ghost use Rattle.ontology_limits.specs.Steps.{is_transitive};
@@ -16,18 +16,18 @@ use ontology_limits::{Concepts, RoleBox};
 use shq_terms::Query;
 use std::alloc::Global;
 
-// The numbers of what a query asks, and new tables where there are new concepts.
+// The numbers of the two concepts that a query asks of, and new tables if the table of concepts has grown.
 #[derive(Drop)]
 pub(crate) struct QueryNumbers {
-    // Of its left side.
+    // That of its subclass.
     pub(crate) sub: u32,
-    // Of the complement of its right side.
+    // That of the complement of its superclass.
     pub(crate) not_sup: u32,
-    // Those of all concepts. There are none where the concepts are as before.
+    // The tables of all concepts. There are none if the concepts are as before.
     pub(crate) tables: Option<NumberTables>,
 }
 
-// Finds them, or puts them. Out of memory, it changes nothing.
+// Looks both concepts up, and puts what is not there. If memory is refused, the table of concepts is as before.
 pub(crate) fn query_numbers(
     alloc: Global,
     concepts: &mut Concepts,

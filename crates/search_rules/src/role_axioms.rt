@@ -1,7 +1,7 @@
 // The role axioms of a set.
 //
-// A refutation begins with the role axioms of its set, and a classification has thousands of refutations over one set.
-// So the role axioms are found once, when the rules are made, and no refutation looks through the other axioms.
+// A refutation names role axioms of its set, and a classification makes thousands of refutations over one set. So the
+// role axioms are found once, when the rules are made, and no refutation has to look through the other axioms.
 ghost use Rattle.std.specs.Prelude.{◌≡◌, ℕ, ◌≤◌, ◌==◌, ◌&&◌, ◌||◌, IfOk};
 ghost use Rattle.std.specs.FinSet as sets;
 ghost use Rattle.axiom_sets.specs.Sets.{member_list};
@@ -12,7 +12,11 @@ use axiom_sets::AxiomSet;
 use shq_terms::{Axiom, Numbered, Ontology};
 use std::alloc::Global;
 
-// Those of the members of the set, which are listed, that are role axioms.
+/// The role axioms among the members of the set, which are listed in `only`.
+///
+/// # Errors
+///
+/// Out of memory.
 pub(crate) fn role_axioms_of(
     alloc: Global,
     ontology: &Ontology,
@@ -44,7 +48,7 @@ fn put_role_axiom(found: &mut AxiomSet, axioms: &[Numbered], number: u32)
     }
 }
 
-// Whether the axiom of this number, from 1, is a role axiom.
+// Whether the axiom of this number is a role axiom. Numbers of axioms begin at 1.
 fn is_role_axiom_at(axioms: &[Numbered], number: u32) -> bool
     ensures { result ≡ is_role_number axioms.now number }
 {
@@ -54,6 +58,7 @@ fn is_role_axiom_at(axioms: &[Numbered], number: u32) -> bool
     }
 }
 
+// Whether an axiom speaks of roles alone.
 fn is_role_axiom(axiom: &Axiom) -> bool
     ensures { result ≡ says_of_roles_alone «axiom».now }
 {

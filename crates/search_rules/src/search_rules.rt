@@ -31,7 +31,8 @@ use std::alloc::Global;
 use std::marker::Model;
 use step_finders::{Given, NamedRow, PlainRow, Rules};
 
-/// The concepts, roles and rows by which searches use the axioms of one set, and what they ask of these.
+/// The concepts, roles and rows through which searches use the axioms of one set, and the tables in which searches look
+/// these up.
 #[derive(Drop)]
 pub struct SearchRules<'a> {
     ontology: &'a Ontology,
@@ -72,7 +73,7 @@ impl<'a> Model for SearchRules<'a> {
 impl<'a> SearchRules<'a> {
     ghost use Rattle.search_rules.specs.RuleLists.{RuleLists, numbers_in, context_in, IsReady, IsGrown, AreNumbersOf};
 
-    /// The rules of the axioms of a set, which is of axioms of the ontology.
+    /// The rules of a set of axioms of the ontology.
     ///
     /// # Errors
     ///
@@ -91,12 +92,13 @@ impl<'a> SearchRules<'a> {
         rules_of(alloc, ontology, set, &only)
     }
 
-    /// The numbers of what a query asks whose cardinalities are at most 100: of its left side, and of the complement of
-    /// its right side. Where they are there already, nothing is made; where not, the tables are made anew.
+    /// The numbers of the two concepts that a query asks of: its subclass, and the complement of its superclass. Their
+    /// cardinalities are at most 100. If both are in the table of concepts already, nothing is made; otherwise they are
+    /// put there, and the tables by number are made anew.
     ///
     /// # Errors
     ///
-    /// Out of memory, or out of numbers. The rules are as before then.
+    /// Out of memory, or out of numbers for concepts. The rules are as before then.
     pub fn numbers_of(&mut self, alloc: Global, query: &Query) -> Result<(u32, u32), NoMemory>
         requires sub { IsTrue (has_counts_within 100 query.now.sub) }
         requires sup { IsTrue (has_counts_within 100 query.now.sup) }
@@ -118,8 +120,8 @@ impl<'a> SearchRules<'a> {
         }
     }
 
-    /// The node that a query asks of: that of the individual, or where it speaks of each element, the one after those
-    /// of all individuals. An individual that is not listed has none, and the answer is no first node then.
+    /// The node in question: that of the individual that the query speaks of, or, if it speaks of any element, the node
+    /// after those of all individuals. An individual that is not listed has no node; the answer is no first node then.
     pub fn node_in_question(&self, query: &Query) -> u32
         ensures { result ≡ node_in_question (length self.now.ontology.individuals) query.now.on }
     {
@@ -143,7 +145,7 @@ impl<'a> SearchRules<'a> {
         self.ontology
     }
 
-    /// The set of the axioms that are read.
+    /// The set of axioms.
     pub fn set(&self) -> &AxiomSet
         ensures set { result.now ≡ self.now.set }
         ensures ready { IsReady self.now }

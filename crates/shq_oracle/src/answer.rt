@@ -1,4 +1,4 @@
-// What a question is answered.
+// How the oracle answers.
 
 use crate::Apart;
 use axiom_sets::AxiomSet;
@@ -8,9 +8,9 @@ use tableau::Refutation;
 /// Whether a query follows from a set of axioms, and why.
 #[derive(Drop)]
 pub enum Answer {
-    /// It follows: this refutes that something is in the query's subclass and not in its superclass.
+    /// It follows: this refutes that an element of which the query speaks is in its subclass and not in its superclass.
     Entailed(Refutation),
-    /// It does not follow: this interpretation meets the axioms, and has such an element.
+    /// It does not follow: the axioms hold in this interpretation, and it has such an element.
     NotEntailed(Interp),
     /// The budget was spent.
     Undecided,
@@ -27,11 +27,11 @@ pub enum Outcome {
     Undecided,
 }
 
-/// An outcome, and what the search shows of further classes where it is a no.
+/// An outcome, and what the search shows of further classes if the outcome is a no.
 #[derive(Drop)]
 pub struct Shown<'a> {
     /// Whether the query follows.
     pub outcome: Outcome,
-    /// Classes of which the query's subclass is no part either.
+    /// Further classes in which the query's subclass is not included either.
     pub apart: Option<Apart<'a>>,
 }

@@ -10,9 +10,8 @@ use shq_terms::{Concept, Node, On, Ontology, Query};
 use std::alloc::Global;
 use std::marker::Model;
 
-/// What a search whether anything is in a class expression has shown of classes of the ontology: that the class
-/// expression is part of none of them by the axioms of a set, and that the steps which the search made decide that of
-/// each.
+/// What a search whether anything is in a class expression has shown of classes of the ontology: by the axioms of a set
+/// the class expression is included in none of them, and the steps that the search made decide this of each.
 #[derive(Drop)]
 pub struct Apart<'a> {
     ontology: &'a Ontology,
@@ -45,10 +44,11 @@ impl<'a> Model for Apart<'a> {
 }
 
 impl<'a> Apart<'a> {
-    /// What is so of a set of classes, in which each number is greater by one.
+    /// What a search of so many steps has shown of `classes`, in which the number of each class is greater by one.
     ///
     /// # Errors
-    /// Memory may be refused.
+    ///
+    /// Out of memory.
     pub(crate) fn new(
         alloc: Global,
         ontology: &'a Ontology,
@@ -79,7 +79,7 @@ impl<'a> Apart<'a> {
         })
     }
 
-    /// Whether it shows of a class that the class expression is not part of it.
+    /// Whether it shows of a class that the class expression is not included in it.
     pub fn shows(&self, class: u32) -> bool
         requires { class < length self.now.ontology.classes }
         ensures told { result ≡ set.contains self.now.classes.members (class + 1) }
@@ -89,24 +89,25 @@ impl<'a> Apart<'a> {
         self.classes.has(class + 1)
     }
 
-    /// How many steps the search made.
+    /// How many steps the search made, those of a beginning from which it went on included.
     pub fn steps(&self) -> u64
         ensures { result ≡ self.now.steps }
     {
         self.steps
     }
 
-    /// The set of axioms.
+    /// The set of axioms that the search used.
     pub fn set(&self) -> &AxiomSet
         ensures { result.now ≡ self.now.set }
     {
         &self.set
     }
 
-    /// The question whether the class expression is part of a class.
+    /// The query whether the class expression is included in a class.
     ///
     /// # Errors
-    /// Memory may be refused.
+    ///
+    /// Out of memory.
     pub fn query(&self, alloc: Global, class: u32) -> Result<Query, NoMemory>
         ensures { IfOk result (λ q. q ≡ query_of self.now class) }
     {

@@ -1,14 +1,15 @@
 // One beginning for the tests of one set of axioms.
 //
-// Where axioms speak of individuals, each search that ends at a model gives all that they say and follows it up. One
-// search does that for many tests on any element: the one whether anything is in top and not in bottom, as long as it
-// leaves the node in question alone. Where a job asks that first, other tests go on from there whose two concepts ask
-// for no nodes and do not clash. The steps that the search made are counted in each of them, so that a test takes of
-// the budget what a search from nothing may take; what is saved is to make them again.
+// If axioms speak of individuals, each search that ends at a model puts all facts that they state, and follows them up.
+// One search does that for many tests on any element: the one whether anything is in top and not in bottom, as long as
+// it leaves the node in question alone. If a job asks that first, later tests go on from there, as far as their two
+// concepts ask for no nodes and do not clash. The steps that the first search made are counted in each of them, so a
+// test takes of the budget what a search from nothing may take. Only the work of making these steps again is saved.
 //
-// A search that goes on so makes no refutation. Where it closes everything, the test needs a search from nothing. So
-// each test begins with one, and leaves it once it meets an individual. The steps of a search that is left are no steps
-// of a test.
+// A search that goes on from a beginning makes no refutation. If it closes everything, the test needs a search from
+// nothing. So each test begins with a search from nothing, and leaves it when it meets an individual. It is taken up
+// again only if no outcome is found from the beginning. The steps of a search that is left for good are no steps of a
+// test.
 ghost use Rattle.std.specs.Prelude.{◌≡◌, ◌≤◌, false, IfOk, IfSome};
 ghost use Rattle.model_builder.specs.Limits.{IsInLimit};
 ghost use Rattle.tableau.specs.RuleLists.{AreNumbersOf};
@@ -23,11 +24,12 @@ use shq_terms::Query;
 use std::alloc::{Allocator, Global};
 use tableau::{Beginning, End, Search, SearchRules};
 
-/// The outcome of a search that goes on from the beginning, if one is kept, the steps suffice, and the search finds
-/// more than that everything is closed.
+/// The outcome of a search that goes on from the beginning. There is none if no beginning is kept, if it has more steps
+/// than `fuel`, if the query cannot go on from it, or if the search only finds that everything is closed.
 ///
 /// # Errors
-/// Memory may be refused.
+///
+/// Out of memory.
 pub(crate) fn test_behind(
     alloc: Global,
     rules: &SearchRules<'_>,
@@ -83,7 +85,7 @@ fn go_on(
     }
 }
 
-// The outcome of a search that ended so, if not everything was closed.
+// The outcome of a search that ended so. There is none if everything was closed, since that has no evidence.
 fn unless_lost<A: Allocator + Copy>(
     alloc: Global,
     search: &Search<'_, A>,

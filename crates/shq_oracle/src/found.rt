@@ -1,4 +1,4 @@
-// What one search finds.
+// One search, and its answer with evidence.
 ghost use Rattle.std.specs.Prelude.{◌≡◌, ◌≤◌, ℕ, false, IfOk};
 ghost use Rattle.model_builder.specs.Limits.{IsInLimit};
 ghost use Rattle.model_builder.specs.Trail.{items_of};
@@ -16,7 +16,7 @@ use std::alloc::{Allocator, Global};
 use tableau::{End, Refutation, Search};
 use tableau_specs::Item;
 
-/// What a search answers, in how many steps, and how its test ended.
+/// What a search answers, how many steps it made, and how its test ended.
 #[derive(Drop)]
 pub(crate) struct Found {
     pub(crate) answer: Answer,
@@ -24,8 +24,12 @@ pub(crate) struct Found {
     pub(crate) ended: TestEnd,
 }
 
-/// Searches with these rules whether the query follows, by at most so many steps. The tree of the search lies in an
-/// arena of its own, which is let go at the end.
+/// Searches with these rules whether the query follows, by at most `fuel` steps. The tree of the search is in an arena
+/// of its own, whose memory is given back at the end.
+///
+/// # Errors
+///
+/// Out of memory.
 #[tactic(auto, using(crate::proofs::Honest::moved, crate::proofs::Honest::has_ended))]
 pub(crate) fn search(
     alloc: Global,
@@ -133,7 +137,11 @@ fn with_trail<A: Allocator + Copy>(alloc: Global, search: &Search<'_, A>) -> Res
     })
 }
 
-/// The axioms that a refutation uses, copied out.
+/// A copy of the axioms that a refutation uses, for the log.
+///
+/// # Errors
+///
+/// Out of memory.
 pub(crate) fn kept_axioms(alloc: Global, refutation: &Refutation) -> Result<KeptSet, NoMemory>
     ensures { IfOk result (λ used. used ≡ refutation.now.axioms) }
 {
@@ -141,7 +149,11 @@ pub(crate) fn kept_axioms(alloc: Global, refutation: &Refutation) -> Result<Kept
     KeptSet::new(alloc, used)
 }
 
-/// The trail of a search, copied out.
+/// A copy of the trail of a search, for the log.
+///
+/// # Errors
+///
+/// Out of memory.
 pub(crate) fn kept_trail<A: Allocator + Copy>(
     alloc: Global,
     search: &Search<'_, A>,

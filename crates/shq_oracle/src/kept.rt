@@ -1,4 +1,4 @@
-// The rules that serve one question after the other.
+// The rules of a set of axioms, kept from one question to the next.
 ghost use Rattle.std.specs.Prelude.{◌≡◌, true, IsTrue, length, IfOk, IfSome};
 ghost use Rattle.axiom_sets.specs.Sets.{IsWithin};
 ghost use Rattle.model_builder.specs.Limits.{IsOntologyInLimit, IsInLimit};
@@ -39,10 +39,11 @@ impl<'a> Model for KeptRules<'a> {
 }
 
 impl<'a> KeptRules<'a> {
-    /// The rules of the axioms of a set: those that were kept, where they are of this set.
+    /// The rules of the axioms of a set: the kept ones if they are of this set, new ones otherwise.
     ///
     /// # Errors
-    /// Memory may be refused.
+    ///
+    /// Out of memory.
     pub(crate) fn of(
         alloc: Global,
         kept: Option<KeptRules<'a>>,
@@ -61,7 +62,7 @@ impl<'a> KeptRules<'a> {
         }
     }
 
-    // These, where they are of the set, or new ones.
+    // These rules if they are of the set, new ones otherwise.
     fn again(
         self,
         alloc: Global,
@@ -107,7 +108,8 @@ impl<'a> KeptRules<'a> {
     /// The numbers of what a query asks ([`SearchRules::numbers_of`]).
     ///
     /// # Errors
-    /// Memory may be refused.
+    ///
+    /// Out of memory.
     #[tactic(auto, using(crate::proofs::Serving::served_still))]
     pub(crate) fn numbers_of(
         &mut self,
@@ -121,11 +123,12 @@ impl<'a> KeptRules<'a> {
         self.rules.numbers_of(alloc, query)
     }
 
-    /// Searches whether a query follows, and makes no model. The search that answers has at most so many steps. Where
-    /// it is wanted, what it shows of further classes is kept.
+    /// Searches whether a query follows, and makes no model. The search that answers has at most `fuel` steps. If
+    /// `wants_apart`, what it shows of further classes is kept.
     ///
     /// # Errors
-    /// Memory may be refused.
+    ///
+    /// Out of memory.
     #[tactic(auto, using(crate::proofs::Serving::tested_grown))]
     pub(crate) fn test(
         &mut self,

@@ -12,14 +12,14 @@
 //! many legal steps of the calculus decide it. [`Oracle::take_node`] takes one unit of the budget for a node of a
 //! hitting-set tree, and logs that too.
 //!
-//! A search that finds a member of a class expression mostly shows as well that the expression is no subclass of many
-//! named classes. [`Oracle::test_apart`] returns these classes as an [`Apart`]. For each of them [`Oracle::note_apart`]
-//! appends the entry of a test without searching again, and charges the budget the steps of the search that showed it
-//! (the pseudo-models of Haarslev, Möller and Turhan, "Exploiting Pseudo Models for TBox and ABox Reasoning in
-//! Expressive Description Logics", 2001).
+//! A search that finds a member of a class expression mostly shows as well that the expression is not included in many
+//! of the named classes. [`Oracle::test_apart`] returns these classes as an [`Apart`]. For each of them
+//! [`Oracle::note_apart`] appends the entry of a test without searching again, and charges the budget the steps of the
+//! search that showed it (the pseudo-models of Haarslev, Möller and Turhan, "Exploiting Pseudo Models for TBox and ABox
+//! Reasoning in Expressive Description Logics", 2001).
 //!
-//! What a search derives from the axioms alone is computed once and kept until a query about another set is asked.
-//! Where axioms speak of individuals, so is the beginning that most searches for tests on any element have in common
+//! What a search derives from the axioms alone is computed once and kept until a query about another set is asked. If
+//! axioms speak of individuals, the beginning that many tests on any element have in common is kept with it
 //! (`beginning`).
 #![tactic(auto)]
 

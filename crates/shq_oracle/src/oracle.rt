@@ -1,4 +1,4 @@
-// Questions whether queries follow, answered within a budget.
+// The oracle: questions whether queries follow, answered within a budget, and the log of them.
 ghost use Rattle.std.specs.Prelude.{◌≡◌, ◌↔◌, ◌+◌, ◌<◌, ◌≤◌, [], ◌∷◌, ◌++◌, true, false, length, IfOk, IfSome, OnOk};
 ghost use Rattle.std.specs.Prelude.{Some, OnErr};
 ghost use Rattle.run_log.specs.declared.entry.Entry.TheVariants.{Test};
@@ -51,8 +51,8 @@ impl<'a> Model for Oracle<'a> {
 impl<'a> Oracle<'a> {
     ghost use Rattle.shq_oracle.specs.OracleLists.{OracleLists};
 
-    /// An oracle over the axioms of the ontology that goes on with a log, with a budget of steps and nodes. The memory
-    /// that it takes is `alloc`'s.
+    /// An oracle over the axioms of the ontology, with a budget of steps and nodes. It goes on with a log, whose spent
+    /// steps and nodes count. Its memory is from `alloc`.
     pub fn new(alloc: Global, ontology: &'a Ontology, budget: u32, log: RunLog) -> Oracle<'a>
         requires { spent_of log ≤ budget }
         ensures { result ≡ record { ontology = ontology.now; budget = budget; log = log } }
@@ -88,7 +88,7 @@ impl<'a> Oracle<'a> {
         &self.log
     }
 
-    /// What is left of the budget.
+    /// How many steps and nodes are left of the budget.
     pub fn left(&self) -> u64
         ensures left { result + spent_of self.now.log ≡ self.now.budget }
         ensures small { self.now.budget ≤ u32.MAX }
@@ -96,11 +96,12 @@ impl<'a> Oracle<'a> {
         u64::from(self.budget) - self.log.spent()
     }
 
-    /// Whether the query follows from the axioms of the set, which the log does not answer. The answer comes with its
-    /// evidence, and one entry more in the log says how the test went; or the whole budget is spent.
+    /// Whether the query follows from the axioms of the set, which is asked only if no entry of the log answers it. The
+    /// answer comes with its evidence, or the whole budget is spent. One entry more in the log says how the test went.
     ///
     /// # Errors
-    /// Memory may be refused; the log is as before then.
+    ///
+    /// Out of memory. The log is as before then.
     pub fn decide(&mut self, set: &AxiomSet, query: &Query) -> Result<Answer, NoMemory>
         requires limit { set.now.limit ≡ length self.old.ontology.axioms }
         requires in_limit { IsInLimit self.old.ontology query.now }
@@ -124,11 +125,12 @@ impl<'a> Oracle<'a> {
     }
 
     /// Whether the query follows, as [`decide`](Oracle::decide) answers it, with an entry in the log too but without
-    /// evidence: no model is made, and of a refutation the axioms alone are handed out. The search may go on from what
-    /// an earlier one did; these steps are counted.
+    /// evidence: no model is made, and of a refutation only the axioms are returned. The search may go on from what an
+    /// earlier one did; the steps of that are counted.
     ///
     /// # Errors
-    /// Memory may be refused; the log is as before then.
+    ///
+    /// Out of memory. The log is as before then.
     pub fn test(&mut self, set: &AxiomSet, query: &Query) -> Result<Outcome, NoMemory>
         requires limit { set.now.limit ≡ length self.old.ontology.axioms }
         requires in_limit { IsInLimit self.old.ontology query.now }
@@ -151,12 +153,13 @@ impl<'a> Oracle<'a> {
         self.note_outcome(set, query, tested?)
     }
 
-    /// The same as [`test`](Oracle::test), and hands out what the search shows of further classes where the query does
-    /// not follow: just those with which its run had nothing to do, where the query is whether anything is in a class
-    /// expression, and none where it asks for more, or is on an individual.
+    /// The same as [`test`](Oracle::test). If the query does not follow, and asks whether anything is in a class
+    /// expression, it also returns the further classes in which the search shows that the expression is not included:
+    /// exactly those with which its run had nothing to do. It returns none for any other query.
     ///
     /// # Errors
-    /// Memory may be refused; the log is as before then.
+    ///
+    /// Out of memory. The log is as before then.
     pub fn test_apart(&mut self, set: &AxiomSet, query: &Query) -> Result<Shown<'a>, NoMemory>
         requires limit { set.now.limit ≡ length self.old.ontology.axioms }
         requires in_limit { IsInLimit self.old.ontology query.now }
@@ -179,11 +182,12 @@ impl<'a> Oracle<'a> {
         self.note_shown(set, query, tested?)
     }
 
-    /// Puts the entry of a test whether a class expression is part of a class last, which an earlier search shows that
-    /// it is not, where as many steps are left of the budget as that search made. Answers whether it did so.
+    /// Logs the test whether the class expression of `apart` is included in `class`, if an earlier search has shown
+    /// that it is not, and as many steps are left of the budget as that search made. Answers whether it was logged.
     ///
     /// # Errors
-    /// Memory may be refused; the log is as before then.
+    ///
+    /// Out of memory. The log is as before then.
     pub fn note_apart(&mut self, apart: &Apart<'_>, class: u32) -> Result<bool, NoMemory>
         requires ontology { apart.now.ontology ≡ self.old.ontology }
         requires listed { class < length self.old.ontology.classes }
@@ -205,11 +209,12 @@ impl<'a> Oracle<'a> {
         Ok(true)
     }
 
-    /// Takes one unit of the budget for a node of a hitting-set tree, where one is left, and puts the node's entry
-    /// last. Answers whether one was left.
+    /// Takes one unit of the budget for a node of a hitting-set tree, if one is left, and logs the node. Answers
+    /// whether one was left.
     ///
     /// # Errors
-    /// Memory may be refused; the log is as before then.
+    ///
+    /// Out of memory. The log is as before then.
     pub fn take_node(&mut self, node: &AxiomSet) -> Result<bool, NoMemory>
         ensures taken { IfOk result (TakesNode self.old self.new node.now) }
         ensures same_ontology { self.new.ontology ≡ self.old.ontology }
@@ -223,7 +228,8 @@ impl<'a> Oracle<'a> {
         Ok(true)
     }
 
-    // The rules of the set: those that were kept, where they are of this set. Nothing that contracts see changes.
+    // The rules of the set: the kept ones if they are of this set, new ones otherwise. What contracts see of the oracle
+    // stays the same.
     fn take_rules(&mut self, set: &AxiomSet) -> Result<KeptRules<'a>, NoMemory>
         requires limit { set.now.limit ≡ length self.old.ontology.axioms }
         requires in_limit { IsOntologyInLimit self.old.ontology }
@@ -236,7 +242,7 @@ impl<'a> Oracle<'a> {
         KeptRules::of(self.alloc, self.rules.take(), self.ontology, set)
     }
 
-    // Keeps rules for the next question about their set. Nothing that contracts see changes.
+    // Keeps rules for the next question about their set. What contracts see of the oracle stays the same.
     fn keep_rules(&mut self, rules: KeptRules<'a>)
         requires { rules.ontology ≡ self.old.ontology }
         ensures { self.new ≡ self.old }
@@ -244,7 +250,7 @@ impl<'a> Oracle<'a> {
         self.rules = Some(rules);
     }
 
-    // Puts the entry of a test, and hands the answer on.
+    // Logs a test, and returns its answer.
     fn note(&mut self, set: &AxiomSet, query: &Query, found: Found) -> Result<Answer, NoMemory>
         requires within { found.steps + spent_of self.old.log ≤ self.old.budget }
         requires small { self.old.budget ≤ u32.MAX }
@@ -265,7 +271,7 @@ impl<'a> Oracle<'a> {
         Ok(answer)
     }
 
-    // Puts the entry of a test, and hands its outcome on.
+    // Logs a test, and returns its outcome.
     fn note_outcome(
         &mut self,
         set: &AxiomSet,
@@ -292,7 +298,7 @@ impl<'a> Oracle<'a> {
         Ok(outcome)
     }
 
-    // Puts the entry of a test, and hands its outcome on with what it shows of further classes.
+    // Logs a test, and returns its outcome with what it shows of further classes.
     fn note_shown(
         &mut self,
         set: &AxiomSet,
@@ -325,7 +331,7 @@ impl<'a> Oracle<'a> {
         Ok(Shown { outcome, apart })
     }
 
-    // What a search with so many steps shows, if it shows that of some classes.
+    // What a search of so many steps shows of these classes, if there are any to speak of.
     fn apart_of(
         &self,
         set: &AxiomSet,
@@ -362,7 +368,8 @@ impl<'a> Oracle<'a> {
         Ok(Some(apart))
     }
 
-    // Whether a search has shown this of a class, and as many steps are left as it made.
+    // Whether a search has shown of the class that the expression is not included in it, and as many steps are left as
+    // that search made.
     #[tactic(auto, using(crate::proofs::Adding::may_note_shown, crate::proofs::Adding::may_not_note))]
     fn may_note(&self, apart: &Apart<'_>, class: u32) -> bool
         requires ontology { apart.now.ontology ≡ self.now.ontology }
@@ -376,7 +383,7 @@ impl<'a> Oracle<'a> {
         apart.shows(class) && apart.steps() <= left
     }
 
-    // Puts the entry of a test that a search answers which was made for another class.
+    // Logs a test that is answered by a search for another test.
     fn log_apart(&mut self, apart: &Apart<'_>, class: u32) -> Result<(), NoMemory>
         requires within { apart.now.steps + spent_of self.old.log ≤ self.old.budget }
         requires small { self.old.budget ≤ u32.MAX }
@@ -391,7 +398,7 @@ impl<'a> Oracle<'a> {
         logged
     }
 
-    // Puts the entry of a test.
+    // Logs a test.
     fn log_test(
         &mut self,
         set: &AxiomSet,

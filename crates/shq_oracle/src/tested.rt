@@ -1,4 +1,4 @@
-// What the outcome of one search is.
+// One test: a search, or several of which one answers, and its outcome without evidence.
 ghost use Rattle.std.specs.Prelude.{◌≡◌, ◌≤◌, ℕ, Bool, true, false, IfOk, IfSome};
 ghost use Rattle.model_builder.specs.Limits.{IsInLimit};
 ghost use Rattle.tableau.specs.RuleLists.{AreNumbersOf};
@@ -17,8 +17,8 @@ use shq_terms::{On, Query};
 use std::alloc::{Allocator, Global};
 use tableau::{Beginning, End, Refutation, Search, SearchRules};
 
-/// The outcome of a search, what it shows of further classes if that was asked for, in how many steps, and how its test
-/// ended.
+/// The outcome of a search, what it shows of further classes if that was asked for, how many steps it made, and how its
+/// test ended.
 #[derive(Drop)]
 pub(crate) struct Tested {
     pub(crate) outcome: Outcome,
@@ -27,10 +27,14 @@ pub(crate) struct Tested {
     pub(crate) ended: TestEnd,
 }
 
-/// Searches by these rules whether the query follows, and makes no model. The search that answers has at most so many
-/// steps; those of a search that is left for a beginning are not counted. Where it is wanted, what a search shows of
-/// further classes is kept. The numbers are those of what the query asks. The tree of a search lies in an arena of its
-/// own, which is let go at the end.
+/// Searches by these rules whether the query follows, and makes no model. The search that answers has at most `fuel`
+/// steps; those of a search that is given up for a beginning are not counted. If `wants_apart`, what the search shows
+/// of further classes is kept. `numbers` are those of the query's two concepts ([`SearchRules::numbers_of`]). The tree
+/// of a search is in an arena of its own, whose memory is given back at the end.
+///
+/// # Errors
+///
+/// Out of memory.
 pub(crate) fn test(
     alloc: Global,
     rules: &SearchRules<'_>,
@@ -67,8 +71,8 @@ pub(crate) fn test(
     }
 }
 
-// The outcome of a search on any element that begins. Once it meets an individual, one that goes on from a beginning
-// may end in its place.
+// The outcome of a search on any element that is about to begin. If it meets an individual before it ends, a search
+// that goes on from the kept beginning is tried in its place; if that finds no outcome, the first search goes on.
 fn alone_first<A: Allocator + Copy>(
     alloc: Global,
     search: &mut Search<'_, A>,
@@ -95,7 +99,8 @@ fn alone_first<A: Allocator + Copy>(
     }
 }
 
-// The outcome of a search that begins, if it ends before it meets an individual other than the node in question.
+// The outcome of a search that is about to begin, if it ends before it meets another first node than the one in
+// question.
 fn tested_alone<A: Allocator + Copy>(
     alloc: Global,
     search: &mut Search<'_, A>,
@@ -122,8 +127,8 @@ fn tested_alone<A: Allocator + Copy>(
     }
 }
 
-// The outcome of a search that begins, and asks whether anything is in top and not in bottom. What it did before it
-// turned to the node in question is kept as a beginning of others.
+// The outcome of a search that is about to begin, and asks whether anything is in top and not in bottom. What it did
+// before it looked at the node in question is kept as a beginning for others.
 fn begin<A: Allocator + Copy>(
     alloc: Global,
     search: &mut Search<'_, A>,
@@ -172,10 +177,11 @@ fn run_on<A: Allocator + Copy>(
     tested_by(alloc, search, fuel, end, wants_apart)
 }
 
-/// The outcome of a search that ended so, with this fuel.
+/// The outcome of a search that had this fuel and ended so, with evidence.
 ///
 /// # Errors
-/// Memory may be refused.
+///
+/// Out of memory.
 pub(crate) fn tested_by<A: Allocator + Copy>(
     alloc: Global,
     search: &Search<'_, A>,
@@ -220,7 +226,7 @@ fn with_no<A: Allocator + Copy>(
     })
 }
 
-// The classes that the search has left out, where they are wanted and it shows any.
+// The classes that the search has left out, if they are wanted and it shows any.
 #[tactic(auto, using(crate::proofs::Honest::if_shown))]
 fn classes_apart<A: Allocator + Copy>(
     search: &Search<'_, A>,

@@ -141,8 +141,8 @@ fn making_at<S: StateWithBlocks, R: Rules>(
     find_making_by(heap, search, node, concept)
 }
 
-/// Looks from this entry on for new nodes below a first node, or below one of them alone. Answers the entry for which
-/// they are to be made, or the length of the trail, and the nodes. First nodes are clear, whatever blocks others.
+/// The first entry from `from` on for which nodes are to be made below a first node, or below the node `alone` if there
+/// is one, and these nodes; or the length of the trail. First nodes are clear, whatever blocks others.
 ///
 /// # Errors
 ///

@@ -20,7 +20,7 @@ pub record EndsSpent (budget : ℕ) (log : List Entry) : Type 0 where
   pub is_log : log ≡ before ++ Test asked query steps (Spent trail) ∷ []
   pub whole : spent_of log ≡ budget
 
--- whether all things are in the class of none
+-- whether owl:Thing is included in owl:Nothing
 abbrev pub all_in_none : Query
 all_in_none = record { sub = top; sup = bottom; on = Any }
 

@@ -18,12 +18,12 @@ pub record Mirrors (o : Listed) (log : List Entry) (known : Rows) (ruled_out : M
   pub ruled_out_is : (x y : ℕ) → x < length o.classes + 2 → y < length o.classes + 2
       → (has ruled_out x y ≡ true ↔ IsRuledOut log (class_at (length o.classes) x) (class_at (length o.classes) y))
 
--- ---- what follows where x is part of y
+-- ---- what follows if x is included in y
 
--- what is ruled out for x is so for each class that y is part of
+-- what is ruled out for x is ruled out for each class that y is included in
 abbrev pub passed_up : Rows → ℕ → ℕ → Matrix → ℕ → ℕ → Bool
 passed_up known x y old a b = has old a b || (holds known y a && has old x b)
 
--- and where y is ruled out, each part of x is
+-- and if y is ruled out, each class that is included in x is
 abbrev pub passed_on : Rows → ℕ → ℕ → Matrix → ℕ → ℕ → Bool
 passed_on known x y old a b = passed_up known x y old a b || (passed_up known x y old a y && holds known b x)

@@ -41,7 +41,7 @@ IsOneOf size classes found =
 
 -- ---- pairs
 
--- whether it is known that x is part of y, or ruled out
+-- whether it is known that x is included in y, or ruled out
 abbrev pub is_settled : Progress → ℕ → ℕ → Bool
 is_settled p x y = holds p.known x y || has p.ruled_out x y
 
@@ -65,7 +65,7 @@ abbrev pub IsOpenAt : Progress → ℕ → Option ℕ → Type 0
 IsOpenAt p x None = IsDone p x
 IsOpenAt p x (Some y) = (y < p.known.count + 2) × (is_settled p x y ≡ false)
 
--- the set has each class of which it is not settled whether x is part of it, the number greater by one there
+-- the set has each class of which it is not settled whether x is included in it; its numbers are greater by one
 abbrev pub HasOpen : Progress → ℕ → Limited → Type 0
 HasOpen p x classes = (y : ℕ) → y < p.known.count + 2 → is_settled p x y ≡ false
     → set.contains classes.members (y + 1) ≡ true

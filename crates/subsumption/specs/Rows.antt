@@ -3,8 +3,8 @@ use Rattle.std.specs.Prelude.{◌≡◌, ℕ, ◌+◌, ◌<◌, ◌≤◌, ◌==
 use Rattle.std.specs.Coded.{Coded, code_by, coded×, coded_ℕ}
 use Rattle.subsumption.specs.Matrices.{Matrix, matrix_code, has}
 
--- Of so many classes. The numbers below the count are these classes, the count is the class of all things, and the
--- number behind it is the class of none.
+-- Of so many classes. The numbers below the count are these classes, the count is owl:Thing, and the number behind it
+-- is owl:Nothing.
 pub record Rows : Type 0 where
   pub count : ℕ
   pub above : Matrix
@@ -30,7 +30,7 @@ pub record AreConverse (count : ℕ) (above below : Matrix) : Type 0 where
 abbrev pub is_bounded : ℕ → ℕ → ℕ → ℕ → Bool
 is_bounded greatest least x y = x == y || y == greatest || x == least
 
--- as before any question: each class is part of itself and of the class of all things, and that of none is part of each
+-- as before any question: each class is included in itself and in owl:Thing, and owl:Nothing in each
 pub record IsAtFirst (count : ℕ) (r : Rows) : Type 0 where
   pub count_is : r.count ≡ count
   pub pairs : (x y : ℕ) → x < count + 2 → y < count + 2 → holds r x y ≡ is_bounded count (count + 1) x y

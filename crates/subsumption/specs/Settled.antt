@@ -7,12 +7,14 @@ use Rattle.shq_oracle.specs.Shown.{IsRuledOut}
 use Rattle.subsumption.specs.Rows.{Rows, holds, IsOrder}
 use Rattle.subsumption.specs.Subsumption.{class_at, IsSubsumption}
 
--- the log leads from the class of the one number to that of the other, or rules out that the one is part of the other
+-- the log leads from the class of the one number to that of the other, or rules out that the one is included in the
+-- other
 abbrev pub IsShownPair : ℕ → List Entry → ℕ → ℕ → Type 0
 IsShownPair count log x y = IsChain log (class_at count x) (class_at count y)
     ⊎ IsRuledOut log (class_at count x) (class_at count y)
 
--- it says of each two classes whether the one is part of the other, and the log shows it of the class of each number
+-- it says of each two classes whether the one is included in the other, and the log shows it of the class of each
+-- number
 pub record IsSettled (o : Listed) (log : List Entry) (r : Rows) : Type 0 where
   pub count_is : r.count ≡ length o.classes
   pub order : IsOrder (length o.classes + 2) (holds r)

@@ -54,7 +54,7 @@ abbrev pub newest : Option ApartLists → Option ApartLists → Option ApartList
 newest (Some a) kept = Some a
 newest None kept = kept
 
--- the log began so: its first entry tests whether x is part of y
+-- the log began so: its first entry tests whether x is included in y
 abbrev pub FirstAsks : ℕ → ℕ → ℕ → List Entry → Type 0
 FirstAsks count x y log = (s : Limited) × (steps : ℕ) × (e : TestEnd)
     × (slice_get log 0 ≡ Some (Test s (query_at count x y) steps e))

@@ -9,7 +9,8 @@ use shq_terms::{NoMemory, Ontology};
 /// `owl:Thing`.
 ///
 /// # Errors
-/// Memory may be refused; nothing is put then.
+///
+/// Out of memory. Nothing is put then.
 pub fn put_names_or_thing(
     out: &mut Vec<u8>,
     classes: &[u32],
@@ -29,7 +30,8 @@ pub fn put_names_or_thing(
 /// Puts classes last, each after one blank, with their names as full IRIs between `<` and `>`.
 ///
 /// # Errors
-/// Memory may be refused; nothing is put then.
+///
+/// Out of memory. Nothing is put then.
 pub fn put_names(out: &mut Vec<u8>, classes: &[u32], ontology: &Ontology) -> Result<(), NoMemory>
     requires { IsTrue (are_listed (length ontology.now.classes) classes.now) }
     ensures text { OnOk result (out.new.items ≡ out.old.items ++ names_text ontology.now classes.now) }
@@ -64,7 +66,8 @@ fn put_class(out: &mut Vec<u8>, class: u32, ontology: &Ontology) -> Result<(), N
 /// Puts bytes last.
 ///
 /// # Errors
-/// Memory may be refused; nothing is put then.
+///
+/// Out of memory. Nothing is put then.
 pub fn put(out: &mut Vec<u8>, bytes: &[u8]) -> Result<(), NoMemory>
     ensures text { OnOk result (out.new.items ≡ out.old.items ++ bytes.now) }
     ensures unchanged { OnErr result (out.new.items ≡ out.old.items) }

@@ -11,7 +11,8 @@ use std::alloc::Global;
 /// The classes of a set, ascending.
 ///
 /// # Errors
-/// Memory may be refused.
+///
+/// Out of memory.
 pub fn classes_of(alloc: Global, set: &AxiomSet) -> Result<Vec<u32>, NoMemory>
     ensures { IfOk result (λ classes. classes.items ≡ class_list set.now) }
 {
@@ -22,10 +23,11 @@ pub fn classes_of(alloc: Global, set: &AxiomSet) -> Result<Vec<u32>, NoMemory>
     Ok(classes)
 }
 
-/// Lists a class, if it is to be.
+/// Puts a class last in the list, if it passes.
 ///
 /// # Errors
-/// Memory may be refused; the list is as before then.
+///
+/// Out of memory. The list is as before then.
 pub fn push_if(classes: &mut Vec<u32>, class: u32, passes: bool) -> Result<(), NoMemory>
     ensures listed { OnOk result (classes.new.items ≡ classes.old.items ++ (if passes then class ∷ [] else [])) }
     ensures unchanged { OnErr result (classes.new.items ≡ classes.old.items) }
@@ -36,7 +38,7 @@ pub fn push_if(classes: &mut Vec<u32>, class: u32, passes: bool) -> Result<(), N
     Ok(())
 }
 
-/// Puts a class in, if it is to be.
+/// Puts a class into the set, if it passes.
 pub fn put_if(set: &mut AxiomSet, class: u32, passes: bool)
     requires { class < set.old.limit }
     ensures limit { set.new.limit ≡ set.old.limit }
@@ -48,10 +50,11 @@ pub fn put_if(set: &mut AxiomSet, class: u32, passes: bool)
     }
 }
 
-/// Takes each member out that is none of the other set.
+/// Takes out each member that is not in the other set.
 ///
 /// # Errors
-/// Memory may be refused; the set is as before then.
+///
+/// Out of memory. The set is as before then.
 pub fn keep(set: &mut AxiomSet, other: &AxiomSet) -> Result<(), NoMemory>
     requires { other.now.limit ≡ set.old.limit }
     ensures limit { set.new.limit ≡ set.old.limit }
@@ -64,7 +67,7 @@ pub fn keep(set: &mut AxiomSet, other: &AxiomSet) -> Result<(), NoMemory>
     Ok(())
 }
 
-/// Whether no class of the set stands before this one.
+/// Whether no class of the set has a smaller number than this one.
 pub fn has_none_before(set: &AxiomSet, class: u32) -> bool
     ensures { result ≡ all_below class (λ x. not (has_class set.now x)) }
 {

@@ -6,9 +6,9 @@ ghost use Rattle.subsumption.specs.Progress.{IsOneOf};
 use crate::Relation;
 use axiom_sets::AxiomSet;
 
-/// One of the classes, whose numbers are greater by one in the set; none where there are no classes. It is looked for
-/// upwards, so that none of the others is known to be above it unless both are equal, which no clause says. The work is
-/// a look at the classes above each class on a way upwards, and takes no memory.
+/// One of the classes, whose numbers are greater by one in the set; none if the set is empty. It is looked for upwards,
+/// so none of the others is known to be above it, except for classes that are equal to it; no clause says that. The
+/// work is a look at the classes above each class on a way upwards. It takes no memory.
 pub fn most_general(known: &Relation, classes: &AxiomSet) -> Option<u32>
     requires { classes.now.limit ≡ known.now.count + 2 }
     ensures { IsOneOf (known.now.count + 2) classes.now result }
@@ -25,7 +25,7 @@ pub fn most_general(known: &Relation, classes: &AxiomSet) -> Option<u32>
     Some(best)
 }
 
-/// The same, looked for downwards, so that none of the others is known to be below it unless both are equal.
+/// The same, looked for downwards, so that none of the others is known to be below it, except for equal ones.
 pub fn most_specific(known: &Relation, classes: &AxiomSet) -> Option<u32>
     requires { classes.now.limit ≡ known.now.count + 2 }
     ensures { IsOneOf (known.now.count + 2) classes.now result }
@@ -42,7 +42,7 @@ pub fn most_specific(known: &Relation, classes: &AxiomSet) -> Option<u32>
     Some(best)
 }
 
-// The first of the classes that is among those ahead, and not among those behind.
+// The first of the classes that is among those `ahead`, and not among those `behind`.
 fn one_beyond(classes: &AxiomSet, ahead: &AxiomSet, behind: &AxiomSet) -> Option<u32>
     requires ahead { ahead.now.limit ≡ classes.now.limit }
     requires behind { behind.now.limit ≡ classes.now.limit }

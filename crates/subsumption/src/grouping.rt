@@ -15,7 +15,8 @@ use std::alloc::Global;
 /// The classes that are not equal to `owl:Nothing` and not to `owl:Thing`.
 ///
 /// # Errors
-/// Memory may be refused.
+///
+/// Out of memory.
 pub fn classes_between(alloc: Global, relation: &Relation) -> Result<AxiomSet, NoMemory>
     ensures { IfOk result (HoldsClasses relation.now.count (is_between relation.now.count (holds relation.now))) }
 {
@@ -28,10 +29,11 @@ pub fn classes_between(alloc: Global, relation: &Relation) -> Result<AxiomSet, N
     Ok(between)
 }
 
-/// Those of these classes that are equal to none before them.
+/// Those of these classes that are equal to none of them with a smaller number.
 ///
 /// # Errors
-/// Memory may be refused.
+///
+/// Out of memory.
 pub fn first_classes(
     alloc: Global,
     relation: &Relation,
@@ -66,7 +68,8 @@ fn is_first(relation: &Relation, between: &AxiomSet, class: u32) -> Result<bool,
 /// The classes of the group of a class.
 ///
 /// # Errors
-/// Memory may be refused.
+///
+/// Out of memory.
 pub fn equal_classes(
     relation: &Relation,
     between: &AxiomSet,
@@ -83,10 +86,11 @@ pub fn equal_classes(
     Ok(equal)
 }
 
-/// Those classes of a set in which no other class of the set lies, ascending.
+/// Those classes of a set in which no other class of the set is included, ascending.
 ///
 /// # Errors
-/// Memory may be refused.
+///
+/// Out of memory.
 pub fn lowest(alloc: Global, relation: &Relation, set: &AxiomSet) -> Result<Vec<u32>, NoMemory>
     requires { HoldsClasses relation.now.count (has_class set.now) set.now }
     ensures { IfOk result
@@ -103,7 +107,7 @@ pub fn lowest(alloc: Global, relation: &Relation, set: &AxiomSet) -> Result<Vec<
     Ok(lowest)
 }
 
-// Whether no other class of the set is part of this one, which is in it. The set is as before.
+// Whether no other class of the set is included in this one, which is in the set. The set is as before.
 fn is_lowest(relation: &Relation, set: &mut AxiomSet, class: u32) -> bool
     requires class { class < relation.now.count }
     requires set { HoldsClasses relation.now.count (has_class set.old) set.old }

@@ -1,15 +1,16 @@
-//! Which class of an ontology is part of which: an oracle that answers one question at a time is asked until each pair
-//! of classes is settled.
+//! Which class of an ontology is included in which: an oracle that answers one question at a time is asked until each
+//! pair of classes is settled.
 //!
-//! What is asked is only what no earlier answer settles. An answer that a class is part of another settles all that
-//! follows of it; one that it is not rules out each pair that would imply it. The first questions are whether all
-//! things are in the class of none, and whether what axioms say in so many words is so. Then come the classes below
-//! which none is known, and then the others: what is ruled out for a class is so for all above it.
+//! Only questions that no earlier answer settles are asked. If a class is included in another one, all inclusions that
+//! follow from that are settled too. If it is not, each pair that would imply it is ruled out. The first question is
+//! whether `owl:Thing` is included in `owl:Nothing`; the next ones are whether the inclusions hold that axioms state.
+//! Then come the classes below which no class is known, and then the others: what is ruled out for a class is ruled out
+//! for all classes above it.
 //!
-//! Of each class is asked first whether it is part of the class of none. The search for that answers for many other
-//! classes too: it shows of those with which it had nothing to do that the class is no part of them ([`Oracle`]'s
-//! `test_apart`). Where one of these is asked about, its answer is put into the log (`note_apart`), and nothing is
-//! searched.
+//! Of each class it is first asked whether it is included in `owl:Nothing`. The search for that answers for many other
+//! classes too: it shows that the class is not included in those with which the search had nothing to do ([`Oracle`]'s
+//! `test_apart`). When one of these is asked about, its answer is put into the log (`note_apart`), and no search is
+//! made.
 //!
 //! The next question of a class is about a most general one of the classes that are open, so that whole parts of the
 //! hierarchy are ruled out by one answer, as in "An Empirical Analysis of Optimization Techniques for Terminological
@@ -17,7 +18,7 @@
 //! Franconi, Applied Intelligence 4, 1994), and "A Novel Approach to Ontology Classification" (Birte Glimm, Ian
 //! Horrocks, Boris Motik, Rob Shearer and Giorgos Stoilos, Journal of Web Semantics 14, 2012).
 //!
-//! The order of the questions is no part of any contract. What is promised is the relation itself, that the log of the
+//! No contract speaks of the order of the questions. What is promised is the relation itself, that the log of the
 //! oracle shows each of its pairs, and that no question was asked whose answer followed from the answers before.
 //!
 //! What is known is kept as one row of bits for each class ([`Relation`]), and so is what is ruled out ([`BitMatrix`]).
@@ -25,7 +26,8 @@
 //! A taxonomy and a realization name classes in short: those that are equal stand together, as one group that goes by
 //! its first class, and of several groups only the lowest are named, from which the others follow (`grouping`, by the
 //! first of these papers). Classes that are equal to `owl:Nothing` or to `owl:Thing` are in no group. Sets of classes
-//! are sets of numbers, each greater by one, so that one step over words of bits compares a class with many.
+//! are sets of numbers, in which a class has its number plus one, so that one step over words of bits compares a class
+//! with many.
 #![tactic(auto)]
 
 mod class_names;

@@ -16,7 +16,8 @@ pub struct BitMatrix {
     size: u32,
     rows: Vec<AxiomSet>,
 
-    /// What some number is paired with, each greater by one, so that no row is looked at for what none has.
+    // The numbers with which some number is paired, each greater by one. For a number that is not here no row is looked
+    // at.
     columns: AxiomSet,
 }
 
@@ -36,7 +37,8 @@ impl BitMatrix {
     /// No pairs, of numbers below `size`.
     ///
     /// # Errors
-    /// Memory may be refused.
+    ///
+    /// Out of memory.
     pub fn empty(alloc: Global, size: u32) -> Result<BitMatrix, NoMemory>
         ensures { IfOk result (IsMatrix size (λ x y. false)) }
     {

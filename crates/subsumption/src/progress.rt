@@ -1,4 +1,4 @@
-// What is known and what is ruled out of the pairs of classes, as far as questions were answered.
+// Which pairs of classes are settled, by the answers so far, and which question comes next.
 ghost use Rattle.std.specs.Prelude.{◌≡◌, ℕ, ◌+◌, ◌<◌, ◌&&◌, true, false, [], length, IfOk, IfErr, IfSome, OnOk, OnErr};
 ghost use Rattle.std.specs.FinSet as set;
 ghost use Rattle.axiom_sets.specs.Sets.{IsFull};
@@ -21,8 +21,9 @@ use shq_oracle::{Apart, Oracle};
 use shq_terms::{NoMemory, Ontology};
 use std::alloc::Global;
 
-/// The pairs of classes that are settled: those of which it is known that the one is part of the other, and those of
-/// which this is ruled out. Beside them are the set of all axioms and that of all class numbers, each greater by one.
+/// The pairs of classes that are settled: those of which it is known that the first is included in the second, and
+/// those of which this is ruled out. With them come the set of all axioms, and the set of all class numbers, each
+/// greater by one.
 #[derive(Drop)]
 pub(crate) struct Progress {
     pub(crate) known: Relation,
@@ -39,7 +40,8 @@ impl Progress {
     /// What holds before any question.
     ///
     /// # Errors
-    /// Memory may be refused.
+    ///
+    /// Out of memory.
     pub(crate) fn new(alloc: Global, ontology: &Ontology) -> Result<Progress, NoMemory>
         ensures whole { IfOk result (λ p. IsWhole ontology.now p.axioms) }
         ensures limit { IfOk result (λ p. p.classes.limit ≡ length ontology.now.classes + 2) }
@@ -55,9 +57,9 @@ impl Progress {
         })
     }
 
-    /// Asks until each pair of classes is settled: first whether all things are in the class of none, then what axioms
-    /// say at once, and then class by class, those first below which none is known. What these are no part of, nothing
-    /// above them is part of either.
+    /// Asks until each pair of classes is settled: first whether `owl:Thing` is included in `owl:Nothing`, then about
+    /// the inclusions that axioms state, and then class by class. Classes below which no class is known come first: if
+    /// one of them is not included in a class, no class above it is.
     ///
     /// # Errors
     /// The budget was spent, or memory was refused.
@@ -83,7 +85,7 @@ impl Progress {
         self.settle_classes(oracle)
     }
 
-    // Asks what axioms say at once.
+    // Asks about the inclusions that axioms state.
     fn settle_told(&mut self, oracle: &mut Oracle<'_>, told: &[Inclusion]) -> Result<(), Stop>
         requires going { IsGoing oracle.old self.old }
         requires told { AreOf self.old.known.count told.now }
@@ -97,7 +99,7 @@ impl Progress {
         Ok(())
     }
 
-    // Asks about the classes below which there is known to be none but the class of none.
+    // Asks about the classes below which nothing but themselves and `owl:Nothing` is known.
     fn settle_lowest(&mut self, oracle: &mut Oracle<'_>) -> Result<(), Stop>
         requires going { IsGoing oracle.old self.old }
         ensures ok { OnOk result (Advances oracle.new self.old self.new) }
@@ -126,8 +128,8 @@ impl Progress {
         Ok(())
     }
 
-    // Asks until each pair of the class is settled: first whether it has anything at all, where that is open, since a
-    // search for it mostly shows of most other classes that it is no part of them.
+    // Asks until each pair that begins with the class is settled. If it is open whether the class can have members,
+    // that is asked first, since a search for one mostly shows that the class is not included in most other classes.
     fn settle_class(&mut self, oracle: &mut Oracle<'_>, class: u32) -> Result<(), Stop>
         requires going { IsGoing oracle.old self.old }
         requires class { class < self.old.known.count + 2 }
@@ -144,7 +146,7 @@ impl Progress {
         Ok(())
     }
 
-    // Asks about the pair, where it is not settled.
+    // Asks about the pair, if it is not settled.
     fn settle(&mut self, oracle: &mut Oracle<'_>, x: u32, y: u32) -> Result<(), Stop>
         requires going { IsGoing oracle.old self.old }
         requires first { x < self.old.known.count + 2 }
@@ -160,7 +162,7 @@ impl Progress {
         self.ask(oracle, &mut kept, x, y)
     }
 
-    // Asks about a pair that is not settled. What is kept was shown of the first class.
+    // Asks about a pair that is not settled. `kept` is what an earlier search showed of the first class.
     fn ask<'a>(
         &mut self,
         oracle: &mut Oracle<'a>,
@@ -191,8 +193,8 @@ impl Progress {
         Ok(())
     }
 
-    // The class of none, where it is open whether the class is part of it; else a most general class of which that is
-    // open. The set has each of these classes; those that are settled are taken out of it.
+    // `owl:Nothing`, if it is open whether the class is included in it; otherwise a most general class of which that is
+    // open. The set `unsettled` has each such class; those that are settled are taken out of it.
     fn next_question(&self, class: u32, unsettled: &mut AxiomSet) -> Option<u32>
         requires class { class < self.now.known.count + 2 }
         requires ruled_out { self.now.ruled_out.size ≡ self.now.known.count + 2 }
@@ -209,7 +211,7 @@ impl Progress {
         Some(none)
     }
 
-    // A most general class such that it is not settled whether the class is part of it; none where all are settled.
+    // A most general class of which it is not settled whether the class is included in it; none if all are settled.
     fn next_open(&self, class: u32, unsettled: &mut AxiomSet) -> Option<u32>
         requires class { class < self.now.known.count + 2 }
         requires ruled_out { self.now.ruled_out.size ≡ self.now.known.count + 2 }
@@ -224,7 +226,7 @@ impl Progress {
         most_general(&self.known, unsettled)
     }
 
-    // It is known that x is part of y, with all that follows from it.
+    // Takes in that x is included in y, with all that follows from it.
     fn take_in(&mut self, x: u32, y: u32) -> Result<(), NoMemory>
         requires first { x < self.old.known.count + 2 }
         requires second { y < self.old.known.count + 2 }
@@ -242,7 +244,7 @@ impl Progress {
         Ok(())
     }
 
-    // It is ruled out that x is part of y, and so for each class that x is part of and each that is part of y.
+    // Rules out that x is included in y, and so that any class above x is included in any class below y.
     fn rule_out(&mut self, x: u32, y: u32)
         requires first { x < self.old.known.count + 2 }
         requires second { y < self.old.known.count + 2 }

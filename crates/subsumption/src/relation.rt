@@ -1,4 +1,4 @@
-//! Which class is part of which, as one row of bits for each class.
+//! Which class is included in which, as one row of bits for each class.
 //!
 //! Classification (the subsumption hierarchy of all classes of an ontology, OWL 2 Direct Semantics, section 2.5) begins
 //! with what holds of every ontology, and adds what questions find. A [`Relation`] keeps for each class the set of
@@ -21,8 +21,8 @@ use shq_terms::{MAX_CLASSES, NoMemory};
 use std::alloc::Global;
 use std::marker::Model;
 
-/// Which class is related to which. Classes are numbers: first those that are listed, behind them the class of all
-/// things, and then the class of none. Contracts see how many are listed, and which numbers are related.
+/// Which class is related to which. Classes are numbers: first those that are listed, then `owl:Thing`, and then
+/// `owl:Nothing`. Contracts see how many are listed, and which numbers are related.
 #[derive(Drop)]
 pub struct Relation {
     count: u32,
@@ -43,11 +43,12 @@ impl Model for Relation {
 }
 
 impl Relation {
-    /// The relation of so many classes before any question: each is related to itself and to the class of all things,
-    /// and the class of none is related to each.
+    /// The relation of so many listed classes before any question: each class is related to itself and to `owl:Thing`,
+    /// and `owl:Nothing` is related to each.
     ///
     /// # Errors
-    /// Memory may be refused.
+    ///
+    /// Out of memory.
     pub fn new(alloc: Global, classes: u32) -> Result<Relation, NoMemory>
         requires { classes ≤ MAX_CLASSES }
         ensures { IfOk result (IsAtFirst classes) }
@@ -61,7 +62,7 @@ impl Relation {
         })
     }
 
-    /// How many classes are listed. It is the number of the class of all things.
+    /// How many classes are listed. This is the number of `owl:Thing`.
     pub fn class_count(&self) -> u32
         ensures count { result ≡ self.now.count }
         ensures small { self.now.count ≤ MAX_CLASSES }
@@ -108,7 +109,8 @@ impl Relation {
     /// transitive, it stays so. The work is a row of bits for each class that is below `x` or above `y`.
     ///
     /// # Errors
-    /// Memory may be refused; the relation is as before then.
+    ///
+    /// Out of memory. The relation is as before then.
     pub fn relate(&mut self, x: u32, y: u32) -> Result<(), NoMemory>
         requires first { x < self.old.count + 2 }
         requires second { y < self.old.count + 2 }

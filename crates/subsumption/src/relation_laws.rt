@@ -1,4 +1,4 @@
-// What follows of relations.
+// Laws of relations.
 ghost use Rattle.subsumption.specs.RelationLaws.{FirstIsOrder, RelatingKeepsOrder, SubsumptionIsOne};
 
 /// The relation of a new [`Relation`](crate::Relation) is reflexive and transitive.
@@ -6,12 +6,12 @@ pub fn first_is_order()
     ensures { FirstIsOrder }
 {}
 
-/// Where it is, it stays so when [`relate`](crate::Relation::relate) adds to it.
+/// If a relation is reflexive and transitive, it stays so when [`relate`](crate::Relation::relate) adds to it.
 pub fn relating_keeps_order()
     ensures { RelatingKeepsOrder }
 {}
 
-/// Which class is part of which is one relation.
+/// There is one relation that says which class is included in which.
 pub fn subsumption_is_one()
     ensures { SubsumptionIsOne }
 {}

@@ -17,9 +17,9 @@ use shq_oracle::Oracle;
 use shq_terms::Ontology;
 use std::alloc::Global;
 
-/// Asks until it is known of each two classes of the ontology whether the one is part of the other, by all of its
-/// axioms (OWL 2 Direct Semantics, section 2.5), where the oracle is one for this ontology that was asked nothing yet.
-/// The first question is whether all things are in the class of none, and nothing is asked whose answer follows from
+/// Asks until it is known of each two classes of the ontology whether one is included in the other, by all of its
+/// axioms (OWL 2 Direct Semantics, section 2.5). The oracle is one for this ontology that was asked nothing yet. The
+/// first question is whether `owl:Thing` is included in `owl:Nothing`, and nothing is asked whose answer follows from
 /// the answers before, be it yes or no.
 ///
 /// # Errors

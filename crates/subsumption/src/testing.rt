@@ -1,4 +1,4 @@
-// One question to the oracle, and its outcome.
+// One question to the oracle, and its answer.
 ghost use Rattle.std.specs.Prelude.{◌≡◌, ◌≤◌, false, length, IfOk, IfSome, OnOk, OnErr};
 ghost use Rattle.std.specs.List.{list_any};
 ghost use Rattle.shq_terms.specs.declared.axioms.On.TheVariants.{Any};
@@ -15,7 +15,7 @@ use shq_terms::{Concept, MAX_CLASSES, NoMemory, Node, On, Query};
 /// What a test found.
 #[derive(Clone, Copy)]
 pub(crate) enum Verdict {
-    /// The one class is part of the other.
+    /// The first class is included in the second.
     Yes,
     /// It is not.
     No,
@@ -23,12 +23,13 @@ pub(crate) enum Verdict {
     Spent,
 }
 
-/// Asks whether class `x` is part of class `y` by the axioms of the set, where so many classes are listed. Where what
-/// is kept of an earlier search for `x` shows that it is not, nothing is searched; what a search shows of further
-/// classes is kept.
+/// Asks whether class `x` is included in class `y` by the axioms of the set. `count` is the number of listed classes.
+/// If what is kept of an earlier search for a member of `x` shows that it is not, no search is made. What a search
+/// shows of further classes is kept.
 ///
 /// # Errors
-/// Memory may be refused; the log is as before then.
+///
+/// Out of memory. The log is as before then.
 pub(crate) fn test<'a>(
     oracle: &mut Oracle<'a>,
     kept: &mut Option<Apart<'a>>,
@@ -58,7 +59,7 @@ pub(crate) fn test<'a>(
     verdict
 }
 
-// Asks the query, whose superclass is class `y`.
+// Asks the query, whose superclass is class `y`: by what is kept, or else by a search.
 fn decide<'a>(
     oracle: &mut Oracle<'a>,
     kept: &mut Option<Apart<'a>>,
@@ -88,7 +89,7 @@ fn decide<'a>(
     search(oracle, kept, axioms, query)
 }
 
-// Puts the answer that the query does not follow into the log, if what is kept shows it and the budget allows it.
+// Logs that the query does not follow, if what is kept shows it and the budget allows it. Answers whether it did.
 #[tactic(auto, using(crate::proofs::Begun::alike_still))]
 fn is_noted(
     oracle: &mut Oracle<'_>,
@@ -169,7 +170,7 @@ fn search<'a>(
     Ok(verdict_of(shown.outcome))
 }
 
-// Keeps what was shown last.
+// Keeps what was shown last, if anything was.
 fn keep<'a>(kept: &mut Option<Apart<'a>>, apart: Option<Apart<'a>>)
     ensures { kept.new ≡ newest apart.entry kept.old }
 {
@@ -179,7 +180,7 @@ fn keep<'a>(kept: &mut Option<Apart<'a>>, apart: Option<Apart<'a>>)
     }
 }
 
-// Lets the axioms of an outcome go.
+// The verdict of an outcome, without the axioms of a yes.
 fn verdict_of(outcome: Outcome) -> Verdict
     ensures { result ≡ verdict_of outcome }
 {
@@ -193,7 +194,7 @@ fn verdict_of(outcome: Outcome) -> Verdict
     }
 }
 
-// The question whether class x is part of class y.
+// The question whether class x is included in class y.
 fn query_between(count: u32, x: u32, y: u32) -> Query
     requires { count ≤ MAX_CLASSES }
     ensures { result ≡ query_at count x y }
@@ -205,7 +206,7 @@ fn query_between(count: u32, x: u32, y: u32) -> Query
     }
 }
 
-// The class of a number: first those that are listed, then the class of all things, and then that of none.
+// The class of a number: first come the listed classes, then `owl:Thing`, and then `owl:Nothing`.
 fn class_of(count: u32, number: u32) -> Concept
     requires { count ≤ MAX_CLASSES }
     ensures { result ≡ class_at count number }

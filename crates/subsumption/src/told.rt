@@ -1,18 +1,18 @@
-// The inclusions that an ontology says in so many words.
+// The inclusions of classes that axioms state.
 ghost use Rattle.std.specs.Prelude.{◌≡◌, length, IfOk};
 ghost use Rattle.subsumption.specs.Told.{AreOf};
 
 use shq_terms::{Axiom, Concept, NoMemory, Node, Ontology};
 use std::alloc::Global;
 
-/// An axiom says that the one class is part of the other.
+/// That an axiom states the inclusion of one class in another.
 #[derive(Clone, Copy)]
 pub(crate) struct Inclusion {
     pub(crate) sub: u32,
     pub(crate) sup: u32,
 }
 
-/// The inclusions of listed classes in listed classes that axioms say at once, in the order of the axioms.
+/// The inclusions of listed classes in listed classes that axioms state, in the order of the axioms.
 #[derive(Drop)]
 pub(crate) struct Told {
     classes: u32,
@@ -21,10 +21,11 @@ pub(crate) struct Told {
 }
 
 impl Told {
-    /// What the axioms of the ontology say.
+    /// The inclusions that the axioms of the ontology state.
     ///
     /// # Errors
-    /// Memory may be refused.
+    ///
+    /// Out of memory.
     pub(crate) fn by(alloc: Global, ontology: &Ontology) -> Result<Told, NoMemory>
         ensures { IfOk result (λ told. told.classes ≡ length ontology.now.classes) }
     {
@@ -46,7 +47,7 @@ impl Told {
         &self.inclusions
     }
 
-    // Adds what an axiom says.
+    // Adds the inclusions that an axiom states.
     fn add_axiom(&mut self, axiom: &Axiom) -> Result<(), NoMemory>
         ensures { self.new.classes ≡ self.old.classes }
     {
@@ -68,7 +69,7 @@ impl Told {
         }
     }
 
-    // Adds that each of the class expressions is part of the first, and that one of each.
+    // Adds that each of the class expressions is included in the first, and the first in each.
     fn add_equals(&mut self, concepts: &[Concept]) -> Result<(), NoMemory>
         ensures { self.new.classes ≡ self.old.classes }
     {
@@ -79,7 +80,7 @@ impl Told {
         Ok(())
     }
 
-    // Adds that each of the parts is part of the whole.
+    // Adds that each of the parts is included in the whole.
     fn add_parts(&mut self, whole: &Concept, parts: &[Concept]) -> Result<(), NoMemory>
         ensures { self.new.classes ≡ self.old.classes }
     {
@@ -89,7 +90,7 @@ impl Told {
         Ok(())
     }
 
-    // Adds that a class is part of another, or of each class of an intersection.
+    // Adds that a class is included in another, or in each class of an intersection.
     fn add_inclusion(&mut self, sub: &Concept, sup: &Concept) -> Result<(), NoMemory>
         ensures { self.new.classes ≡ self.old.classes }
     {
@@ -111,7 +112,7 @@ impl Told {
         }
     }
 
-    // Adds that a class is part of each class among the class expressions.
+    // Adds that a class is included in each class among the class expressions.
     fn add_each(&mut self, sub: u32, sups: &[Concept]) -> Result<(), NoMemory>
         ensures { self.new.classes ≡ self.old.classes }
     {
@@ -123,7 +124,7 @@ impl Told {
         Ok(())
     }
 
-    // Adds that a class is part of another, where both are listed.
+    // Adds that a class is included in another, if both are listed.
     fn add(&mut self, sub: u32, sup: u32) -> Result<(), NoMemory>
         ensures { self.new.classes ≡ self.old.classes }
     {
