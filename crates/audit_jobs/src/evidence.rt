@@ -41,7 +41,8 @@ pub(crate) fn no_evidence(alloc: Global) -> Evidence
 /// Makes room for what one more test finds.
 ///
 /// # Errors
-/// Memory may be refused. What is kept stays, whatever the result.
+///
+/// Out of memory. What is kept stays, whatever the result.
 pub(crate) fn make_room(evidence: &mut Evidence) -> Result<(), NoMemory>
     ensures refutations { evidence.new.refutations.items ≡ evidence.old.refutations.items }
     ensures models { evidence.new.models.items ≡ evidence.old.models.items }

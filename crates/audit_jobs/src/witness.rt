@@ -121,7 +121,8 @@ impl<'a> Entail for Witness<'a> {
     /// the budget is left, the oracle, whose evidence is kept.
     ///
     /// # Errors
-    /// Memory may be refused. The log is as before then.
+    ///
+    /// Out of memory. The log is as before then.
     fn ask(&mut self, set: &AxiomSet) -> Result<Reply, NoMemory> {
         match self.asker.known(set)? {
             Known::Answered(reply) => Ok(reply),
@@ -132,7 +133,8 @@ impl<'a> Entail for Witness<'a> {
     /// Takes one unit of the budget for a node, where one is left, and logs just the node.
     ///
     /// # Errors
-    /// Memory may be refused. The log is as before then.
+    ///
+    /// Out of memory. The log is as before then.
     fn take_node(&mut self, hit: &AxiomSet) -> Result<bool, NoMemory> {
         self.asker.take_node(hit)
     }

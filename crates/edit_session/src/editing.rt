@@ -18,7 +18,8 @@ use std::alloc::Global;
 /// Adds the axiom that a text says, which is live then; or answers why it is none, and nothing changes.
 ///
 /// # Errors
-/// Memory may be refused.
+///
+/// Out of memory.
 pub(crate) fn add(
     alloc: Global,
     text: &str,
@@ -47,7 +48,8 @@ pub(crate) fn add(
 /// Takes a live axiom out for good; or answers that the number is none of a live axiom.
 ///
 /// # Errors
-/// Memory may be refused.
+///
+/// Out of memory.
 pub(crate) fn remove(alloc: Global, number: u32, live: &mut AxiomSet) -> Result<Text, NoMemory>
     ensures removed { IfOk result
         (λ answer. IsRemovedFrom live.old.members number live.new.members (text_bytes answer)) }

@@ -40,7 +40,8 @@ fn has_above(set: &AxiomSet, limit: u32) -> bool
 /// The same numbers, with a limit that is no less.
 ///
 /// # Errors
-/// Memory may be refused.
+///
+/// Out of memory.
 pub(crate) fn grown(alloc: Global, set: &AxiomSet, limit: u32) -> Result<AxiomSet, NoMemory>
     requires { set.now.limit ≤ limit }
     ensures limit { IfOk result (λ s. s.limit ≡ limit) }

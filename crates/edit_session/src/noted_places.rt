@@ -53,7 +53,8 @@ impl NotedPlaces {
     /// Sees all entries of the log.
     ///
     /// # Errors
-    /// Memory may be refused. Nothing that was seen is lost.
+    ///
+    /// Out of memory. Nothing that was seen is lost.
     pub(crate) fn see_all(&mut self, log: &[Entry]) -> Result<(), NoMemory>
         requires { self.old.seen ≤ length log.now }
         ensures filed { StaysFiled self.old self.new log.now }
@@ -84,7 +85,8 @@ impl NotedPlaces {
     /// What an entry of the log tells of the query and the live axioms. All entries were seen.
     ///
     /// # Errors
-    /// Memory may be refused.
+    ///
+    /// Out of memory.
     pub(crate) fn recall(
         &self,
         log: &[Entry],
@@ -116,7 +118,8 @@ impl NotedPlaces {
     /// Forgets each yes to the query.
     ///
     /// # Errors
-    /// Memory may be refused. Nothing is forgotten then.
+    ///
+    /// Out of memory. Nothing is forgotten then.
     pub(crate) fn forget_yes(&mut self, log: &[Entry], query: &Query) -> Result<(), NoMemory>
         ensures others { KeepsAllOthers log.now query.now self.old.places.items self.new.places.items }
         ensures seen { self.new.seen ≡ self.old.seen }

@@ -14,7 +14,8 @@ use shq_oracle::RunLog;
 /// put is `undecided`.
 ///
 /// # Errors
-/// Memory may be refused. The session has ended then; answers to the first lines were put, and no others. The log has
+///
+/// Out of memory. The session has ended then; answers to the first lines were put, and no others. The log has
 /// what these lines logged, with a test of the next one perhaps, and is honest all the same.
 pub fn run_script(
     session: &mut Session,

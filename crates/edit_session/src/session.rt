@@ -61,7 +61,8 @@ impl Session {
     /// A session on a document, as `read_ontology` of `ofn_reader` gives it. Each axiom is live.
     ///
     /// # Errors
-    /// Memory may be refused.
+    ///
+    /// Out of memory.
     pub fn new(alloc: Global, ontology: Ontology, context: Context) -> Result<Session, NoMemory>
         requires { IsOntologyInLimit ontology }
         ensures { IfOk result (λ s. s ≡ record { state = begun ontology context; noted = nothing_noted }) }
@@ -91,7 +92,8 @@ impl Session {
     /// what was seen is forgotten.
     ///
     /// # Errors
-    /// Memory may be refused. The session has ended then, as after `Spent`, and the log is honest all the same.
+    ///
+    /// Out of memory. The session has ended then, as after `Spent`, and the log is honest all the same.
     pub fn line(
         &mut self,
         line: &[u8],

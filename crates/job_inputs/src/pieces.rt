@@ -11,7 +11,8 @@ use std::alloc::Global;
 /// Puts the numbers of a set last.
 ///
 /// # Errors
-/// Memory may be refused.
+///
+/// Out of memory.
 pub fn put_set(alloc: Global, out: &mut Vec<u8>, set: &AxiomSet) -> Result<(), NoMemory>
     ensures { OnOk result (out.new.items ≡ out.old.items ++ set_text set.now) }
 {
@@ -44,7 +45,8 @@ fn put_spaced(alloc: Global, out: &mut Vec<u8>, numbers: Numbers<'_>) -> Result<
 /// Puts bytes last.
 ///
 /// # Errors
-/// Memory may be refused; nothing was put then.
+///
+/// Out of memory. Nothing was put then.
 pub fn put(out: &mut Vec<u8>, bytes: &[u8]) -> Result<(), NoMemory>
     ensures put { OnOk result (out.new.items ≡ out.old.items ++ bytes.now) }
     ensures unwritten { OnErr result (out.new.items ≡ out.old.items) }
@@ -56,7 +58,8 @@ pub fn put(out: &mut Vec<u8>, bytes: &[u8]) -> Result<(), NoMemory>
 /// Puts a number in decimal last.
 ///
 /// # Errors
-/// Memory may be refused; nothing was put then.
+///
+/// Out of memory. Nothing was put then.
 pub fn put_number(alloc: Global, out: &mut Vec<u8>, number: u32) -> Result<(), NoMemory>
     ensures put { OnOk result (out.new.items ≡ out.old.items ++ decimal number) }
     ensures unwritten { OnErr result (out.new.items ≡ out.old.items) }

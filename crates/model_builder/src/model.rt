@@ -34,7 +34,7 @@ use std::alloc::{Allocator, Global};
 ///
 /// # Errors
 ///
-/// Memory may be refused.
+/// Out of memory.
 pub fn build<A: Allocator + Copy>(
     alloc: Global,
     tree: &Tree<A>,
@@ -73,7 +73,7 @@ pub fn build<A: Allocator + Copy>(
 ///
 /// # Errors
 ///
-/// Memory may be refused.
+/// Out of memory.
 pub fn interpretation_of_elements<A: Allocator + Copy>(
     alloc: Global,
     tree: &Tree<A>,

@@ -183,7 +183,8 @@ impl<'a> Asker<'a> {
     /// set among which it asks, which are to be tested.
     ///
     /// # Errors
-    /// Memory may be refused. Nothing has changed then.
+    ///
+    /// Out of memory. Nothing has changed then.
     pub fn known(&mut self, set: &AxiomSet) -> Result<Known, NoMemory>
         requires { set.now.limit ≡ length self.old.ontology.axioms }
         ensures known { IfOk result (IsKnown self.old self.new set.now) }
@@ -202,7 +203,8 @@ impl<'a> Asker<'a> {
     /// is taken.
     ///
     /// # Errors
-    /// Memory may be refused. Nothing has changed then.
+    ///
+    /// Out of memory. Nothing has changed then.
     pub fn decide(&mut self, part: &AxiomSet) -> Result<Answer, NoMemory>
         requires limit { part.now.limit ≡ length self.old.ontology.axioms }
         requires local_part { IsPart part.now.members self.old.local_part }
@@ -307,7 +309,8 @@ impl<'a> Entail for Asker<'a> {
     /// most.
     ///
     /// # Errors
-    /// Memory may be refused. Nothing has changed then.
+    ///
+    /// Out of memory. Nothing has changed then.
     fn ask(&mut self, set: &AxiomSet) -> Result<Reply, NoMemory>
         requires { set.now.limit ≡ (asker_meaning self.old).size }
         ensures answer { IfOk result (Answers (asker_meaning self.new) set.now) }
@@ -330,7 +333,8 @@ impl<'a> Entail for Asker<'a> {
     /// Takes one unit of the budget for a node, where one is left, and logs just the node.
     ///
     /// # Errors
-    /// Memory may be refused. The log is as before then.
+    ///
+    /// Out of memory. The log is as before then.
     fn take_node(&mut self, hit: &AxiomSet) -> Result<bool, NoMemory>
         requires limit { hit.now.limit ≡ (asker_meaning self.old).size }
         requires fresh { ¬ Contains (asker_meaning self.old).taken hit.now }
