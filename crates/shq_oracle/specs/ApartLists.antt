@@ -13,8 +13,8 @@ use Rattle.run_log.specs.Entries.{spent_of}
 use Rattle.run_log.specs.HonestLog.{IsAxiomSet, IsHonestNo}
 use Rattle.shq_oracle.specs.OracleLists.{OracleLists}
 
--- the ontology, the set of axioms, the class expression that is part of none of the classes, how many steps decide that
--- of each, and the classes, whose numbers are greater by one in their set
+-- the ontology, the set of axioms, the class expression that is included in none of the classes, how many steps decide
+-- that of each, and the classes, whose numbers are greater by one in their set
 pub record ApartLists : Type 0 where
   pub ontology : Listed
   pub set : Limited
@@ -27,14 +27,13 @@ abbrev pub classes_of : Option ApartLists → Option Limited
 classes_of None = None
 classes_of (Some a) = Some a.classes
 
--- of each class of a set it is so that a class expression is not part of it by the axioms, and that so many steps
--- decide
+-- in no class of a set is the class expression included by the axioms, and so many steps decide that of each
 pub record AreApart (o : Listed) (s : Limited) (sub : Concept) (steps : ℕ) (classes : Limited) : Type 0 where
   pub limit_is : classes.limit ≡ length o.classes
   pub honest : (a : ℕ) → a < length o.classes → set.contains classes.members (a + 1) ≡ true
       → IsHonestNo o s (record { sub = sub; sup = name a; on = Any }) steps
 
--- what is kept is so, of axioms of the ontology
+-- what is kept is true, and its axioms are the ontology's
 pub record IsKeptApart (a : ApartLists) : Type 0 where
   pub of_axioms : IsAxiomSet a.ontology a.set
   pub apart : AreApart a.ontology a.set a.sub a.steps a.classes
@@ -45,7 +44,7 @@ pub record IsAbout (o : Listed) (s : Limited) (sub : Concept) (a : ApartLists) :
   pub set_is : a.set ≡ s
   pub sub_is : a.sub ≡ sub
 
--- the question whether the class expression is part of a class, and the entry of a test that says it is not
+-- the question whether the class expression is included in a class
 abbrev pub query_of : ApartLists → ℕ → Query
 query_of a class = record { sub = a.sub; sup = name class; on = Any }
 

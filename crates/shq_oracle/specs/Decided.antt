@@ -36,8 +36,8 @@ use Rattle.shq_oracle.specs.declared.tested.Tested.{Tested}
 use Rattle.shq_oracle.specs.OracleLists.{OracleLists}
 use Rattle.shq_oracle.specs.ApartLists.{ApartLists, AreApart, IsAbout, classes_of, entry_of}
 
--- a refutation of the query over axioms of the set, which it names, and which can be written; of the set it names role
--- axioms alone, and axioms that stand in its lines
+-- a refutation of the query over the axioms of the set that it names, which can be written; it names only role axioms
+-- and axioms that stand in its lines
 pub record IsProof (o : Listed) (s : Limited) (q : Query) (r : RefutationLists) : Type 0 where
   pub named : IsPart r.axioms.members s.members
   pub standing : NamesNoOther o.axioms s r.lines r.axioms
@@ -78,7 +78,7 @@ EndsAs v e = ⊥
 abbrev pub Matches : Answer → TestEnd → Type 0
 Matches a e = EndsAs (outcome_of a) e
 
--- one entry more: an honest test of the set and the query, which ended with the outcome
+-- the log has one entry more: an honest test of the set and the query, which ended with the outcome
 pub record AddsTest (o : Listed) (s : Limited) (q : Query) (before after : List Entry) (v : Outcome) : Type 0 where
   pub steps : ℕ
   pub ended : TestEnd
@@ -102,34 +102,35 @@ pub record EndsAtModel (o : Listed) (s : Limited) (q : Query) (steps : ℕ) (sea
   pub has_run : HasRun search
   pub at_model : IsAtModel search
 
--- The further classes that a test with this outcome hands out. Where the query does not follow, they are just those
--- that a search over the same set and query leaves out which ends at a model after as many steps as the test took. None
--- are handed out where the search asks for more than whether anything is in the subclass, nor with another outcome.
+-- The further classes that a test with this outcome returns. If the query does not follow, they are exactly those that
+-- are left out by a search over the same set and query which ends at a model after as many steps as the test took. None
+-- are returned if the search asks for more than whether anything is in the subclass, nor with another outcome.
 abbrev pub AreFurther : Listed → Limited → Query → ℕ → Outcome → Option Limited → Type 0
 AreFurther o s q steps (Yes u) classes = classes ≡ None
 AreFurther o s q steps No classes = (search : SearchState) × EndsAtModel o s q steps search × ShowsApart search classes
 AreFurther o s q steps Undecided classes = classes ≡ None
 
--- the same, and it hands out the further classes, each by as many steps as the test took
+-- the same, and the further classes are returned, each with as many steps as the test took
 pub record AddsShown (o : Listed) (s : Limited) (q : Query) (before after : List Entry) (v : Shown) : Type 0 where
   pub test : AddsTest o s q before after v.outcome
   pub about : IfSome v.apart (IsAbout o s q.sub)
   pub counted : IfSome v.apart (λ a. a.steps ≡ test.steps)
   pub further : AreFurther o s q test.steps v.outcome (classes_of v.apart)
 
--- the entry that the class expression is not part of the class was put last, and it is honest; or nothing has changed
+-- the entry that the class expression is not included in the class was put last, and it is honest; or nothing has
+-- changed
 abbrev pub Notes : OracleLists → OracleLists → ApartLists → ℕ → Bool → Type 0
 Notes old new a class true = (new.log ≡ old.log ++ entry_of a class ∷ [])
     × IsHonestEntry old.ontology (entry_of a class)
 Notes old new a class false = new ≡ old
 
--- where the budget is the outcome, nothing of it is left
+-- if the outcome is undecided, nothing of the budget is left
 abbrev pub SpendsAll : OracleLists → Outcome → Type 0
 SpendsAll l (Yes u) = Unit {0}
 SpendsAll l No = Unit {0}
 SpendsAll l Undecided = spent_of l.log ≡ l.budget
 
--- where the budget is the answer, nothing of it is left
+-- if the answer is undecided, nothing of the budget is left
 abbrev pub LeavesNothing : OracleLists → Answer → Type 0
 LeavesNothing l a = SpendsAll l (outcome_of a)
 
@@ -140,25 +141,25 @@ TakesNode old new node false = (spent_of old.log ≡ old.budget) × (new.log ≡
 
 -- ---- one search
 
--- whether so many steps are those that such an outcome may take, of as many as there are
+-- how many steps an outcome may take of the fuel: all of it if it is undecided, and no more than there is otherwise
 abbrev pub IsFueled : ℕ → ℕ → Outcome → Type 0
 IsFueled fuel steps (Yes u) = steps ≤ fuel
 IsFueled fuel steps No = steps ≤ fuel
 IsFueled fuel steps Undecided = steps ≡ fuel
 
--- a search with so much fuel ended a test of the set and the query so, by so many steps
+-- a search with so much fuel ended a test of the set and the query with this outcome, after so many steps
 pub record EndsTest (o : Listed) (s : Limited) (q : Query) (fuel : ℕ) (v : Outcome) (steps : ℕ) (ended : TestEnd) :
     Type 0 where
   pub matches : EndsAs v ended
   pub honest : IsHonestEnd o s q steps ended
   pub fueled : IsFueled fuel steps v
 
--- what a search finds, with so much fuel
+-- what a search with so much fuel finds
 pub record IsFound (o : Listed) (s : Limited) (q : Query) (fuel : ℕ) (f : Found) : Type 0 where
   pub answer : IsAnswer o s q f.answer
   pub test : EndsTest o s q fuel (outcome_of f.answer) f.steps f.ended
 
--- what the outcome of a search is, with so much fuel, and where they are wanted its further classes
+-- the outcome of a search with so much fuel, and its further classes if they are wanted
 pub record IsTested (o : Listed) (s : Limited) (q : Query) (fuel : ℕ) (wanted : Bool) (t : Tested) : Type 0 where
   pub outcome : IsOutcome o s q t.outcome
   pub apart : IfSome t.apart (AreApart o s q.sub t.steps)
@@ -181,25 +182,25 @@ HasNumbers s = AreNumbersOf s.rules s.query s.sub s.not_sup
 abbrev pub MayGoOn : SearchState → Type 0
 MayGoOn s = (next : List Item) × IsLegal (context_of s) (trail_of s) next
 
--- a search that had so much fuel ended so, and with evidence
+-- a search that had so much fuel ended so, and that shows its outcome
 abbrev pub HasEnded : ℕ → SearchState → End → Type 0
 HasEnded fuel s Saturated = IsAtModel s
 HasEnded fuel s (Closed r) = IsAtRefutation r s
 HasEnded fuel s Lost = ⊥
 HasEnded fuel s OutOfFuel = (s.steps ≡ fuel) × MayGoOn s
 
--- a search has found no outcome, and may go on: it is whole, and has made no more steps than it may
+-- a search has found no outcome, and may go on: memory was not refused, and it has made no more steps than it may
 pub record IsGoingOn (fuel : ℕ) (s : SearchState) : Type 0 where
   pub whole : s.failed ≡ false
   pub goes_on : s.ended ≡ false
   pub within : s.steps ≤ fuel
 
--- where no outcome was found, the search may go on
+-- if no outcome was found, the search may go on
 abbrev pub MayRunOn : ℕ → SearchState → Option Tested → Type 0
 MayRunOn fuel s None = IsGoingOn fuel s
 MayRunOn fuel s (Some t) = Unit {0}
 
--- whether a search ended without evidence
+-- whether a search ended without an outcome
 abbrev pub is_lost : End → Bool
 is_lost Lost = true
 is_lost Saturated = false
