@@ -1,6 +1,6 @@
 -- What is noted of a run is what it has put.
 use Rattle.std.proofs.Common.{◌≡◌, ℕ, ◌+◌, ◌-◌, ◌<◌, ◌≤◌, ◌||◌, min, Bool, false, List, [], ◌∷◌, length, drop, ap, ◌∙◌}
-use Rattle.std.proofs.Common.{sym, arith}
+use Rattle.std.proofs.Common.{sym, arith, true}
 use Rattle.std.specs.List.{list_any}
 use Rattle.std.proofs.lemmas.List.{length-map}
 use Rattle.std.specs.FinSet as set
@@ -20,6 +20,7 @@ use Rattle.tableau.specs.Seen.{AreOver}
 use Rattle.tableau.specs.Seen.{HasNoted, AreSeenIn}
 use Rattle.search_rules.specs.RuleLists.{RuleLists, context_in}
 use Rattle.tableau.specs.Inside.{HasNotedNew}
+use Rattle.tableau.proofs.Noting.{bare_before}
 
 -- ---- the start
 
@@ -42,7 +43,7 @@ seen_at_start at table first count concepts s noted = record {
       let below : a < count = omega (arith, lt, noted.complements.limit) in
       noted.complements.held a below
       ∙ ap (λ (b : Bool). list_any (gives_complement at table a) (facts_of first) || b) (none_held count a);
-  bare = λ still. ap (λ (b : Bool). b || false) (noted.bare still).1;
+  bare = λ still. ap (λ (b : Bool). b || false) (bare_before true s.bare _ noted.bare still).1;
 }
 
 -- ---- a step
@@ -85,7 +86,7 @@ seen_after rules at old new earlier s s' legal seen noted =
           (holds s.complements a) (holds s'.complements a) legal le last (seen.complements a below)
           (noted.complements.held a below);
       bare = λ still.
-          let t = noted.bare still in
+          let t = bare_before s.bare s'.bare _ noted.bare still in
           sym
           (still_ever (gives_more at) place (context_in rules) (items_of old) (items_of new) earlier false false legal
           le last (sym (seen.bare t.0)) (sym (ap (λ (b : Bool). b || false) t.1)));

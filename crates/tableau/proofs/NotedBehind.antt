@@ -1,6 +1,6 @@
 -- What is noted of a beginning serves a search that goes on from it.
 use Rattle.std.proofs.Common.{◌≡◌, ℕ, ◌<◌, ◌==◌, ◌&&◌, ◌||◌, Bool, true, false, List, [], ◌∷◌, ◌++◌, refl, ap, ◌∙◌}
-use Rattle.std.proofs.Common.{ltb, length, sym, arith}
+use Rattle.std.proofs.Common.{ltb, length, not, sym, arith}
 use Rattle.std.specs.List.{list_any, list_all, All}
 use Rattle.std.proofs.lemmas.Bool.{and_parts, ltb-true}
 use Rattle.std.proofs.lemmas.List.Elements.{All-head, All-tail, All-cons, All-nil}
@@ -22,6 +22,7 @@ use Rattle.search_laws.proofs.Running.{run_follows}
 use Rattle.tableau.specs.Seen.{SeenSets, holds, class_of, union_parts, is_one, complement_of, is_complement}
 use Rattle.tableau.specs.Seen.{gives_more, has_complement, gives_class, gives_complement, HasGained, HasNoted}
 use Rattle.tableau.specs.Seen.{AreSeenIn}
+use Rattle.tableau.proofs.Noting.{bare_before}
 use Rattle.axiom_sets.specs.Sets.{Limited}
 
 -- ---- two facts, one after the other
@@ -52,16 +53,15 @@ noted_both at table f g old mid new h k = record {
   complements =
       gained_both (gives_complement at table) f g old.complements mid.complements new.complements h.complements
       k.complements;
-  bare = λ still.
-      let t = k.bare still in
-      let u = h.bare t.0 in
-      (u.0, two (gives_more at f) (gives_more at g) u.1 t.1);
+  bare =
+      k.bare ∙ ap (λ (b : Bool). b && not (gives_more at g || false)) h.bare
+      ∙ two old.bare (gives_more at f) (gives_more at g);
 }
   where
-    two : (x y : Bool) → (x || false) ≡ false → (y || false) ≡ false → (x || (y || false)) ≡ false
-    two true y h k = cc
-    two false true h k = cc
-    two false false h k = refl
+    two : (b x y : Bool) → ((b && not (x || false)) && not (y || false)) ≡ (b && not (x || (y || false)))
+    two true true y = refl
+    two true false y = refl
+    two false x y = refl
 
 -- ---- behind another start
 
@@ -107,7 +107,7 @@ seen_behind at table sub not_sup run begun s s' begins puts_same seen noted = re
       ∙ ap (λ (b : Bool). p (Has at sub) || (p (Has at not_sup) || b)) (seen.complements a below)
       ∙ sym (puts_same p (complement_none at table begins a));
   bare = λ still.
-      let t = noted.bare still in
+      let t = bare_before s.bare s'.bare _ noted.bare still in
       let p = gives_more at in
       puts_same p (and_false (at == at))
       ∙ neither (p (Has at sub)) (p (Has at not_sup)) (was_ever p begun) t.1

@@ -6,6 +6,7 @@ use Rattle.std.specs.List.{list_any, slice_get}
 use Rattle.std.specs.Prelude.{◌==◌}
 use Rattle.std.proofs.lemmas.Bool.{cases_Bool, and_parts, eqb-true, false_from_ne_true}
 use Rattle.std.proofs.lemmas.List.{drop_all}
+use Rattle.calculus_specs.proofs.Bools.{false_from_not}
 use Rattle.calculus_specs.specs.Shape.{Shape, shape_of}
 use Rattle.calculus_specs.specs.declared.facts.Fact.{Fact}
 use Rattle.calculus_specs.specs.declared.facts.Fact.TheVariants.{Has}
@@ -36,6 +37,18 @@ module _ (old new : Limited) where
     held = λ a lt. ap (λ (s : Limited). holds s a) is ∙ ap (λ (b : Bool). b || holds old a) (sym (none a));
   }
 
+-- ---- whether the node in question was given more than top
+
+-- where it was not, what is known stands
+bare_still : (old more : Bool) → more ≡ false → old ≡ (old && not more)
+bare_still true more none = ap not (sym none)
+bare_still false more none = refl
+
+-- where that is known later, it was known before
+pub bare_before : (old new more : Bool) → new ≡ (old && not more) → new ≡ true → (old ≡ true) × (more ≡ false)
+bare_before old new more is still =
+    let t = and_parts old (not more) (sym is ∙ still) in (t.0, false_from_not more t.1)
+
 -- ---- one concept
 
 module _ (at : ℕ) (table : List Shape) (node concept : ℕ) (old mid new : SeenSets)
@@ -44,10 +57,6 @@ module _ (at : ℕ) (table : List Shape) (node concept : ℕ) (old mid new : See
   or_false : (b : Bool) → (b || false) ≡ b
   or_false true = refl
   or_false false = refl
-
-  and_false : (b : Bool) → (b && false) ≡ false
-  and_false true = refl
-  and_false false = refl
 
   -- at the node in question
   pub noted_there : node ≡ at → new.bare ≡ (mid.bare && eqb concept 0)
@@ -78,14 +87,15 @@ module _ (at : ℕ) (table : List Shape) (node concept : ℕ) (old mid new : See
               (sym
               (or_false (gives_complement at table a (Has node concept)) ∙ ap (λ (b : Bool). q || (b && p)) is_there));
         };
-        bare = λ still.
-            let t = and_parts mid.bare (eqb concept 0) (sym bare ∙ still) in (
-              sym bare_same ∙ t.0,
-              or_false (gives_more at (Has node concept)) ∙ ap (λ (b : Bool). (node == at) && not b) t.1
-                  ∙ and_false (node == at),
-            );
+        bare =
+            bare ∙ ap (λ (b : Bool). b && eqb concept 0) bare_same ∙ no_more old.bare (eqb concept 0)
+            ∙ ap (λ (b : Bool). old.bare && not ((b && not (concept == 0)) || false)) (sym is_there);
       }
     where
+      no_more : (b top : Bool) → (b && top) ≡ (b && not (not top || false))
+      no_more b true = refl
+      no_more b false = refl
+
       turned : (p q b : Bool) → (p || (q || b)) ≡ ((q || p) || b)
       turned true true b = refl
       turned true false b = refl
@@ -109,10 +119,10 @@ module _ (at : ℕ) (table : List Shape) (node concept : ℕ) (old mid new : See
             sym (or_false (gives_complement at table a (Has node concept)) ∙ ap (λ (b : Bool). q || (b && p)) not_there
             ∙ or_false q))
             complement;
-        bare = λ still. (
-          sym bare_same ∙ still,
-          or_false (gives_more at (Has node concept)) ∙ ap (λ (b : Bool). b && not (concept == 0)) not_there,
-        );
+        bare =
+            bare_same
+            ∙ bare_still old.bare (gives_more at (Has node concept) || false)
+            (or_false (gives_more at (Has node concept)) ∙ ap (λ (b : Bool). b && not (concept == 0)) not_there);
       })
 
 -- facts that have to do with no class
@@ -123,7 +133,7 @@ pub nothing_noted : (at : ℕ) (table : List Shape) (fs : List (Fact ℕ)) (s : 
 nothing_noted at table fs s class complement more = record {
   at_node = gains_none s.at_node s.at_node _ class refl;
   complements = gains_none s.complements s.complements _ complement refl;
-  bare = λ still. (still, more);
+  bare = bare_still s.bare (list_any (gives_more at) fs) more;
 }
 
 -- ---- one item more of a list, of which the rest is still to be noted
@@ -209,37 +219,38 @@ notes_one test items from place item old now next read before gained = record {
 -- how far it is noted whether the node in question was given more than top, up to a place
 abbrev pub IsBareSoFar : ℕ → List Item → ℕ → ℕ → Bool → Bool → Type 0
 IsBareSoFar at items from place old now =
-    now ≡ true
-    → (old ≡ true)
-    × (list_any (gives_more at) (facts_of (drop from items)) ≡ list_any (gives_more at) (facts_of (drop place items)))
-
-or_none : (b : Bool) → (b || false) ≡ b
-or_none true = refl
-or_none false = refl
+    (list_any (gives_more at) (facts_of (drop place items)) || not now)
+    ≡ (list_any (gives_more at) (facts_of (drop from items)) || not old)
 
 pub bare_one : (at : ℕ) (items : List Item) (from place : ℕ) (item : Item) (old now next : Bool)
     → slice_get items place ≡ Some item → IsBareSoFar at items from place old now
-    → (next ≡ true → (now ≡ true) × (list_any (gives_more at) (facts_of (item ∷ [])) ≡ false))
+    → next ≡ (now && not (list_any (gives_more at) (facts_of (item ∷ []))))
     → IsBareSoFar at items from (place + 1) old next
-bare_one at items from place item old now next read before noted still =
-    let t = noted still in
-    let b = before t.0 in
-    let k : suc place ≡ place + 1 = omega arith in (
-      b.0,
-      b.1 ∙ ap (λ (is : List Item). list_any (gives_more at) (facts_of is)) (drop_at items place item read)
-          ∙ front item (drop (suc place) items) t.1
-          ∙ ap (λ (n : ℕ). list_any (gives_more at) (facts_of (drop n items))) k,
-    )
+bare_one at items from place item old now next read before noted =
+    let more = gives_more at in
+    one_more more items place item (list_any more (facts_of (drop from items))) (not now) (not next) (not old) read
+    (ap not noted ∙ turned now (list_any more (facts_of (item ∷ [])))) before
   where
-    front : (i : Item) (is : List Item) → list_any (gives_more at) (facts_of (i ∷ [])) ≡ false
-        → list_any (gives_more at) (facts_of (i ∷ is)) ≡ list_any (gives_more at) (facts_of is)
-    front (Says f) is none =
-        ap (λ (b : Bool). b || list_any (gives_more at) (facts_of is)) (sym (or_none (gives_more at f)) ∙ none)
-    front (Mark c) is none = refl
+    turned : (b more : Bool) → not (b && not more) ≡ (more || not b)
+    turned true true = refl
+    turned true false = refl
+    turned false true = refl
+    turned false false = refl
 
 pub bare_all : (at : ℕ) (items : List Item) (from place : ℕ) (old now : Bool) → length items ≤ place
     → IsBareSoFar at items from place old now
-    → now ≡ true → (old ≡ true) × (list_any (gives_more at) (facts_of (drop from items)) ≡ false)
-bare_all at items from place old now past so_far still =
-    let t = so_far still in
-    (t.0, t.1 ∙ ap (λ (is : List Item). list_any (gives_more at) (facts_of is)) (drop_all place items past))
+    → now ≡ (old && not (list_any (gives_more at) (facts_of (drop from items))))
+bare_all at items from place old now past so_far =
+    turned now old (list_any (gives_more at) (facts_of (drop from items)))
+    (ap (λ (is : List Item). list_any (gives_more at) (facts_of is) || not now) (sym (drop_all place items past))
+    ∙ so_far)
+  where
+    turned : (b c more : Bool) → not b ≡ (more || not c) → b ≡ (c && not more)
+    turned true true true h = cc
+    turned true true false h = refl
+    turned true false true h = cc
+    turned true false false h = cc
+    turned false true true h = refl
+    turned false true false h = cc
+    turned false false true h = refl
+    turned false false false h = refl

@@ -353,7 +353,7 @@ module _ (at : ℕ) (table : List Shape) (fs : List (Fact ℕ)) (old mid new : S
     complements =
         subst (HasGained (λ a. list_any (gives_complement at table a) fs) old.complements) (sym same.complements)
         h.complements;
-    bare = λ still. h.bare (sym same.bare ∙ still);
+    bare = same.bare ∙ h.bare;
   }
 
   pub told_since : (first : ℕ) (all : List (Fact ℕ)) → TellAsBefore old mid → HasTold first at table all fs mid new

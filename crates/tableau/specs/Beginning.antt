@@ -8,7 +8,8 @@ use Rattle.shq_terms.specs.declared.axioms.Query.{Query}
 use Rattle.calculus_specs.specs.Rows.{IsChoice}
 use Rattle.calculus_specs.specs.Rules.{Question}
 use Rattle.calculus_specs.specs.Shape.{Shape, shape_of, IsTable}
-use Rattle.calculus_specs.specs.Shape.Shape.{bottom as bottom_shape}
+use Rattle.calculus_specs.specs.Shape.Shape.{top as top_shape, bottom as bottom_shape, name, not_name, intersection}
+use Rattle.calculus_specs.specs.Shape.Shape.{union, some_of, all_of, at_least, at_most}
 use Rattle.calculus_specs.specs.declared.facts.Fact.{Fact}
 use Rattle.calculus_specs.specs.declared.facts.Fact.TheVariants.{Has, Edge, Apart, Same}
 use Rattle.closed_search.specs.Theory.{question_in}
@@ -102,7 +103,15 @@ are_opposite s t = are_one (class_of s) (complement_of t)
 -- whether a shape is bottom
 abbrev pub is_bottom : Shape → Bool
 is_bottom bottom_shape = true
-is_bottom _ = false
+is_bottom top_shape = false
+is_bottom (name a) = false
+is_bottom (not_name a) = false
+is_bottom (intersection parts) = false
+is_bottom (union parts) = false
+is_bottom (some_of r c) = false
+is_bottom (all_of r c) = false
+is_bottom (at_least n r c) = false
+is_bottom (at_most n r c) = false
 
 -- whether a node with two concepts of these shapes, and no edge, has a plain clash
 abbrev pub do_clash : Shape → Shape → Bool

@@ -161,7 +161,7 @@ pub record HasGained (test : ℕ → Bool) (old new : Limited) : Type 0 where
 pub record HasNoted (at : ℕ) (table : List Shape) (fs : List (Fact ℕ)) (old new : SeenSets) : Type 0 where
   pub at_node : HasGained (λ a. list_any (gives_class at table a) fs) old.at_node new.at_node
   pub complements : HasGained (λ a. list_any (gives_complement at table a) fs) old.complements new.complements
-  pub bare : new.bare ≡ true → (old.bare ≡ true) × (list_any (gives_more at) fs ≡ false)
+  pub bare : new.bare ≡ (old.bare && not (list_any (gives_more at) fs))
 
 -- the sets are those of the run, where the node `at` is the one in question, no more and no less, as far as they reach
 pub record AreSeenIn (at : ℕ) (table : List Shape) (run : List (List Item)) (s : SeenSets) : Type 0 where
