@@ -1,11 +1,11 @@
 -- What a run shows of another query.
-use Rattle.std.proofs.Common.{◌≡◌, ℕ, zero, suc, ◌<◌, ◌≤◌, ◌&&◌, ◌||◌, not, cond, Bool, true, false, List, [], ◌∷◌}
+use Rattle.std.proofs.Common.{◌≡◌, ℕ, zero, suc, ◌<◌, ◌&&◌, ◌||◌, not, cond, Bool, true, false, List, [], ◌∷◌}
 use Rattle.std.proofs.Common.{length, get_or, refl, ap}
 use Rattle.std.proofs.Common.{◌∙◌, sym, subst, arith, inl, inr, eq-eqb}
 use Rattle.std.specs.Prelude.{◌==◌, Contains}
 use Rattle.std.specs.List.{list_any, All}
 use Rattle.std.proofs.lemmas.Bool.{and_parts, and_from, or_cases, or_left, or_right, or_parts, eqb-true, lt-ltb}
-use Rattle.std.proofs.lemmas.Bool.{not-true, cases_Bool, false_from_ne_true}
+use Rattle.std.proofs.lemmas.Bool.{not-true, cases_Bool, false_from_ne_true, both_ways}
 use Rattle.std.proofs.lemmas.List.{append-nil}
 use Rattle.std.proofs.lemmas.List.Folds.{list_all-append}
 use Rattle.shq_terms.specs.Concept.{name}
@@ -200,9 +200,9 @@ module _ (first at : ℕ) (table : List Shape) (a : ℕ) where
 
   -- where it was put, other nodes are told apart
   elsewhere : (run : List (List Item)) (s : SeenSets) → at < first → IsToldApart first at table run s
-      → a < s.bearing.limit
-      → holds s.bearing a ≡ false → All (SetsApart first at table run a) run
-  elsewhere run s is_first told lt out k d short x c high put sh =
+      → s.tells_apart ≡ true → a < s.bearing.limit → holds s.bearing a ≡ false
+      → All (SetsApart first at table run a) run
+  elsewhere run s is_first told tells lt out k d short x c high put sh =
       let trail = get_or run k d in
       let own =
       told_now first at table s trail (told.each k d short) x c a high
@@ -211,7 +211,8 @@ module _ (first at : ℕ) (table : List Shape) (a : ℕ) where
         concept = own.concept;
         holds = own.holds_it;
         is_never_there =
-            sym (told.there own.concept own.is_within) ∙ told.are_own own.concept own.is_within own.is_own;
+            sym (told.there own.concept own.is_within)
+            ∙ told.tells.0 tells own.concept own.is_within own.is_own;
         is_not_top = own.is_not_top;
         is_another = own.is_another;
       }
@@ -232,14 +233,17 @@ left_out s run a is_first lt out =
     let no_class : was_ever (gives_class at table a) all ≡ false = sym (run.are_seen.at_node a node_lt) ∙ unseen.0 in
     elim (cases_Bool s.seen.tells_apart) [
       | inl tells ↦
-          let told = run.told_apart tells in
+          let told =
+          run.told_apart
+          (false_from_ne_true s.behind (λ is_behind.
+          both_ways s.seen.tells_apart (run.not_apart is_behind) tells)) in
           let bearing_lt : a < s.seen.bearing.limit = omega (arith, node_lt, told.limit) in
           let none : holds s.seen.bearing a ≡ false =
           sym (ap (λ (b : Bool). holds (cond b s.seen.bearing s.seen.complements) a) tells) ∙ unseen.1 in
           leaves_out first at table a all no_class
           (false_from_ne_true (was_ever (gives_bearing at table a) all)
           (λ ever. (let k = told.bearing a bearing_lt ever in cc)))
-          (elsewhere first at table a all s.seen is_first told bearing_lt none)
+          (elsewhere first at table a all s.seen is_first told tells bearing_lt none)
       | inr not_told ↦
           let none : holds s.seen.complements a ≡ false =
           sym (ap (λ (b : Bool). holds (cond b s.seen.bearing s.seen.complements) a) not_told) ∙ unseen.1 in
@@ -247,7 +251,8 @@ left_out s run a is_first lt out =
           sym (run.are_seen.complements a complements_lt) ∙ none in
           leaves_out first at table a all no_class
           (false_from_ne_true (was_ever (gives_bearing at table a) all) (λ ever.
-          (let k = ever_more (gives_bearing at table a) (gives_complement at table a) (bearing_is first at table a) all ever in
+          (let k =
+          ever_more (gives_bearing at table a) (gives_complement at table a) (bearing_is first at table a) all ever in
           cc)))
           (nowhere first at table a all no_complement)
     ]

@@ -5,7 +5,7 @@ use Rattle.shq_terms.specs.declared.axioms.On.{On}
 use Rattle.shq_terms.specs.declared.axioms.On.TheVariants.{Any, Individual}
 use Rattle.shq_terms.specs.declared.axioms.Query.{Query}
 use Rattle.calculus_specs.specs.Rows.{IsChoice}
-use Rattle.std.proofs.lemmas.Bool.{ltb-true}
+use Rattle.std.proofs.lemmas.Bool.{ltb-true, both_ways, false_from_ne_true}
 use Rattle.search_rules.specs.Limits.{IsInLimit, is_on_listed}
 use Rattle.calculus_specs.specs.Rules.{Question}
 use Rattle.closed_search.specs.Theory.{node_in_question, question_in}
@@ -17,6 +17,10 @@ use Rattle.search_state.specs.Entry.{Entry}
 use Rattle.search_state.specs.Trail.{items_of, facts_in}
 use Rattle.search_laws.specs.Runs.{IsRun}
 use Rattle.tableau.specs.Seen.{SeenSets, AreOver, AreSeenIn, IsToldApart}
+use Rattle.search_laws.proofs.Turned.{has_listed}
+use Rattle.tableau_specs.specs.Items.{facts_of}
+use Rattle.tableau_specs.proofs.Listed.{reached_listed}
+use Rattle.calculus_specs.specs.State.{has}
 use Rattle.search_rules.specs.RuleLists.{RuleLists, IsReady, AreNumbersOf, numbers_in, theory_in, context_in}
 use Rattle.search_state.specs.Progress.{ProgressLists, asked_of, asked_by, IsAsked, IsStanding, IsSearching, HasMoved}
 use Rattle.search_state.specs.Stepping.{HasBegun, IsClosed, IsStepped, IsRested, IsSameButBlocks, HasFollowed}
@@ -33,9 +37,9 @@ use Rattle.tableau.specs.declared.search.Event.TheVariants.{Moved, Saturated, Cl
 use Rattle.tableau.specs.declared.search.End.{End}
 use Rattle.tableau.specs.declared.search.End.TheVariants.{Saturated as RunSaturated, Closed as RunClosed}
 use Rattle.tableau.specs.declared.search.End.TheVariants.{Lost as RunLost, Spent}
-use Rattle.tableau.specs.Inside.{IsProgressOf, IsKept, IsAtQuestion, IsClosing, HasClosed, IsAdvanced, HasNotedNew, HasToldNew}
+use Rattle.tableau.specs.Inside.{IsProgressOf, IsKept, IsAtQuestion, IsClosing, HasClosed, IsAdvanced, HasNotedNew}
 use Rattle.tableau.specs.Inside.{IsAdvancedElsewhere, IsNotedElsewhere, goes_on_elsewhere, closing_event, closing_end}
-use Rattle.tableau.specs.Inside.{end_by}
+use Rattle.tableau.specs.Inside.{end_by, HasToldNew}
 use Rattle.tableau.specs.Beginning.{IsIdle, IsEventElsewhere}
 use Rattle.tableau.specs.Inside.{HasLost, IsClosedBy, IsNotedAfter, IsSettled, IsHalted, goes_on, is_spent}
 use Rattle.tableau.proofs.Reached.{standing_is_reached}
@@ -133,8 +137,7 @@ pub begun_is_kept : (rules : RuleLists) (query : Query) (sub not_sup : ℕ) (p :
     → p.at ≡ (asked rules query).at → p.sub ≡ sub → p.not_sup ≡ not_sup
     → AreOver (room_for (length rules.ontology.classes) query.on not_sup) seen
     → AreSeenIn (asked rules query).at rules.table (items_of p.entries ∷ []) seen
-    → (seen.tells_apart ≡ true
-    → IsToldApart (context_in rules).first (asked rules query).at rules.table (items_of p.entries ∷ []) seen)
+    → IsToldApart (context_in rules).first (asked rules query).at rules.table (items_of p.entries ∷ []) seen
     → IsKept (state rules query sub not_sup p seen 0 false false false) p
 begun_is_kept rules query sub not_sup p seen limit set numbers h q at_is s n over seen_is told =
     let first : items_of p.entries ≡ start (asked rules query).at sub not_sup =
@@ -147,7 +150,8 @@ begun_is_kept rules query sub not_sup p seen limit set numbers h q at_is s n ove
       counted = refl;
       are_over = over;
       are_seen = seen_is;
-      told_apart = told;
+      told_apart = λ from_nothing. told;
+      not_apart = λ is_behind. (let k : false ≡ true = is_behind in absurd (cc));
     })
 
 -- ---- closing
@@ -418,14 +422,14 @@ module _ (rules : RuleLists) (query : Query) (sub not_sup : ℕ) (p p' : Progres
               (sym entries)
               (subst (AreSeenIn (asked rules query).at rules.table (items_of p.entries ∷ run.earlier)) (sym seen_is)
               run.are_seen);
-          told_apart = λ tells.
-              let was = run.told_apart (ap (λ (u : SeenSets). u.tells_apart) (sym seen_is) ∙ tells) in
+          told_apart = λ from_nothing.
               subst
               (λ (es : List Entry). IsToldApart w.first (asked rules query).at rules.table (items_of es ∷ run.earlier)
               seen')
               (sym entries)
               (subst (IsToldApart w.first (asked rules query).at rules.table (items_of p.entries ∷ run.earlier))
-              (sym seen_is) was);
+              (sym seen_is) (run.told_apart from_nothing));
+          not_apart = λ is_behind. ap (λ (u : SeenSets). u.tells_apart) seen_is ∙ run.not_apart is_behind;
         }
 
     stays_kept : p'.entries ≡ p.entries → p'.first ≡ p.first
@@ -467,6 +471,15 @@ module _ (rules : RuleLists) (query : Query) (sub not_sup : ℕ) (p p' : Progres
         (ap (λ (q : ProgressLists). q.not_sup) same ∙ is.not_sup) h (not goes) false
         (same_run (ap (λ (q : ProgressLists). q.entries) same) seen_is steps_is goes)
 
+    -- what its nodes have is in the table
+    listed : (p : ProgressLists) → IsSearching (context_in rules) p → (x c : ℕ)
+        → has (facts_of (items_of p.entries)) x c ≡ true → c < length rules.table
+    listed p h =
+        let w = context_in rules in
+        has_listed (length rules.table) (facts_of (items_of p.entries)) h.standing.asked.is_table.has_top
+        (reached_listed (asked_by w p) w.table w.rows p.steps (items_of p.entries)
+        (standing_is_reached w p h.standing))
+
     -- a trail that has moved on
     moved_kept : HasMoved (context_in rules) p p' → IsSearching (context_in rules) p'
         → HasNotedNew rules p.at (length p.entries) p'.entries seen seen'
@@ -495,9 +508,12 @@ module _ (rules : RuleLists) (query : Query) (sub not_sup : ℕ) (p p' : Progres
               p'.entries seen seen' run.are_over noted;
           are_seen =
               seen_after rules at p.entries p'.entries run.earlier seen seen' moved.is_legal run.are_seen noted_there;
-          told_apart =
-              told_after rules first at p.entries p'.entries run.earlier seen seen' moved.is_legal noted_there told_there
-              run.told_apart;
+          told_apart = λ from_nothing.
+              told_after rules first at p.entries p'.entries run.earlier seen seen' (listed p' h) moved.is_legal
+              noted_there told_there (run.told_apart from_nothing);
+          not_apart = λ is_behind.
+              false_from_ne_true seen'.tells_apart (λ tells.
+              both_ways seen.tells_apart (run.not_apart is_behind) (told.before tells));
         })
 
     pub stepped_kept : (e : Event) → IsAdvanced rules p p' e → IsNotedAfter rules p p' seen seen' e → steps' ≡ p'.steps

@@ -1,6 +1,7 @@
 pub mod Sets
 pub mod Left
 pub mod Noting
+pub mod Bearing
 pub mod Telling
 pub mod Names
 pub mod Reached

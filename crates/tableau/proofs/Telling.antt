@@ -1,27 +1,28 @@
 -- What is noted to tell other nodes apart from the node in question.
-use Rattle.std.proofs.Common.{◌≡◌, ℕ, zero, suc, ◌+◌, ◌<◌, ◌≤◌, ◌&&◌, ◌||◌, eqb, ltb, not, Bool, true, false, List, []}
-use Rattle.std.proofs.Common.{◌∷◌, ◌++◌, drop, length, Some, None, refl, ap, ◌∙◌, sym, subst, arith, inl, inr, eq-eqb}
+use Rattle.std.proofs.Common.{◌≡◌, ℕ, suc, ◌+◌, ◌<◌, ◌≤◌, ◌&&◌, ◌||◌, ltb, not, Bool, true, false, List, []}
+use Rattle.std.proofs.Common.{◌∷◌, ◌++◌, drop, length, Some, refl, ap, ◌∙◌, sym, subst, arith, inl, inr, eq-eqb}
 use Rattle.std.specs.List.{list_any, slice_get}
 use Rattle.std.specs.Prelude.{◌==◌}
-use Rattle.std.proofs.Math.Bool.{or_assoc, or-false}
-use Rattle.std.proofs.lemmas.Bool.{cases_Bool, and_parts, and_from, eqb-true, ltb-true, false_from_ne_true, or_cases}
-use Rattle.std.proofs.lemmas.Bool.{or_left, or_right, not-true, or_parts}
+use Rattle.std.proofs.lemmas.Bool.{and_parts, and_from, eqb-true, ltb-true, false_from_ne_true, or_cases}
+use Rattle.std.proofs.lemmas.Bool.{or_left, or_right, not-true, lt-ltb, both_ways}
 use Rattle.std.proofs.lemmas.List.{drop_all}
 use Rattle.std.proofs.lemmas.List.Folds.{list_any-append}
 use Rattle.calculus_specs.specs.Shape.{Shape, shape_of}
 use Rattle.calculus_specs.specs.Shape.Shape.{not_name}
 use Rattle.calculus_specs.specs.declared.facts.Fact.{Fact}
 use Rattle.calculus_specs.specs.declared.facts.Fact.TheVariants.{Has}
-use Rattle.calculus_specs.specs.State.{has}
 use Rattle.axiom_sets.specs.Sets.{Limited}
 use Rattle.tableau_specs.specs.declared.Item.{Item}
 use Rattle.tableau_specs.specs.declared.Item.TheVariants.{Fact as Says, Mark}
 use Rattle.tableau_specs.specs.Items.{facts_of}
 use Rattle.search_laws.specs.Runs.{puts_at}
 use Rattle.tableau.specs.Seen.{SeenSets, holds, complement_of, union_parts, is_one, is_complement, has_complement}
-use Rattle.tableau.specs.Seen.{gives_class, gives_complement, gives_bearing, HasGained, HasNoted, HasOwn, AreOwn, AreToldBy, HasTold}
+use Rattle.tableau.specs.Seen.{gives_class, gives_complement, gives_bearing, HasGained, HasNoted, HasOwn, AreOwn}
+use Rattle.tableau.specs.Seen.{HasTold, HasNoOwn, GivesComplement, BearsBy, IsOwnBy}
 use Rattle.tableau.specs.Telling.{TellAsBefore, NoteAsBefore, HasPutThere, HasToldThere, HasToldOther, IsOwnConcept}
-use Rattle.tableau.proofs.Noting.{drop_at, gains_none}
+use Rattle.tableau.specs.Telling.{has_room, IsOwnBeside}
+use Rattle.tableau.proofs.Bearing.{complement_shape, complement_found, none_later}
+use Rattle.tableau.proofs.Noting.{drop_at, gains_none, nothing_noted}
 
 or_none : (b : Bool) → (b || false) ≡ b
 or_none true = refl
@@ -37,9 +38,12 @@ nothing_told first at table all fs s bearing puts = record {
   before = λ t. t;
   limit = refl;
   bearing = λ a lt h. sym (ap (λ (b : Bool). b || holds s.bearing a) (bearing a)) ∙ h;
+  bears = λ a lt h. inl h;
   there = gains_none s.there s.there _ (puts at) refl;
   own = λ c lt h. h;
+  owned = λ c lt h. inl h;
   are_own = λ t h. h;
+  still = λ t h. t;
   told = λ x c a high other lt put sh out. absurd (let k = puts x c in cc);
 }
 
@@ -60,6 +64,13 @@ module _ (first at : ℕ) (table : List Shape) (all : List (Fact ℕ)) (node con
             ∙ sym (ap (λ (b : Bool). b || holds old.bearing a)
             (or_none (gives_bearing at table a (Has node concept)) ∙ ap (λ (b : Bool). b && p) is_there))
             ∙ held;
+        bears = λ a lt held.
+            let p = is_complement table a concept || has_complement table a (union_parts (shape_of table concept)) in
+            elim (or_cases p (holds old.bearing a) (sym (h.bearing.held a lt) ∙ held)) [
+              | inl here ↦ inr (inl
+                  (or_none (gives_bearing at table a (Has node concept)) ∙ ap (λ (b : Bool). b && p) is_there ∙ here))
+              | inr was ↦ inl was
+            ];
         there = record {
           limit = h.puts.there.limit;
           held = λ c lt.
@@ -68,16 +79,23 @@ module _ (first at : ℕ) (table : List Shape) (all : List (Fact ℕ)) (node con
               (sym (or_none (puts_at at c (Has node concept)) ∙ ap (λ (b : Bool). b && (concept == c)) is_there));
         };
         own = λ c lt held. ap (λ (s : Limited). holds s c) h.puts.own ∙ held;
+        owned = λ c lt held. inl (sym (ap (λ (s : Limited). holds s c) h.puts.own) ∙ held);
         are_own = h.puts.are_own;
+        still = h.puts.still;
         told = λ x c a high other lt put sh out.
             let t = and_parts (node == x) (concept == c) (sym (or_none (puts_at x c (Has node concept))) ∙ put) in
             absurd (other (sym (eqb-true node x t.0) ∙ there));
       }
 
+  given_itself : list_any (puts_at node concept) (Has node concept ∷ []) ≡ true
+  given_itself =
+      or_left (node == node && concept == concept) false
+      (and_from (node == node) (concept == concept) (eq-eqb node node refl) (eq-eqb concept concept refl))
+
   -- another node that is no first one
-  pub told_other : ¬ (node ≡ at) → HasToldOther table all node concept old new
+  pub told_other : ¬ (node ≡ at) → first ≤ node → HasToldOther table all node concept old new
       → HasTold first at table all (Has node concept ∷ []) old new
-  told_other elsewhere h =
+  told_other elsewhere no_first h =
       let not_there : (node == at) ≡ false = false_from_ne_true (node == at) (λ k. elsewhere (eqb-true node at k)) in
       record {
         before = λ t. sym h.tells_apart ∙ t;
@@ -88,12 +106,36 @@ module _ (first at : ℕ) (table : List Shape) (all : List (Fact ℕ)) (node con
             (sym (ap (λ (b : Bool). b || holds old.bearing a)
             (or_none (gives_bearing at table a (Has node concept)) ∙ ap (λ (b : Bool). b && p) not_there))
             ∙ held);
+        bears = λ a lt held. elim (h.bears a lt held) [
+          | inl was ↦ inl was
+          | inr fresh ↦ inr (inr (record {
+            node = node;
+            concept = concept;
+            gives = gives a fresh.0;
+            has_none =
+                none_later old new all node concept (ap (λ (s : Limited). s.limit) h.there)
+                (λ d below was. ap (λ (s : Limited). holds s d) h.there ∙ was) fresh.1;
+          }))
+        ];
         there =
             gains_none old.there new.there _
             (λ c. or_none (puts_at at c (Has node concept)) ∙ ap (λ (b : Bool). b && (concept == c)) not_there)
             h.there;
         own = h.own;
+        owned = λ c lt held. elim (h.owned c lt held) [
+          | inl was ↦ inl was
+          | inr fresh ↦ inr (record {
+            node = node;
+            concept = concept;
+            class = fresh.class;
+            gives = gives fresh.class fresh.shape;
+            holds_it = fresh.holds_it;
+            is_not_top = fresh.is_not_top;
+            is_another = fresh.is_another;
+          })
+        ];
         are_own = λ t. h.are_own;
+        still = λ t are. h.tells_apart ∙ t;
         told = λ x c a high other lt put sh out.
             let t = and_parts (node == x) (concept == c) (sym (or_none (puts_at x c (Has node concept))) ∙ put) in
             subst (λ (y : ℕ). HasOwn new all y c) (eqb-true node x t.0)
@@ -101,6 +143,10 @@ module _ (first at : ℕ) (table : List Shape) (all : List (Fact ℕ)) (node con
             (h.told a (omega (arith, lt, h.limit))
             (ap (shape_of table) (eqb-true concept c t.1) ∙ sh) out));
       }
+    where
+      gives : (a : ℕ) → shape_of table concept ≡ not_name a
+          → GivesComplement first at table (Has node concept ∷ []) node concept a
+      gives a sh = record { is_no_first = no_first; is_other = elsewhere; is_given = given_itself; shape = sh }
 
   -- a first node
   pub told_first : ¬ (node ≡ at) → node < first → new ≡ old
@@ -115,12 +161,15 @@ module _ (first at : ℕ) (table : List Shape) (all : List (Fact ℕ)) (node con
             sym (ap (λ (b : Bool). b || holds old.bearing a)
             (or_none (gives_bearing at table a (Has node concept)) ∙ ap (λ (b : Bool). b && p) not_there))
             ∙ held;
+        bears = λ a lt held. inl held;
         there =
             gains_none old.there old.there _
             (λ c. or_none (puts_at at c (Has node concept)) ∙ ap (λ (b : Bool). b && (concept == c)) not_there)
             refl;
         own = λ c lt held. held;
+        owned = λ c lt held. inl held;
         are_own = λ t h. h;
+        still = λ t h. t;
         told = λ x c a high other lt put sh out.
             let t = and_parts (node == x) (concept == c) (sym (or_none (puts_at x c (Has node concept))) ∙ put) in
             absurd (omega (arith, high, low, eqb-true node x t.0));
@@ -141,7 +190,82 @@ own_later s s' fs x c grows limit own = record {
   is_another = own.is_another;
 }
 
+-- where the node in question has no own concept of another node, it had none before
+pub own_before : (first at : ℕ) (table : List Shape) (all some : List (Fact ℕ)) (old new : SeenSets)
+    → HasTold first at table all some old new → AreOwn new → AreOwn old
+own_before first at table all some old new h are c lt held =
+    false_from_ne_true (holds old.there c) (λ was.
+    both_ways (holds new.there c) (are c (omega (arith, lt, h.there.limit)) (h.own c lt held))
+    (h.there.held c lt ∙ or_right (list_any (puts_at at c) some) (holds old.there c) was))
+
 module _ (first at : ℕ) (table : List Shape) (all fs gs : List (Fact ℕ)) (old mid new : SeenSets) where
+  gives_early : (x c a : ℕ) → GivesComplement first at table fs x c a → GivesComplement first at table (fs ++ gs) x c a
+  gives_early x c a g = record {
+    is_no_first = g.is_no_first;
+    is_other = g.is_other;
+    is_given =
+        list_any-append (puts_at x c) fs gs
+        ∙ or_left (list_any (puts_at x c) fs) (list_any (puts_at x c) gs) g.is_given;
+    shape = g.shape;
+  }
+
+  gives_late : (x c a : ℕ) → GivesComplement first at table gs x c a → GivesComplement first at table (fs ++ gs) x c a
+  gives_late x c a g = record {
+    is_no_first = g.is_no_first;
+    is_other = g.is_other;
+    is_given =
+        list_any-append (puts_at x c) fs gs
+        ∙ or_right (list_any (puts_at x c) fs) (list_any (puts_at x c) gs) g.is_given;
+    shape = g.shape;
+  }
+
+  bears_early : HasTold first at table all gs mid new → (a : ℕ) → BearsBy first at table all fs mid a
+      → BearsBy first at table all (fs ++ gs) new a
+  bears_early k a (inl put) =
+      let p = gives_bearing at table a in
+      inl (list_any-append p fs gs ∙ or_left (list_any p fs) (list_any p gs) put)
+  bears_early k a (inr like) = inr (record {
+    node = like.node;
+    concept = like.concept;
+    gives = gives_early like.node like.concept a like.gives;
+    has_none =
+        none_later mid new all like.node like.concept k.there.limit
+        (λ d lt was. k.there.held d lt ∙ or_right (list_any (puts_at at d) gs) (holds mid.there d) was) like.has_none;
+  })
+
+  bears_late : (a : ℕ) → BearsBy first at table all gs new a → BearsBy first at table all (fs ++ gs) new a
+  bears_late a (inl put) =
+      let p = gives_bearing at table a in
+      inl (list_any-append p fs gs ∙ or_right (list_any p fs) (list_any p gs) put)
+  bears_late a (inr like) = inr (record {
+    node = like.node;
+    concept = like.concept;
+    gives = gives_late like.node like.concept a like.gives;
+    has_none = like.has_none;
+  })
+
+  own_early : (c : ℕ) → IsOwnBy first at table all fs c → IsOwnBy first at table all (fs ++ gs) c
+  own_early c own = record {
+    node = own.node;
+    concept = own.concept;
+    class = own.class;
+    gives = gives_early own.node own.concept own.class own.gives;
+    holds_it = own.holds_it;
+    is_not_top = own.is_not_top;
+    is_another = own.is_another;
+  }
+
+  own_late : (c : ℕ) → IsOwnBy first at table all gs c → IsOwnBy first at table all (fs ++ gs) c
+  own_late c own = record {
+    node = own.node;
+    concept = own.concept;
+    class = own.class;
+    gives = gives_late own.node own.concept own.class own.gives;
+    holds_it = own.holds_it;
+    is_not_top = own.is_not_top;
+    is_another = own.is_another;
+  }
+
   pub told_then : HasTold first at table all fs old mid → HasTold first at table all gs mid new
       → HasTold first at table all (fs ++ gs) old new
   told_then h k = record {
@@ -164,6 +288,14 @@ module _ (first at : ℕ) (table : List Shape) (all fs gs : List (Fact ℕ)) (ol
               (or_right (list_any p gs) (holds mid.bearing a)
               (h.bearing a lt (or_right (list_any p fs) (holds old.bearing a) was)))
         ];
+    bears = λ a lt held.
+        elim (k.bears a (omega (arith, lt, h.limit)) held) [
+          | inl before ↦ elim (h.bears a lt before) [
+            | inl was ↦ inl was
+            | inr early ↦ inr (bears_early k a early)
+          ]
+          | inr late ↦ inr (bears_late a late)
+        ];
     there = record {
       limit = k.there.limit ∙ h.there.limit;
       held = λ c lt.
@@ -174,7 +306,16 @@ module _ (first at : ℕ) (table : List Shape) (all fs gs : List (Fact ℕ)) (ol
           ∙ sym (ap (λ (b : Bool). b || holds old.there c) (list_any-append p fs gs));
     };
     own = λ c lt held. k.own c (omega (arith, lt, h.there.limit)) (h.own c lt held);
+    owned = λ c lt held.
+        elim (k.owned c (omega (arith, lt, h.there.limit)) held) [
+          | inl before ↦ elim (h.owned c lt before) [
+            | inl was ↦ inl was
+            | inr early ↦ inr (own_early c early)
+          ]
+          | inr late ↦ inr (own_late c late)
+        ];
     are_own = λ t own. k.are_own t (h.are_own (k.before t) own);
+    still = λ t own. k.still (h.still t (own_before first at table all gs mid new k own)) own;
     told = λ x c a high other lt put sh out.
         elim (or_cases (list_any (puts_at x c) fs) (list_any (puts_at x c) gs)
         (sym (list_any-append (puts_at x c) fs gs) ∙ put)) [
@@ -225,9 +366,10 @@ told_all first at table all items place s past =
 
 -- a concept of the node in question is no own one of another node, as long as it is known that none is
 pub put_there : (concept : ℕ) (old new : SeenSets) (is_own : Bool) → HasGained (λ c. concept == c) old.there new.there
-    → new.own ≡ old.own → (concept < old.there.limit → is_own ≡ holds old.own concept)
+    → new.own ≡ old.own → old.own.limit ≡ old.there.limit
+    → is_own ≡ (ltb concept old.own.limit && holds old.own concept)
     → new.tells_apart ≡ (old.tells_apart && not is_own) → HasPutThere concept old new
-put_there concept old new is_own gained own is tells = record {
+put_there concept old new is_own gained own limits is tells = record {
   before = λ t. (and_parts old.tells_apart (not is_own) (sym tells ∙ t)).0;
   there = gained;
   own = own;
@@ -236,14 +378,24 @@ put_there concept old new is_own gained own is tells = record {
       let below : c < old.there.limit = omega (arith, lt, gained.limit) in
       let none : is_own ≡ false = not-true is_own (and_parts old.tells_apart (not is_own) (sym tells ∙ t)).1 in
       gained.held c below ∙ ap (λ (b : Bool). b || holds old.there c) (other none c below before) ∙ was c below before;
+  still = λ t are. tells ∙ and_from old.tells_apart (not is_own) t (ap not (none_is are));
 }
   where
     other : is_own ≡ false → (c : ℕ) → c < old.there.limit → holds old.own c ≡ true → (concept == c) ≡ false
     other none c below before = false_from_ne_true (concept == c) (λ h.
         (let e = eqb-true concept c h in
-        let k = is (omega (arith, e, below)) in
-        let l = ap (holds old.own) e in
-        cc))
+        both_ways is_own none
+        (is ∙ and_from (ltb concept old.own.limit) (holds old.own concept)
+        (lt-ltb concept old.own.limit (omega (arith, e, below, limits))) (ap (holds old.own) e ∙ before))))
+
+    none_is : AreOwn new → is_own ≡ false
+    none_is are = false_from_ne_true is_own (λ one.
+        (let t = and_parts (ltb concept old.own.limit) (holds old.own concept) (sym is ∙ one) in
+        let below : concept < old.there.limit = omega (arith, ltb-true concept old.own.limit t.0, limits) in
+        both_ways (holds new.there concept)
+        (are concept (omega (arith, below, gained.limit)) (ap (λ (s : Limited). holds s concept) own ∙ t.1))
+        (gained.held concept below
+        ∙ or_left (concept == concept) (holds old.there concept) (eq-eqb concept concept refl))))
 
 -- first one test and then another
 pub gains_either : (p q : ℕ → Bool) (old mid new : Limited) → HasGained p old mid → HasGained q mid new
@@ -265,10 +417,11 @@ gains_either p q old mid new h k = record {
 
 module _ (table : List Shape) (fs : List (Fact ℕ)) (node concept : ℕ) (old new : SeenSets) where
   -- it is found
-  pub told_by_own : (own : ℕ) → IsOwnConcept old fs node concept own → HasGained (λ c. own == c) old.own new.own
+  pub told_by_own : (own : ℕ) → has_room old.bearing.limit (complement_of (shape_of table concept)) ≡ true
+      → IsOwnConcept old fs node concept own → HasGained (λ c. own == c) old.own new.own
       → old.own.limit ≡ old.there.limit → new.bearing ≡ old.bearing → new.there ≡ old.there
       → new.tells_apart ≡ old.tells_apart → HasToldOther table fs node concept old new
-  told_by_own own is gained limits bearing there tells =
+  told_by_own own room is gained limits bearing there tells =
       let t =
       and_parts ((not (own == 0) && not (own == concept)) && ltb own old.there.limit) (not (holds old.there own))
       is.may_be in
@@ -281,8 +434,14 @@ module _ (table : List Shape) (fs : List (Fact ℕ)) (node concept : ℕ) (old n
         there = there;
         limit = ap (λ (s : Limited). s.limit) bearing;
         bearing = λ a lt held. ap (λ (s : Limited). holds s a) bearing ∙ held;
+        bears = λ a lt held. inl (sym (ap (λ (s : Limited). holds s a) bearing) ∙ held);
         own = λ c lt held.
             gained.held c (omega (arith, lt, limits)) ∙ or_right (own == c) (holds old.own c) held;
+        owned = λ c lt held.
+            elim (or_cases (own == c) (holds old.own c) (sym (gained.held c (omega (arith, lt, limits))) ∙ held)) [
+              | inl here ↦ inr (subst (IsOwnBeside table fs node concept) (eqb-true own c here) (is_beside v))
+              | inr before ↦ inl before
+            ];
         are_own = λ was c lt held.
             ap (λ (s : Limited). holds s c) there
             ∙ still c (omega (arith, lt, there_limit)) (not-true (holds old.there own) t.1) was held;
@@ -293,14 +452,25 @@ module _ (table : List Shape) (fs : List (Fact ℕ)) (node concept : ℕ) (old n
               gained.held own (omega (arith, below, limits))
               ∙ or_left (own == own) (holds old.own own) (eq-eqb own own refl);
           is_within = omega (arith, below, there_limit);
-          is_not_top = λ e. (let k = eq-eqb own 0 e in let l = v.0 in absurd (differs (own == 0) k l));
-          is_another = λ e. (let k = eq-eqb own concept e in let l = v.1 in absurd (differs (own == concept) k l));
+          is_not_top = (is_beside v).is_not_top;
+          is_another = (is_beside v).is_another;
         };
       }
     where
       differs : (b : Bool) → b ≡ true → not b ≡ true → ⊥
       differs true h k = cc
       differs false h k = cc
+
+      is_beside : (not (own == 0) ≡ true) × (not (own == concept) ≡ true) → IsOwnBeside table fs node concept own
+      is_beside v =
+          let found = complement_found old.bearing.limit (shape_of table concept) room in
+          record {
+            class = found.0;
+            shape = found.1;
+            holds_it = is.holds_it;
+            is_not_top = λ e. differs (own == 0) (eq-eqb own 0 e) v.0;
+            is_another = λ e. differs (own == concept) (eq-eqb own concept e) v.1;
+          }
 
       still : (c : ℕ) → c < old.there.limit → holds old.there own ≡ false → AreOwn old → holds new.own c ≡ true
           → holds old.there c ≡ false
@@ -311,14 +481,21 @@ module _ (table : List Shape) (fs : List (Fact ℕ)) (node concept : ℕ) (old n
           ]
 
   -- there is none
-  pub told_by_class : HasGained (λ a. is_complement table a concept) old.bearing new.bearing → new.own ≡ old.own
+  pub told_by_class : HasNoOwn old fs node concept
+      → HasGained (λ a. is_complement table a concept) old.bearing new.bearing → new.own ≡ old.own
       → new.there ≡ old.there → new.tells_apart ≡ old.tells_apart → HasToldOther table fs node concept old new
-  told_by_class gained own there tells = record {
+  told_by_class none gained own there tells = record {
     tells_apart = tells;
     there = there;
     limit = gained.limit;
     bearing = λ a lt held. gained.held a lt ∙ or_right (is_complement table a concept) (holds old.bearing a) held;
+    bears = λ a lt held.
+        elim (or_cases (is_complement table a concept) (holds old.bearing a) (sym (gained.held a lt) ∙ held)) [
+          | inl one ↦ inr (complement_shape a (shape_of table concept) one, none)
+          | inr was ↦ inl was
+        ];
     own = λ c lt held. ap (λ (s : Limited). holds s c) own ∙ held;
+    owned = λ c lt held. inl (sym (ap (λ (s : Limited). holds s c) own) ∙ held);
     are_own = λ was c lt held.
         ap (λ (s : Limited). holds s c) there
         ∙ was c (omega (arith, lt, ap (λ (s : Limited). s.limit) there))
@@ -332,16 +509,21 @@ module _ (table : List Shape) (fs : List (Fact ℕ)) (node concept : ℕ) (old n
   }
 
   -- the concept is no complement of a class for which there is room
-  pub told_by_other : ((a : ℕ) → a < old.bearing.limit → ¬ (complement_of (shape_of table concept) ≡ Some a))
-      → new ≡ old → HasToldOther table fs node concept old new
-  told_by_other none is = subst (HasToldOther table fs node concept old) (sym is) (record {
+  pub told_by_other : has_room old.bearing.limit (complement_of (shape_of table concept)) ≡ false → new ≡ old
+      → HasToldOther table fs node concept old new
+  told_by_other no_room is = subst (HasToldOther table fs node concept old) (sym is) (record {
     tells_apart = refl;
     there = refl;
     limit = refl;
     bearing = λ a lt held. held;
+    bears = λ a lt held. inl held;
     own = λ c lt held. held;
+    owned = λ c lt held. inl held;
     are_own = λ was. was;
-    told = λ a lt sh out. absurd (none a lt (ap complement_of sh));
+    told = λ a lt sh out.
+        absurd
+        (both_ways (has_room old.bearing.limit (complement_of (shape_of table concept))) no_room
+        (ap (λ (s : Shape). has_room old.bearing.limit (complement_of s)) sh ∙ lt-ltb a old.bearing.limit lt));
   })
 
 -- ---- what stays
@@ -367,9 +549,18 @@ module _ (at : ℕ) (table : List Shape) (fs : List (Fact ℕ)) (old mid new : S
         bearing = λ a lt held.
             h.bearing a (omega (arith, lt, bearing_limit))
             (ap (λ (s : Limited). list_any (gives_bearing at table a) fs || holds s a) same.bearing ∙ held);
+        bears = λ a lt held. elim (h.bears a (omega (arith, lt, bearing_limit)) held) [
+          | inl was ↦ inl (sym (ap (λ (s : Limited). holds s a) same.bearing) ∙ was)
+          | inr fresh ↦ inr fresh
+        ];
         there = subst (λ (s : Limited). HasGained (λ c. list_any (puts_at at c) fs) s new.there) same.there h.there;
         own = λ c lt held.
             h.own c (omega (arith, lt, there_limit)) (ap (λ (s : Limited). holds s c) same.own ∙ held);
+        owned = λ c lt held. elim (h.owned c (omega (arith, lt, there_limit)) held) [
+          | inl was ↦ inl (sym (ap (λ (s : Limited). holds s c) same.own) ∙ was)
+          | inr fresh ↦ inr fresh
+        ];
+        still = λ t are. h.still (same.tells_apart ∙ t) are;
         are_own = λ t was.
             h.are_own t (λ c lt held.
             ap (λ (s : Limited). holds s c) same.there
@@ -392,3 +583,14 @@ told_by_both table concept old new mid last one other is puts = record {
       (gains_either (λ a. is_complement table a concept)
       (λ a. has_complement table a (union_parts (shape_of table concept))) old.bearing mid last one other);
 }
+
+-- ---- what the functions cite together
+
+-- an item of a trail
+pub ruleset told_by_item = (nothing_noted, nothing_told, noted_still, told_since)
+
+-- a concept of the node in question, or of a first node
+pub ruleset told_by_node = (told_there, told_first)
+
+-- a concept of another node
+pub ruleset told_by_concept = (told_by_own, told_by_class, told_by_other)

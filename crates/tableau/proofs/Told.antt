@@ -1,9 +1,9 @@
 -- What tells other nodes apart from the node in question, in all trails of a run.
-use Rattle.std.proofs.Common.{◌≡◌, ℕ, zero, suc, ◌+◌, ◌-◌, ◌<◌, ◌≤◌, ◌||◌, min, Bool, true, false, List, [], ◌∷◌, ◌++◌}
-use Rattle.std.proofs.Common.{length, take, drop, Some, refl, ap, ◌∙◌, sym, subst, arith, inl, inr}
+use Rattle.std.proofs.Common.{◌≡◌, ℕ, zero, suc, ◌-◌, ◌<◌, ◌≤◌, ◌&&◌, ◌||◌, eqb, min, Bool, true, false, cond}
+use Rattle.std.proofs.Common.{List, [], ◌∷◌, ◌++◌, length, take, drop, Some, refl, ap, ◌∙◌, sym, subst, arith, inl, inr}
 use Rattle.std.proofs.Common.{length-append, append_assoc}
-use Rattle.std.specs.List.{list_any, slice_get, All}
-use Rattle.std.proofs.lemmas.Bool.{or_cases, or_left, or_right, false_from_ne_true}
+use Rattle.std.specs.List.{list_any, slice_get}
+use Rattle.std.proofs.lemmas.Bool.{or_cases, or_left, or_right, false_from_ne_true, and_parts, eqb-true, both_ways}
 use Rattle.std.proofs.lemmas.List.{append-nil, length-map, length-take-le}
 use Rattle.std.proofs.lemmas.List.Folds.{list_any-append}
 use Rattle.std.proofs.lemmas.List.Elements.{All-weaker, All-cons, All-nil, All-head}
@@ -26,11 +26,14 @@ use Rattle.search_rules.specs.RuleLists.{RuleLists, context_in}
 use Rattle.search_laws.specs.Runs.{was_ever, puts_at}
 use Rattle.search_laws.proofs.Asked.{has_stays}
 use Rattle.search_laws.proofs.Grown.{facts_of-append, facts_of-says}
-use Rattle.tableau.specs.Seen.{SeenSets, holds, no_classes, nothing_seen, gives_bearing, HasOwn, AreOwn, AreToldBy}
-use Rattle.tableau.specs.Seen.{AreToldFrom, AreTold, HasTold, IsToldApart, HasNoted}
+use Rattle.search_laws.proofs.Running.{ever_now}
+use Rattle.tableau.specs.Seen.{SeenSets, holds, no_classes, nothing_seen, gives_bearing, HasOwn, AreToldBy}
+use Rattle.tableau.specs.Seen.{AreToldFrom, AreTold, HasTold, IsToldApart, HasNoted, HasNoOwn, BearsBy, Bears, IsOwnBy}
+use Rattle.tableau.specs.Seen.{IsOwnIn, concept_room}
 use Rattle.tableau.specs.Inside.{HasNotedNew, HasToldNew}
+use Rattle.tableau.proofs.Bearing.{not_own_is_there, contains_first, contains_later, bears_later, not_set_apart}
 use Rattle.tableau.proofs.Noted.{still_ever, none_held}
-use Rattle.tableau.proofs.Telling.{own_later}
+use Rattle.tableau.proofs.Telling.{own_later, own_before}
 
 -- ---- sets that grow
 
@@ -178,7 +181,8 @@ module _ (first at : ℕ) (table : List Shape) where
       let here = told_now s (take n old) front in
       let there : facts_of marked ≡ facts_of (take n old) =
       facts_of-append (take n old) (Mark (next_choice w c) ∷ []) ∙ append-nil (facts_of (take n old)) in
-      told_append s' [] (take n old) (Mark (next_choice w c) ∷ Says f ∷ []) (from_wider s s' wide [] (take n old) front) (
+      told_append s' [] (take n old) (Mark (next_choice w c) ∷ Says f ∷ [])
+      (from_wider s s' wide [] (take n old) front) (
         by_wider s s' wide (facts_of (take n old)) here,
         subst (λ (fs : List (Fact ℕ)). AreToldBy first at table (fs ++ f ∷ []) (fs ++ f ∷ []) s') there
             (told_with s s' wide marked (Says f ∷ []) place
@@ -195,71 +199,203 @@ module _ (first at : ℕ) (table : List Shape) where
 
 -- ---- the start
 
-pub told_at_start : (first at x a b : ℕ) (table : List Shape) (trail : List Item) (count concepts : ℕ) (s : SeenSets)
-    → trail ≡ start x a b → HasNoted at table (facts_of trail) (nothing_seen count concepts) s
-    → HasTold first at table (facts_of trail) (facts_of trail) (nothing_seen count concepts) s → s.tells_apart ≡ true
-    → IsToldApart first at table (trail ∷ []) s
-told_at_start first at x a b table trail count concepts s is noted h tells = record {
-  limit = h.limit ∙ sym noted.at_node.limit;
-  bearing = λ c lt ever.
-      h.bearing c (omega (arith, lt, h.limit))
-      (alone (list_any (gives_bearing at table c) (facts_of trail)) (holds (no_classes count) c) ever);
-  there = λ c lt.
-      h.there.held c (omega (arith, lt, h.there.limit))
-      ∙ ap (λ (t : Bool). list_any (puts_at at c) (facts_of trail) || t) (none_held concepts c);
-  are_own = h.are_own tells (λ c lt held. none_held concepts c);
-  each =
-      All-cons (AreTold first at table s) trail []
-      (subst (AreTold first at table s) (sym is)
-      (subst (λ (t : List Item). AreToldBy first at table (facts_of t) (facts_of t) s) is h.told))
-      (All-nil (AreTold first at table s));
-}
-  where
-    alone : (p q : Bool) → (p || false) ≡ true → (p || q) ≡ true
-    alone true q h = refl
-    alone false q h = cc
+start_puts : (at a b x c : ℕ) → list_any (puts_at x c) (facts_of (start at a b)) ≡ true → x ≡ at
+start_puts at a b x c h =
+    elim (or_cases (eqb at x && eqb a c) ((eqb at x && eqb b c) || false) h) [
+      | inl one ↦ sym (eqb-true at x (and_parts (eqb at x) (eqb a c) one).0)
+      | inr more ↦ elim (or_cases (eqb at x && eqb b c) false more) [
+        | inl other ↦ sym (eqb-true at x (and_parts (eqb at x) (eqb b c) other).0)
+        | inr none ↦ absurd (cc)
+      ]
+    ]
+
+module _ (first at a b : ℕ) (table : List Shape) (trail : List Item) (count concepts : ℕ) (s : SeenSets)
+    (is : trail ≡ start at a b) (noted : HasNoted at table (facts_of trail) (nothing_seen count concepts) s)
+    (h : HasTold first at table (facts_of trail) (facts_of trail) (nothing_seen count concepts) s)
+    (room : concepts ≡ concept_room count (length table)) where
+  alone : (p q : Bool) → (p || false) ≡ true → (p || q) ≡ true
+  alone true q h = refl
+  alone false q h = cc
+
+  bears_at_start : (c : ℕ) → BearsBy first at table (facts_of trail) (facts_of trail) s c
+      → Bears first at table (trail ∷ []) c
+  bears_at_start c (inl put) = inl (ever_now (gives_bearing at table c) trail [] put)
+  bears_at_start c (inr like) =
+      absurd
+      (like.gives.is_other
+      (start_puts at a b like.node like.concept
+      (subst (λ (t : List Item). list_any (puts_at like.node like.concept) (facts_of t) ≡ true) is
+      like.gives.is_given)))
+
+  pub told_at_start : IsToldApart first at table (trail ∷ []) s
+  told_at_start = record {
+    limit = h.limit ∙ sym noted.at_node.limit;
+    there_limit = h.there.limit ∙ room ∙ ap (λ (n : ℕ). concept_room n (length table)) (sym h.limit);
+    bearing = λ c lt ever.
+        h.bearing c (omega (arith, lt, h.limit))
+        (alone (list_any (gives_bearing at table c) (facts_of trail)) (holds (no_classes count) c) ever);
+    bears = λ c lt held. elim (h.bears c (omega (arith, lt, h.limit)) held) [
+      | inl was ↦ absurd (both_ways (holds (no_classes count) c) (none_held count c) was)
+      | inr fresh ↦ bears_at_start c fresh
+    ];
+    there = λ c lt.
+        h.there.held c (omega (arith, lt, h.there.limit))
+        ∙ ap (λ (t : Bool). list_any (puts_at at c) (facts_of trail) || t) (none_held concepts c);
+    own = λ c lt held. elim (h.owned c (omega (arith, lt, h.there.limit)) held) [
+      | inl was ↦ absurd (both_ways (holds (no_classes concepts) c) (none_held concepts c) was)
+      | inr fresh ↦ record { trail = trail; of_run = contains_first trail []; by_trail = fresh }
+    ];
+    tells = (λ tells. h.are_own tells (λ c lt held. none_held concepts c), λ own. h.still refl own);
+    each =
+        All-cons (AreTold first at table s) trail []
+        (subst (AreTold first at table s) (sym is)
+        (subst (λ (t : List Item). AreToldBy first at table (facts_of t) (facts_of t) s) is h.told))
+        (All-nil (AreTold first at table s));
+  }
 
 -- ---- a step of a search
 
-pub told_after : (rules : RuleLists) (first at : ℕ) (old new : List Entry) (earlier : List (List Item))
-    (s s' : SeenSets)
-    → IsLegal (context_in rules) (items_of old) (items_of new) → HasNotedNew rules at (length old) new s s'
-    → HasToldNew rules first at (length old) new s s'
-    → (s.tells_apart ≡ true → IsToldApart first at rules.table (items_of old ∷ earlier) s) → s'.tells_apart ≡ true
-    → IsToldApart first at rules.table (items_of new ∷ items_of old ∷ earlier) s'
-told_after rules first at old new earlier s s' legal noted told before tells =
-    let place = min (length old) (length new - 1) in
-    let le : place ≤ length (items_of old) = omega (arith, length-map old item_of) in
-    let last : place ≤ length (items_of new) - 1 = omega (arith, length-map new item_of) in
-    let was = before (told.before tells) in
-    let table = rules.table in
-    let all : List (List Item) = items_of old ∷ earlier in
-    let wide =
-    wider first at table (facts_in new) (facts_of (drop place (items_of new))) s s' told in
-    let now : AreToldBy first at table (facts_of (items_of new)) (facts_of (drop place (items_of new))) s' =
-    subst (λ (fs : List (Fact ℕ)). AreToldBy first at table fs (facts_of (drop place (items_of new))) s')
-    (sym (facts-items new)) told.told in
-    record {
-      limit = told.limit ∙ was.limit ∙ sym noted.at_node.limit;
-      bearing = λ a lt ever.
-          let p = gives_bearing at table a in
-          let fresh = list_any p (facts_of (drop place (items_of new))) in
-          let below : a < s.bearing.limit = omega (arith, lt, told.limit) in
-          elim (or_cases fresh (was_ever p all)
-          (still_ever p place (context_in rules) (items_of old) (items_of new) earlier (was_ever p all)
-          (fresh || was_ever p all) legal le last refl refl ∙ ever)) [
-            | inl put ↦ told.bearing a below (or_left fresh (holds s.bearing a) put)
-            | inr held ↦ told.bearing a below (or_right fresh (holds s.bearing a) (was.bearing a below held))
-          ];
-      there = λ c lt.
-          let below : c < s.there.limit = omega (arith, lt, told.there.limit) in
-          still_ever (puts_at at c) place (context_in rules) (items_of old) (items_of new) earlier (holds s.there c)
-          (holds s'.there c) legal le last (was.there c below) (told.there.held c below);
-      are_own = told.are_own tells was.are_own;
-      each =
-          All-cons (AreTold first at table s') (items_of new) all
-          (told_step first at table s s' (context_in rules) (items_of old) (items_of new) place wide legal le last
-          (All-head (AreTold first at table s) (items_of old) earlier was.each) now)
-          (All-weaker (AreTold first at table s) (AreTold first at table s')
-          (λ t. from_wider first at table s s' wide [] t) all was.each);
-    }
+any_of_all : (p : Fact ℕ → Bool) (k : ℕ) (is : List Item) → list_any p (facts_of (drop k is)) ≡ true
+    → list_any p (facts_of is) ≡ true
+any_of_all p zero is h = h
+any_of_all p (suc k) [] h = h
+any_of_all p (suc k) (Says f ∷ is) h = or_right (p f) (list_any p (facts_of is)) (any_of_all p k is h)
+any_of_all p (suc k) (Mark c ∷ is) h = any_of_all p k is h
+
+room_for_all : (classes concepts a : ℕ) → a < classes → concept_room classes concepts ≡ concepts
+room_for_all classes concepts a lt =
+    ap (λ (b : Bool). cond b 0 concepts)
+    (false_from_ne_true (eqb classes 0) (λ none. omega (arith, eqb-true classes 0 none, lt)))
+
+module _ (rules : RuleLists) (first at : ℕ) (old new : List Entry) (earlier : List (List Item)) (s s' : SeenSets)
+    (listed : (x c : ℕ) → has (facts_of (items_of new)) x c ≡ true → c < length rules.table)
+    (legal : IsLegal (context_in rules) (items_of old) (items_of new))
+    (noted : HasNotedNew rules at (length old) new s s') (told : HasToldNew rules first at (length old) new s s')
+    (was : IsToldApart first at rules.table (items_of old ∷ earlier) s) where
+  abbrev table : List Shape
+  table = rules.table
+
+  abbrev place : ℕ
+  place = min (length old) (length new - 1)
+
+  abbrev some : List (Fact ℕ)
+  some = facts_of (drop place (items_of new))
+
+  abbrev before : List (List Item)
+  before = items_of old ∷ earlier
+
+  abbrev run : List (List Item)
+  run = items_of new ∷ before
+
+  within : place ≤ length (items_of old)
+  within = omega (arith, length-map old item_of)
+
+  last : place ≤ length (items_of new) - 1
+  last = omega (arith, length-map new item_of)
+
+  wide : IsWider s s'
+  wide = wider first at table (facts_in new) some s s' told
+
+  -- what was put there
+  there_now : (c : ℕ) → c < s'.there.limit → holds s'.there c ≡ was_ever (puts_at at c) run
+  there_now c lt =
+      let below : c < s.there.limit = omega (arith, lt, told.there.limit) in
+      still_ever (puts_at at c) place (context_in rules) (items_of old) (items_of new) earlier (holds s.there c)
+      (holds s'.there c) legal within last (was.there c below) (told.there.held c below)
+
+  bearing_now : (a : ℕ) → a < s'.bearing.limit → was_ever (gives_bearing at table a) run ≡ true
+      → holds s'.bearing a ≡ true
+  bearing_now a lt ever =
+      let p = gives_bearing at table a in
+      let fresh = list_any p some in
+      let below : a < s.bearing.limit = omega (arith, lt, told.limit) in
+      elim (or_cases fresh (was_ever p before)
+      (still_ever p place (context_in rules) (items_of old) (items_of new) earlier (was_ever p before)
+      (fresh || was_ever p before) legal within last refl refl ∙ ever)) [
+        | inl put ↦ told.bearing a below (or_left fresh (holds s.bearing a) put)
+        | inr held ↦ told.bearing a below (or_right fresh (holds s.bearing a) (was.bearing a below held))
+      ]
+
+  -- a node without a concept that may be noted as its own one has none
+  none_there : (a x c : ℕ) → a < s'.bearing.limit → HasNoOwn s' (facts_in new) x c → (own : ℕ)
+      → has (facts_of (items_of new)) x own ≡ true → ¬ (own ≡ 0) → ¬ (own ≡ c)
+      → was_ever (puts_at at own) run ≡ true
+  none_there a x c lt none own held not_top other =
+      let here : has (facts_in new) x own ≡ true =
+      subst (λ (fs : List (Fact ℕ)). has fs x own ≡ true) (facts-items new) held in
+      let limit : s'.there.limit ≡ length rules.table =
+      told.there.limit ∙ was.there_limit
+      ∙ room_for_all s.bearing.limit (length rules.table) a (omega (arith, lt, told.limit)) in
+      let below : own < s'.there.limit = omega (arith, listed x own held, limit) in
+      sym (there_now own below) ∙ not_own_is_there s' own c (none own here) not_top other below
+
+  bears_now : (a : ℕ) → a < s'.bearing.limit → BearsBy first at table (facts_in new) some s' a
+      → Bears first at table run a
+  bears_now a lt (inl put) =
+      let p = gives_bearing at table a in inl (ever_now p (items_of new) before (any_of_all p place (items_of new) put))
+  bears_now a lt (inr like) =
+      inr
+      (not_set_apart first at table a run (items_of new) like.node like.concept (contains_first (items_of new) before)
+      like.gives.is_no_first
+      (any_of_all (puts_at like.node like.concept) place (items_of new) like.gives.is_given) like.gives.shape
+      (none_there a like.node like.concept lt like.has_none))
+
+  own_now : (c : ℕ) → IsOwnBy first at table (facts_in new) some c → IsOwnIn first at table run c
+  own_now c own = record {
+    trail = items_of new;
+    of_run = contains_first (items_of new) before;
+    by_trail = record {
+      node = own.node;
+      concept = own.concept;
+      class = own.class;
+      gives = record {
+        is_no_first = own.gives.is_no_first;
+        is_other = own.gives.is_other;
+        is_given = any_of_all (puts_at own.node own.concept) place (items_of new) own.gives.is_given;
+        shape = own.gives.shape;
+      };
+      holds_it =
+          subst (λ (fs : List (Fact ℕ)). has fs own.node c ≡ true) (sym (facts-items new)) own.holds_it;
+      is_not_top = own.is_not_top;
+      is_another = own.is_another;
+    };
+  }
+
+  own_still : (c : ℕ) → IsOwnIn first at table before c → IsOwnIn first at table run c
+  own_still c own = record {
+    trail = own.trail;
+    of_run = contains_later (items_of new) own.trail before own.of_run;
+    by_trail = own.by_trail;
+  }
+
+  told_now_by : AreToldBy first at table (facts_of (items_of new)) some s'
+  told_now_by =
+      subst (λ (fs : List (Fact ℕ)). AreToldBy first at table fs some s') (sym (facts-items new)) told.told
+
+  pub told_after : IsToldApart first at table run s'
+  told_after = record {
+    limit = told.limit ∙ was.limit ∙ sym noted.at_node.limit;
+    there_limit =
+        told.there.limit ∙ was.there_limit ∙ ap (λ (n : ℕ). concept_room n (length table)) (sym told.limit);
+    bearing = bearing_now;
+    bears = λ a lt held. elim (told.bears a (omega (arith, lt, told.limit)) held) [
+      | inl earlier' ↦
+          bears_later first at table a (items_of new) before (was.bears a (omega (arith, lt, told.limit)) earlier')
+      | inr fresh ↦ bears_now a lt fresh
+    ];
+    there = there_now;
+    own = λ c lt held. elim (told.owned c (omega (arith, lt, told.there.limit)) held) [
+      | inl earlier' ↦ own_still c (was.own c (omega (arith, lt, told.there.limit)) earlier')
+      | inr fresh ↦ own_now c fresh
+    ];
+    tells = (
+      λ tells. told.are_own tells (was.tells.0 (told.before tells)),
+      λ own. told.still (was.tells.1 (own_before first at table (facts_in new) some s s' told own)) own,
+    );
+    each =
+        All-cons (AreTold first at table s') (items_of new) before
+        (told_step first at table s s' (context_in rules) (items_of old) (items_of new) place wide legal within last
+        (All-head (AreTold first at table s) (items_of old) earlier was.each) told_now_by)
+        (All-weaker (AreTold first at table s) (AreTold first at table s')
+        (λ t. from_wider first at table s s' wide [] t) before was.each);
+  }

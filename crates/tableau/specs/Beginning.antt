@@ -138,8 +138,9 @@ pub record GoesOnFrom (b : BeginningLists) (rules : RuleLists) (query : Query) (
   pub goes_on : s.ended ≡ false
   pub whole : s.failed ≡ false
 
--- what is noted of such a search: what was of the beginning, and the two facts of its start, or nothing where it asks
--- for more than whether anything is in its subclass. Other nodes are not told apart
+-- What is noted of such a search: what was of the beginning, and the two facts of its start, or nothing where it asks
+-- for more than whether anything is in its subclass. Other nodes are not told apart, whatever was noted of the
+-- beginning: so all classes whose complement was put anywhere count
 pub record IsSeenBehind (table : List Shape) (at sub not_sup : ℕ) (old new : SeenSets) : Type 0 where
   pub noted : (not_sup == 0) ≡ true → HasNoted at table (Has at sub ∷ Has at not_sup ∷ []) old new
   pub nothing : (not_sup == 0) ≡ false → new ≡ nothing_known

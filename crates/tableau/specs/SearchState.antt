@@ -67,15 +67,18 @@ is_any (Individual a) = false
 abbrev pub room_for : ℕ → On → ℕ → ℕ
 room_for count on not_sup = if is_any on && not_sup == 0 then count else 0
 
--- its run: all its trails, as many as steps were made and the first one, and the classes with which they had to do
+-- Its run: all its trails, as many as steps were made and the first one, and the classes with which they had to do.
+-- Other nodes are told apart from the node in question where the search did not go on behind a beginning: what tells
+-- them apart is not noted of a beginning's run, for the searches that go on from it
 pub record HasRun (s : SearchState) : Type 0 where
   pub earlier : List (List Item)
   pub is_run : IsRun (context_of s) (start (question_of s).at s.sub s.not_sup) (trail_of s ∷ earlier)
   pub counted : length earlier ≡ s.steps
   pub are_over : AreOver (room_for (length s.rules.ontology.classes) s.query.on s.not_sup) s.seen
   pub are_seen : AreSeenIn (question_of s).at s.rules.table (trail_of s ∷ earlier) s.seen
-  pub told_apart : s.seen.tells_apart ≡ true
+  pub told_apart : s.behind ≡ false
       → IsToldApart (context_of s).first (question_of s).at s.rules.table (trail_of s ∷ earlier) s.seen
+  pub not_apart : s.behind ≡ true → s.seen.tells_apart ≡ false
 
 -- a search that begins
 pub record HasBegun (rules : RuleLists) (query : Query) (sub not_sup : ℕ) (s : SearchState) : Type 0 where

@@ -1,6 +1,6 @@
 -- With which classes the run of a search has had to do.
-use Rattle.std.specs.Prelude.{◌≡◌, ℕ, ◌+◌, ◌<◌, ◌≤◌, ◌==◌, ◌&&◌, ◌||◌, not, Bool, true, false, List, [], ◌∷◌, ◌++◌}
-use Rattle.std.specs.Prelude.{Option, Some, None, All, if◌then◌else◌}
+use Rattle.std.specs.Prelude.{◌≡◌, ◌↔◌, ◌⊎◌, ℕ, ◌+◌, ◌<◌, ◌≤◌, ◌==◌, nat_lt, ◌&&◌, ◌||◌, not, Bool, true, false}
+use Rattle.std.specs.Prelude.{List, [], ◌∷◌, ◌++◌, length, Option, Some, None, All, Contains, if◌then◌else◌}
 use Rattle.std.specs.List.{list_any}
 use Rattle.std.specs.FinSet as set
 use Rattle.axiom_sets.specs.Sets.{Limited}
@@ -12,14 +12,15 @@ use Rattle.calculus_specs.specs.declared.facts.Fact.TheVariants.{Has, Edge, Apar
 use Rattle.calculus_specs.specs.State.{has}
 use Rattle.tableau_specs.specs.declared.Item.{Item}
 use Rattle.tableau_specs.specs.declared.Item.TheVariants.{Fact as Says, Mark}
-use Rattle.search_laws.specs.Runs.{was_ever, puts_at}
+use Rattle.tableau_specs.specs.Items.{facts_of}
+use Rattle.search_laws.specs.Runs.{was_ever, puts_at, SetsApart}
 
 -- Sets of classes: those that the node in question was given, and those whose complement bears on it: the complement
 -- was given to some node, or is a part of a union that the node in question was given. Class numbers begin at 0 and
--- members at 1, so class a stands in a set as a + 1. Of the latter classes, those that bear on it even where other nodes
--- that were given a complement are told apart from it. These are told apart by concepts of their own, which stand in a
--- set as classes do, and in another set stand the concepts that the node in question was given. And whether it is known
--- that it was given none of the former, and whether it is known that it was given no more than top
+-- members at 1, so class a stands in a set as a + 1. Of the latter classes, those that bear on it even where other
+-- nodes that were given a complement are told apart from it. These are told apart by concepts of their own, which stand
+-- in a set as classes do, and in another set stand the concepts that the node in question was given. And whether it is
+-- known that it was given none of the former, and whether it is known that it was given no more than top
 pub record SeenSets : Type 0 where
   pub at_node : Limited
   pub complements : Limited
@@ -203,14 +204,79 @@ AreTold first at table s trail = AreToldFrom first at table s [] trail
 abbrev pub AreOwn : SeenSets → Type 0
 AreOwn s = (c : ℕ) → c < s.there.limit → holds s.own c ≡ true → holds s.there c ≡ false
 
--- what is known of a run where other nodes are told apart from the node in question: the classes that bear on it
--- are noted, just the concepts that it was given, as far as the set reaches, and own concepts of other nodes
+-- ---- no more is noted than has to be
+
+-- one of the facts gives concept c, the complement of class a, to node x, which is another than `at` and no first one
+pub record GivesComplement (first at : ℕ) (table : List Shape) (fs : List (Fact ℕ)) (x c a : ℕ) : Type 0 where
+  pub is_no_first : first ≤ x
+  pub is_other : ¬ (x ≡ at)
+  pub is_given : list_any (puts_at x c) fs ≡ true
+  pub shape : shape_of table c ≡ not_name a
+
+-- whether the concept `own` is neither top nor the other one, nor noted as one that the node in question was given
+abbrev pub may_be_own : SeenSets → ℕ → ℕ → Bool
+may_be_own s own concept =
+    ((not (own == 0) && not (own == concept)) && nat_lt own s.there.limit) && not (holds s.there own)
+
+-- by the facts node x has no concept that may be noted as its own one besides c
+abbrev pub HasNoOwn : SeenSets → List (Fact ℕ) → ℕ → ℕ → Type 0
+HasNoOwn s fs x c = (own : ℕ) → has fs x own ≡ true → may_be_own s own c ≡ false
+
+-- some of the facts give the complement of class a to another node, which has no own concept by all of them
+pub record IsLikeThere (first at : ℕ) (table : List Shape) (all some : List (Fact ℕ)) (s : SeenSets) (a : ℕ) :
+    Type 0 where
+  pub node : ℕ
+  pub concept : ℕ
+  pub gives : GivesComplement first at table some node concept a
+  pub has_none : HasNoOwn s all node concept
+
+-- by some of the facts class a bears on the node `at`: they give this node the complement, or a union of which that is
+-- a part, or they give the complement to a node that has no own concept
+abbrev pub BearsBy : ℕ → ℕ → List Shape → List (Fact ℕ) → List (Fact ℕ) → SeenSets → ℕ → Type 0
+BearsBy first at table all some s a =
+    (list_any (gives_bearing at table a) some ≡ true) ⊎ IsLikeThere first at table all some s a
+
+-- some of the facts give the complement of a class to another node, which by all of them has the concept `own` besides
+pub record IsOwnBy (first at : ℕ) (table : List Shape) (all some : List (Fact ℕ)) (own : ℕ) : Type 0 where
+  pub node : ℕ
+  pub concept : ℕ
+  pub class : ℕ
+  pub gives : GivesComplement first at table some node concept class
+  pub holds_it : has all node own ≡ true
+  pub is_not_top : ¬ (own ≡ 0)
+  pub is_another : ¬ (own ≡ concept)
+
+-- so do the facts of some trail of a run
+pub record IsOwnIn (first at : ℕ) (table : List Shape) (run : List (List Item)) (own : ℕ) : Type 0 where
+  pub trail : List Item
+  pub of_run : Contains run trail
+  pub by_trail : IsOwnBy first at table (facts_of trail) (facts_of trail) own
+
+-- for how many concepts there is room, where there is room for so many classes: for all of the table, or for none
+abbrev pub concept_room : ℕ → ℕ → ℕ
+concept_room classes concepts = if classes == 0 then 0 else concepts
+
+-- ---- runs and steps
+
+-- class a bears on the node `at` in a run: the run gave this node the complement, or a union of which that is a part,
+-- or some trail of it gives the complement to another node that is no first one, and has no concept of its own besides
+abbrev pub Bears : ℕ → ℕ → List Shape → List (List Item) → ℕ → Type 0
+Bears first at table run a =
+    (was_ever (gives_bearing at table a) run ≡ true) ⊎ (¬ All (SetsApart first at table run a) run)
+
+-- What is noted of a run to tell other nodes apart from the node in question. A class is noted where the run gave this
+-- node the complement, or a union of which that is a part, and no class is noted that does not bear on this node. Just
+-- the concepts that it was given are noted, and some that are own ones of other nodes. These are told apart just as
+-- long as the node in question was given none of them
 pub record IsToldApart (first at : ℕ) (table : List Shape) (run : List (List Item)) (s : SeenSets) : Type 0 where
   pub limit : s.bearing.limit ≡ s.at_node.limit
+  pub there_limit : s.there.limit ≡ concept_room s.bearing.limit (length table)
   pub bearing : (a : ℕ) → a < s.bearing.limit → was_ever (gives_bearing at table a) run ≡ true
       → holds s.bearing a ≡ true
+  pub bears : (a : ℕ) → a < s.bearing.limit → holds s.bearing a ≡ true → Bears first at table run a
   pub there : (c : ℕ) → c < s.there.limit → holds s.there c ≡ was_ever (puts_at at c) run
-  pub are_own : AreOwn s
+  pub own : (c : ℕ) → c < s.there.limit → holds s.own c ≡ true → IsOwnIn first at table run c
+  pub tells : s.tells_apart ≡ true ↔ AreOwn s
   pub each : All (AreTold first at table s) run
 
 -- some of all facts are noted by these sets
@@ -219,9 +285,14 @@ pub record HasTold (first at : ℕ) (table : List Shape) (all some : List (Fact 
   pub limit : new.bearing.limit ≡ old.bearing.limit
   pub bearing : (a : ℕ) → a < old.bearing.limit
       → (list_any (gives_bearing at table a) some || holds old.bearing a) ≡ true → holds new.bearing a ≡ true
+  pub bears : (a : ℕ) → a < old.bearing.limit → holds new.bearing a ≡ true
+      → (holds old.bearing a ≡ true) ⊎ BearsBy first at table all some new a
   pub there : HasGained (λ c. list_any (puts_at at c) some) old.there new.there
   pub own : (c : ℕ) → c < old.there.limit → holds old.own c ≡ true → holds new.own c ≡ true
+  pub owned : (c : ℕ) → c < old.there.limit → holds new.own c ≡ true
+      → (holds old.own c ≡ true) ⊎ IsOwnBy first at table all some c
   pub are_own : new.tells_apart ≡ true → AreOwn old → AreOwn new
+  pub still : old.tells_apart ≡ true → AreOwn new → new.tells_apart ≡ true
   pub told : AreToldBy first at table all some new
 
 -- the classes that count as those whose complement bears on the node in question

@@ -51,8 +51,8 @@ pub record IsAtRefutation (r : RefutationLists) (s : SearchState) : Type 0 where
   pub refutes : Refutes s.rules s.query r
   pub ended : s.ended ≡ true
 
--- Its trail has a clash, and it has ended. It went on behind the beginning of another search, whose choices its lines do
--- not try out, so that there is no refutation.
+-- Its trail has a clash, and it has ended. It went on behind the beginning of another search, whose choices its lines
+-- do not try out, so that there is no refutation.
 pub record IsLost (s : SearchState) : Type 0 where
   pub has_clash : HasClash (context_of s) (trail_of s)
   pub is_behind : s.behind ≡ true

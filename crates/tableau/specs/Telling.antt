@@ -1,10 +1,12 @@
 -- What one concept of a node does to what tells other nodes apart from the node in question.
-use Rattle.std.specs.Prelude.{◌≡◌, ℕ, ◌+◌, ◌<◌, ◌==◌, nat_lt, ◌&&◌, ◌||◌, not, Bool, true, false, List, ◌++◌}
+use Rattle.std.specs.Prelude.{◌≡◌, ◌⊎◌, ℕ, ◌<◌, ◌==◌, nat_lt, ◌||◌, Bool, true, false, List}
+use Rattle.std.specs.Prelude.{Option, Some, None}
 use Rattle.calculus_specs.specs.Shape.{Shape, shape_of}
 use Rattle.calculus_specs.specs.Shape.Shape.{not_name}
 use Rattle.calculus_specs.specs.declared.facts.Fact.{Fact}
 use Rattle.calculus_specs.specs.State.{has}
 use Rattle.tableau.specs.Seen.{SeenSets, holds, is_complement, has_complement, union_parts, HasGained, AreOwn, HasOwn}
+use Rattle.tableau.specs.Seen.{may_be_own, HasNoOwn}
 
 -- what tells other nodes apart stays
 pub record TellAsBefore (old new : SeenSets) : Type 0 where
@@ -25,6 +27,7 @@ pub record HasPutThere (concept : ℕ) (old new : SeenSets) : Type 0 where
   pub there : HasGained (λ c. concept == c) old.there new.there
   pub own : new.own ≡ old.own
   pub are_own : new.tells_apart ≡ true → AreOwn old → AreOwn new
+  pub still : old.tells_apart ≡ true → AreOwn new → new.tells_apart ≡ true
 
 -- and so is noted what it has to do with complements
 pub record HasToldThere (table : List Shape) (concept : ℕ) (old new : SeenSets) : Type 0 where
@@ -33,24 +36,36 @@ pub record HasToldThere (table : List Shape) (concept : ℕ) (old new : SeenSets
       (λ a. is_complement table a concept || has_complement table a (union_parts (shape_of table concept))) old.bearing
       new.bearing
 
--- whether the concept `own` is neither top nor the other one, nor was given to the node in question
-abbrev pub may_be_own : SeenSets → ℕ → ℕ → Bool
-may_be_own s own concept =
-    ((not (own == 0) && not (own == concept)) && nat_lt own s.there.limit) && not (holds s.there own)
+-- whether a class was found for which there is room, that is below a limit
+abbrev pub has_room : ℕ → Option ℕ → Bool
+has_room limit (Some a) = nat_lt a limit
+has_room limit None = false
 
--- the node has such a concept
+-- the node has a concept that may be noted as its own one
 pub record IsOwnConcept (s : SeenSets) (fs : List (Fact ℕ)) (node concept own : ℕ) : Type 0 where
   pub holds_it : has fs node own ≡ true
   pub may_be : may_be_own s own concept ≡ true
 
+-- the node has a concept besides top and another one, which is the complement of a class
+pub record IsOwnBeside (table : List Shape) (fs : List (Fact ℕ)) (node concept own : ℕ) : Type 0 where
+  pub class : ℕ
+  pub shape : shape_of table concept ≡ not_name class
+  pub holds_it : has fs node own ≡ true
+  pub is_not_top : ¬ (own ≡ 0)
+  pub is_another : ¬ (own ≡ concept)
+
 -- another node was given a concept: where it is the complement of a class, it has an own one besides, or the class
--- bears on the node in question
+-- bears on the node in question. No other class does, and no other concept is noted
 pub record HasToldOther (table : List Shape) (fs : List (Fact ℕ)) (node concept : ℕ) (old new : SeenSets) : Type 0 where
   pub tells_apart : new.tells_apart ≡ old.tells_apart
   pub there : new.there ≡ old.there
   pub limit : new.bearing.limit ≡ old.bearing.limit
   pub bearing : (a : ℕ) → a < old.bearing.limit → holds old.bearing a ≡ true → holds new.bearing a ≡ true
+  pub bears : (a : ℕ) → a < old.bearing.limit → holds new.bearing a ≡ true
+      → (holds old.bearing a ≡ true) ⊎ ((shape_of table concept ≡ not_name a) × HasNoOwn old fs node concept)
   pub own : (c : ℕ) → c < old.there.limit → holds old.own c ≡ true → holds new.own c ≡ true
+  pub owned : (c : ℕ) → c < old.there.limit → holds new.own c ≡ true
+      → (holds old.own c ≡ true) ⊎ IsOwnBeside table fs node concept c
   pub are_own : AreOwn old → AreOwn new
   pub told : (a : ℕ) → a < old.bearing.limit → shape_of table concept ≡ not_name a → holds new.bearing a ≡ false
       → HasOwn new fs node concept

@@ -5,8 +5,8 @@ ghost use Rattle.search_state.specs.Trail.{facts_in};
 ghost use Rattle.search_rules.specs.RuleLists.{context_in};
 ghost use Rattle.search_state.specs.Followed.{IsCurrent};
 ghost use Rattle.search_state.specs.Progress.{IsSearching};
-ghost use Rattle.tableau.specs.Inside.{IsAtQuestion, IsAdvanced, IsNotedAfter, HasNotedNew, IsSettled, goes_on, HasToldNew};
-ghost use Rattle.tableau.specs.Inside.{IsAdvancedElsewhere, IsNotedElsewhere};
+ghost use Rattle.tableau.specs.Inside.{IsAtQuestion, IsAdvanced, IsNotedAfter, HasNotedNew, IsSettled, goes_on};
+ghost use Rattle.tableau.specs.Inside.{IsAdvancedElsewhere, IsNotedElsewhere, HasToldNew};
 
 use crate::NoMemory;
 use crate::closing::close;

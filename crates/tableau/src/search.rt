@@ -6,7 +6,7 @@ ghost use Rattle.tableau_specs.specs.Reached.{start};
 ghost use Rattle.search_rules.specs.Limits.{IsInLimit};
 ghost use Rattle.search_rules.specs.RuleLists.{AreNumbersOf};
 ghost use Rattle.search_state.specs.Trail.{items_of};
-ghost use Rattle.tableau.specs.Seen.{AreOver, AreSeenIn, IsToldApart};
+ghost use Rattle.tableau.specs.Seen.{AreOver, AreSeenIn, IsToldApart, concept_room};
 ghost use Rattle.tableau.specs.SearchState.{is_any, room_for, context_of, tree_in, IsReachedBy, HasRun, HasBegun};
 ghost use Rattle.tableau.specs.SearchState.{HasAllBlocks, IsSameSearch};
 ghost use Rattle.tableau.specs.SearchState.{question_of, trail_of};
@@ -525,8 +525,7 @@ fn first_seen<A: Allocator + Copy>(
 ) -> Result<SeenClasses, NoMemory>
     ensures over { IfOk result (AreOver room) }
     ensures seen { IfOk result (AreSeenIn at rules.now.table (items_of tree.now.entries ∷ [])) }
-    ensures told { IfOk result (λ s. (node a b : ℕ) → items_of tree.now.entries ≡ start node a b
-        → s.tells_apart ≡ true
+    ensures told { IfOk result (λ s. (a b : ℕ) → items_of tree.now.entries ≡ start at a b
         → IsToldApart tree.now.first at rules.now.table (items_of tree.now.entries ∷ []) s) }
 {
     let concepts = concept_room(rules, room);
@@ -536,7 +535,9 @@ fn first_seen<A: Allocator + Copy>(
 }
 
 // Of how many concepts is noted which nodes have them: of each where classes are noted.
-fn concept_room(rules: &SearchRules<'_>, room: u32) -> u32 {
+fn concept_room(rules: &SearchRules<'_>, room: u32) -> u32
+    ensures { result ≡ concept_room room (length rules.now.table) }
+{
     if room == 0 { 0 } else { rules.concepts().len() }
 }
 

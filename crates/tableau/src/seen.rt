@@ -6,11 +6,11 @@ ghost use Rattle.tableau_specs.specs.Items.{facts_of};
 ghost use Rattle.search_state.specs.Trail.{items_of};
 ghost use Rattle.tableau.specs.Seen.{holds, nothing_seen, nothing_known, class_of, complement_of, union_parts, is_one};
 ghost use Rattle.tableau.specs.Seen.{is_complement, has_complement};
-ghost use Rattle.tableau.specs.Seen.{has_seen, counted, HasGained, HasNoted, HasTold};
+ghost use Rattle.tableau.specs.Seen.{has_seen, counted, may_be_own, HasGained, HasNoted, HasTold, HasNoOwn};
 ghost use Rattle.tableau.specs.Telling.{TellAsBefore, NoteAsBefore, HasToldThere, HasPutThere, HasToldOther};
-ghost use Rattle.tableau.specs.Telling.{IsOwnConcept, may_be_own};
+ghost use Rattle.tableau.specs.Telling.{IsOwnConcept, has_room};
 ghost use Rattle.search_state.specs.Trail.{facts_in};
-ghost use Rattle.std.specs.Prelude.{IfSome, Some, false};
+ghost use Rattle.std.specs.Prelude.{nat_lt, false, MatchOption};
 
 use crate::NoMemory;
 use axiom_sets::AxiomSet;
@@ -28,7 +28,8 @@ use std::marker::Model;
 pub struct SeenClasses {
     at_node: AxiomSet,
     complements: AxiomSet,
-    // Of these, the classes that count even where other nodes with a complement are told apart from the node in question.
+    // Of these, the classes that count even where other nodes with a complement are told apart from the node in
+    // question.
     bearing: AxiomSet,
     // Concepts that tell them apart, each number greater by one.
     own: AxiomSet,
@@ -123,7 +124,7 @@ impl SeenClasses {
     }
 
     // Notes what the item gives, if it is a fact that gives a concept.
-    #[tactic(auto, using(crate::proofs::Noting::nothing_noted, crate::proofs::Telling::nothing_told, crate::proofs::Telling::noted_still, crate::proofs::Telling::told_since))]
+    #[tactic(auto, using(crate::proofs::Telling::told_by_item))]
     fn note_item<A: Allocator + Copy, R: Rules>(
         &mut self,
         rules: &R,
@@ -158,7 +159,7 @@ impl SeenClasses {
 
     // Notes what tells other nodes apart from the node in question: the concepts that it is given, and own concepts of
     // other nodes with a complement. First nodes are never blocked.
-    #[tactic(auto, using(crate::proofs::Telling::told_there, crate::proofs::Telling::told_other, crate::proofs::Telling::told_first))]
+    #[tactic(auto, using(crate::proofs::Telling::told_by_node))]
     fn tell<A: Allocator + Copy, R: Rules>(
         &mut self,
         rules: &R,
@@ -203,13 +204,13 @@ impl SeenClasses {
 
     // Whether a concept is one of those that tell other nodes apart.
     fn is_own(&self, concept: u32) -> bool
-        ensures { concept < self.now.there.limit → result ≡ holds self.now.own concept }
+        ensures { result ≡ (nat_lt concept self.now.own.limit && holds self.now.own concept) }
     {
         concept < self.own.limit() && self.own.has(concept + 1)
     }
 
     // Notes a concept of another node. If it is the complement of a class, the node needs an own concept besides.
-    #[tactic(auto, using(crate::proofs::Telling::told_by_own, crate::proofs::Telling::told_by_class, crate::proofs::Telling::told_by_other))]
+    #[tactic(auto, using(crate::proofs::Telling::told_by_concept))]
     fn tell_other<A: Allocator + Copy, R: Rules>(
         &mut self,
         rules: &R,
@@ -232,8 +233,8 @@ impl SeenClasses {
 
     // Whether a concept is the complement of a class for which there is room.
     fn is_counted_complement<R: Rules>(&self, rules: &R, concept: u32) -> bool
-        ensures { result ≡ false → (a : ℕ) → a < self.now.bearing.limit
-            → ¬ (complement_of (shape_of (R.context rules.now).table concept) ≡ Some a) }
+        ensures { result ≡ has_room self.now.bearing.limit
+            (complement_of (shape_of (R.context rules.now).table concept)) }
     {
         match complement_of(rules, concept) {
             Some(class) => class < self.bearing.limit(),
@@ -241,14 +242,16 @@ impl SeenClasses {
         }
     }
 
-    // A concept that a node has besides top and another one, and that the node in question was not given.
+    // A concept that a node has besides top and another one, and that the node in question was not given; none exactly
+    // where there is none.
     fn own_concept<A: Allocator + Copy>(
         &self,
         tree: &Tree<A>,
         node: u32,
         concept: u32,
     ) -> Option<u32>
-        ensures { IfSome result (IsOwnConcept self.now (facts_in tree.now.entries) node concept) }
+        ensures { MatchOption result (HasNoOwn self.now (facts_in tree.now.entries) node concept)
+            (IsOwnConcept self.now (facts_in tree.now.entries) node concept) }
     {
         for own in tree.label(node) {
             if self.may_be_own(*own, concept) {
@@ -293,7 +296,8 @@ impl SeenClasses {
     }
 
     /// What is noted of a beginning, for a search that goes on from it behind the start of another query, which gives
-    /// the node `at` two concepts. The beginning itself is not looked through. Other nodes are not told apart.
+    /// the node `at` two concepts. The beginning itself is not looked through. Other nodes are not told apart, whatever
+    /// was noted of the beginning: what tells them apart there is not looked at again.
     ///
     /// # Errors
     ///

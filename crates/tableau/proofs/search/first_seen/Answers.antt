@@ -24,16 +24,18 @@ returns-clause-seen g c =
     c.note.ensures.noted)
 
 pub returns-clause-told : goal.returns-clause-told
-returns-clause-told g c x a b is tells =
+returns-clause-told g c a b is =
     let table = c.args.rules.now.table in
     let entries = c.args.tree.now.entries in
     let items = items_of entries in
     let first = c.args.tree.now.first in
-    told_at_start first c.args.at x a b table items c.args.room c.concept_room-concepts.result c.note.new.self is
+    told_at_start first c.args.at a b table items c.args.room c.concept_room-concepts.result c.note.new.self is
     (subst (λ (s : SeenSets). HasNoted c.args.at table (facts_of items) s c.note.new.self) c.in_ok-seen.ensures
     c.note.ensures.noted)
-    (subst (λ (fs : List (Fact ℕ)). HasTold first c.args.at table fs (facts_of items) (nothing_seen c.args.room c.concept_room-concepts.result)
-    c.note.new.self) (sym (facts-items entries))
+    (subst
+    (λ (fs : List (Fact ℕ)). HasTold first c.args.at table fs (facts_of items)
+    (nothing_seen c.args.room c.concept_room-concepts.result) c.note.new.self)
+    (sym (facts-items entries))
     (subst (λ (s : SeenSets). HasTold first c.args.at table (facts_in entries) (facts_of items) s c.note.new.self)
     c.in_ok-seen.ensures c.note.ensures.told))
-    tells
+    c.concept_room-concepts.ensures

@@ -1,4 +1,4 @@
-use Rattle.std.proofs.Common.{◌≡◌, ℕ, true, [], ◌∷◌, sym, subst, ◌∙◌}
+use Rattle.std.proofs.Common.{◌≡◌, ℕ, [], ◌∷◌, ap, sym, subst, ◌∙◌}
 use Rattle.search_state.specs.Trail.{TreeEntries, items_of}
 use Rattle.tableau_specs.specs.Reached.{start}
 use Rattle.tableau.specs.Seen.{AreOver, AreSeenIn, IsToldApart}
@@ -29,12 +29,11 @@ invariant_of-result g c =
     c.requires.set c.requires.numbers begun.begun begun.query.0 (begun.query.1 ∙ c.node_in_question-at.ensures)
     begun.numbers.0 begun.numbers.1
     (subst (λ (room : ℕ). AreOver room c.in_ok-seen.seen) c.room_for-room.ensures c.in_ok-seen.ensures.over) seen
-    (λ tells.
-    subst (λ (n : ℕ). IsToldApart n (asked rules c.args.query.now).at rules.table (items_of p.entries ∷ [])
+    (subst (λ (n : ℕ). IsToldApart n (asked rules c.args.query.now).at rules.table (items_of p.entries ∷ [])
     c.in_ok-seen.seen) begun.begun.is_searching.standing.first_is
     (subst (λ (x : ℕ). IsToldApart p.first x rules.table (items_of p.entries ∷ []) c.in_ok-seen.seen)
     c.node_in_question-at.ensures
-    (subst (λ (t : TreeEntries). (node a b : ℕ) → items_of t.entries ≡ start node a b
-    → c.in_ok-seen.seen.tells_apart ≡ true
+    (subst (λ (t : TreeEntries). (a b : ℕ) → items_of t.entries ≡ start c.node_in_question-at.result a b
     → IsToldApart t.first c.node_in_question-at.result rules.table (items_of t.entries ∷ []) c.in_ok-seen.seen)
-    c.tree.ensures c.in_ok-seen.ensures.told p.at p.sub p.not_sup begun.begun.trail_is tells)))
+    c.tree.ensures c.in_ok-seen.ensures.told p.sub p.not_sup
+    (begun.begun.trail_is ∙ ap (λ (x : ℕ). start x p.sub p.not_sup) begun.query.1))))

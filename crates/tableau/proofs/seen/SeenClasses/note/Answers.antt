@@ -1,4 +1,4 @@
-use Rattle.std.proofs.Common.{length, arith, subst, ap, sym}
+use Rattle.std.proofs.Common.{arith}
 use Rattle.std.proofs.lemmas.List.{length-map}
 use Rattle.search_state.specs.Trail.{items_of, item_of, facts_in}
 use Rattle.tableau.specs.Seen.{gives_class, gives_complement}
