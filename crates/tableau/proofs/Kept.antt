@@ -15,8 +15,8 @@ use Rattle.tableau_specs.specs.Steps.{SearchContext, IsLegal, IsSaturated, HasCl
 use Rattle.tableau_specs.specs.declared.Item.{Item}
 use Rattle.search_state.specs.Entry.{Entry}
 use Rattle.search_state.specs.Trail.{items_of, facts_in}
-use Rattle.search_laws.specs.Runs.{IsRun}
-use Rattle.tableau.specs.Seen.{SeenSets, AreOver, AreSeenIn, IsToldApart}
+use Rattle.search_laws.specs.Runs.{IsRun, was_ever}
+use Rattle.tableau.specs.Seen.{SeenSets, gives_more, AreOver, AreSeenIn, IsToldApart}
 use Rattle.search_laws.proofs.Turned.{has_listed}
 use Rattle.tableau_specs.specs.Items.{facts_of}
 use Rattle.tableau_specs.proofs.Listed.{reached_listed}
@@ -43,7 +43,7 @@ use Rattle.tableau.specs.Inside.{end_by, HasToldNew}
 use Rattle.tableau.specs.Beginning.{IsIdle, IsEventElsewhere}
 use Rattle.tableau.specs.Inside.{HasLost, IsClosedBy, IsNotedAfter, IsSettled, IsHalted, goes_on, is_spent}
 use Rattle.tableau.proofs.Reached.{standing_is_reached}
-use Rattle.tableau.proofs.Noted.{over_after, seen_after}
+use Rattle.tableau.proofs.Noted.{over_after, seen_after, bare_after}
 use Rattle.tableau.proofs.Told.{told_after}
 
 -- what is asked over the axioms of the rules' set
@@ -137,9 +137,10 @@ pub begun_is_kept : (rules : RuleLists) (query : Query) (sub not_sup : ℕ) (p :
     → p.at ≡ (asked rules query).at → p.sub ≡ sub → p.not_sup ≡ not_sup
     → AreOver (room_for (length rules.ontology.classes) query.on not_sup) seen
     → AreSeenIn (asked rules query).at rules.table (items_of p.entries ∷ []) seen
+    → (was_ever (gives_more (asked rules query).at) (items_of p.entries ∷ []) ≡ false → seen.bare ≡ true)
     → IsToldApart (context_in rules).first (asked rules query).at rules.table (items_of p.entries ∷ []) seen
     → IsKept (state rules query sub not_sup p seen 0 false false false) p
-begun_is_kept rules query sub not_sup p seen limit set numbers h q at_is s n over seen_is told =
+begun_is_kept rules query sub not_sup p seen limit set numbers h q at_is s n over seen_is bare told =
     let first : items_of p.entries ≡ start (asked rules query).at sub not_sup =
     h.trail_is ∙ (λ i. start (at_is i) (s i) (n i)) in
     searching_is_kept rules query sub not_sup p seen 0 false q at_is h.no_steps h.from_nothing limit set numbers s n
@@ -150,6 +151,7 @@ begun_is_kept rules query sub not_sup p seen limit set numbers h q at_is s n ove
       counted = refl;
       are_over = over;
       are_seen = seen_is;
+      bare = λ from_nothing. bare;
       told_apart = λ from_nothing. told;
       not_apart = λ is_behind. (let k : false ≡ true = is_behind in absurd (cc));
     })
@@ -422,6 +424,12 @@ module _ (rules : RuleLists) (query : Query) (sub not_sup : ℕ) (p p' : Progres
               (sym entries)
               (subst (AreSeenIn (asked rules query).at rules.table (items_of p.entries ∷ run.earlier)) (sym seen_is)
               run.are_seen);
+          bare = λ from_nothing none.
+              ap (λ (u : SeenSets). u.bare) seen_is
+              ∙ run.bare from_nothing
+              (subst
+              (λ (es : List Entry). was_ever (gives_more (asked rules query).at) (items_of es ∷ run.earlier) ≡ false)
+              entries none);
           told_apart = λ from_nothing.
               subst
               (λ (es : List Entry). IsToldApart w.first (asked rules query).at rules.table (items_of es ∷ run.earlier)
@@ -508,6 +516,8 @@ module _ (rules : RuleLists) (query : Query) (sub not_sup : ℕ) (p p' : Progres
               p'.entries seen seen' run.are_over noted;
           are_seen =
               seen_after rules at p.entries p'.entries run.earlier seen seen' moved.is_legal run.are_seen noted_there;
+          bare = λ from_nothing.
+              bare_after rules at p.entries p'.entries run.earlier seen seen' noted_there (run.bare from_nothing);
           told_apart = λ from_nothing.
               told_after rules first at p.entries p'.entries run.earlier seen seen' (listed p' h) moved.is_legal
               noted_there told_there (run.told_apart from_nothing);

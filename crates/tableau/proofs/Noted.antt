@@ -1,6 +1,7 @@
 -- What is noted of a run is what it has put.
-use Rattle.std.proofs.Common.{◌≡◌, ℕ, ◌+◌, ◌-◌, ◌<◌, ◌≤◌, ◌||◌, min, Bool, false, List, [], ◌∷◌, length, drop, ap, ◌∙◌}
-use Rattle.std.proofs.Common.{sym, arith, true}
+use Rattle.std.proofs.Common.{◌≡◌, ℕ, zero, suc, ◌+◌, ◌-◌, ◌<◌, ◌≤◌, ◌||◌, min, not, Bool, true, false, List, [], ◌∷◌}
+use Rattle.std.proofs.Common.{length, drop, ap, ◌∙◌, sym, arith}
+use Rattle.std.proofs.lemmas.Bool.{or_right, or_parts, and_from, false_from_ne_true, both_ways}
 use Rattle.std.specs.List.{list_any}
 use Rattle.std.proofs.lemmas.List.{length-map}
 use Rattle.std.specs.FinSet as set
@@ -9,6 +10,7 @@ use Rattle.std.proofs.Math.Bool.{or_assoc}
 use Rattle.calculus_specs.specs.Shape.{Shape}
 use Rattle.calculus_specs.specs.declared.facts.Fact.{Fact}
 use Rattle.tableau_specs.specs.declared.Item.{Item}
+use Rattle.tableau_specs.specs.declared.Item.TheVariants.{Fact as Says, Mark}
 use Rattle.tableau_specs.specs.Items.{facts_of}
 use Rattle.tableau_specs.specs.Steps.{SearchContext, IsLegal}
 use Rattle.search_state.specs.Entry.{Entry}
@@ -46,7 +48,35 @@ seen_at_start at table first count concepts s noted = record {
   bare = λ still. ap (λ (b : Bool). b || false) (bare_before true s.bare _ noted.bare still).1;
 }
 
+pub bare_at_start : (at : ℕ) (table : List Shape) (first : List Item) (count concepts : ℕ) (s : SeenSets)
+    → HasNoted at table (facts_of first) (nothing_seen count concepts) s
+    → list_any (gives_more at) (facts_of first) ≡ false → s.bare ≡ true
+bare_at_start at table first count concepts s noted none = noted.bare ∙ ap not none
+
 -- ---- a step
+
+-- what some of the facts of a trail do, all of them do
+pub any_of_all : (p : Fact ℕ → Bool) (k : ℕ) (is : List Item) → list_any p (facts_of (drop k is)) ≡ true
+    → list_any p (facts_of is) ≡ true
+any_of_all p zero is h = h
+any_of_all p (suc k) [] h = h
+any_of_all p (suc k) (Says f ∷ is) h = or_right (p f) (list_any p (facts_of is)) (any_of_all p k is h)
+any_of_all p (suc k) (Mark c ∷ is) h = any_of_all p k is h
+
+pub bare_after : (rules : RuleLists) (at : ℕ) (old new : List Entry) (earlier : List (List Item)) (s s' : SeenSets)
+    → HasNotedNew rules at (length old) new s s'
+    → (was_ever (gives_more at) (items_of old ∷ earlier) ≡ false → s.bare ≡ true)
+    → was_ever (gives_more at) (items_of new ∷ items_of old ∷ earlier) ≡ false → s'.bare ≡ true
+bare_after rules at old new earlier s s' noted before none =
+    let p = gives_more at in
+    let place = min (length old) (length new - 1) in
+    let some = list_any p (facts_of (drop place (items_of new))) in
+    let t = or_parts (list_any p (facts_of (items_of new))) (was_ever p (items_of old ∷ earlier)) none in
+    noted.bare
+    ∙ and_from s.bare (not some) (before t.1)
+    (ap not
+    (false_from_ne_true some (λ put.
+    both_ways (list_any p (facts_of (items_of new))) t.0 (any_of_all p place (items_of new) put))))
 
 pub over_after : (count : ℕ) (rules : RuleLists) (at before : ℕ) (new : List Entry) (s s' : SeenSets) → AreOver count s
     → HasNotedNew rules at before new s s' → AreOver count s'

@@ -32,7 +32,7 @@ use Rattle.tableau.specs.Seen.{AreToldFrom, AreTold, HasTold, IsToldApart, HasNo
 use Rattle.tableau.specs.Seen.{IsOwnIn, concept_room}
 use Rattle.tableau.specs.Inside.{HasNotedNew, HasToldNew}
 use Rattle.tableau.proofs.Bearing.{not_own_is_there, contains_first, contains_later, bears_later, not_set_apart}
-use Rattle.tableau.proofs.Noted.{still_ever, none_held}
+use Rattle.tableau.proofs.Noted.{still_ever, none_held, any_of_all}
 use Rattle.tableau.proofs.Telling.{own_later, own_before}
 
 -- ---- sets that grow
@@ -254,13 +254,6 @@ module _ (first at a b : ℕ) (table : List Shape) (trail : List Item) (count co
   }
 
 -- ---- a step of a search
-
-any_of_all : (p : Fact ℕ → Bool) (k : ℕ) (is : List Item) → list_any p (facts_of (drop k is)) ≡ true
-    → list_any p (facts_of is) ≡ true
-any_of_all p zero is h = h
-any_of_all p (suc k) [] h = h
-any_of_all p (suc k) (Says f ∷ is) h = or_right (p f) (list_any p (facts_of is)) (any_of_all p k is h)
-any_of_all p (suc k) (Mark c ∷ is) h = any_of_all p k is h
 
 room_for_all : (classes concepts a : ℕ) → a < classes → concept_room classes concepts ≡ concepts
 room_for_all classes concepts a lt =

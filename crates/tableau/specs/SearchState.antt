@@ -12,8 +12,8 @@ use Rattle.search_state.specs.Entry.{Entry}
 use Rattle.search_state.specs.Trail.{TreeEntries, items_of, facts_in}
 use Rattle.search_state.specs.Followed.{Printed, IsCurrent}
 use Rattle.search_rules.specs.RuleLists.{RuleLists, numbers_in, context_in}
-use Rattle.search_laws.specs.Runs.{IsRun}
-use Rattle.tableau.specs.Seen.{SeenSets, AreOver, AreSeenIn, IsToldApart}
+use Rattle.search_laws.specs.Runs.{IsRun, was_ever}
+use Rattle.tableau.specs.Seen.{SeenSets, gives_more, AreOver, AreSeenIn, IsToldApart}
 
 -- the rules and the query, the numbers of what the query asks, how many first nodes there are, the entries of the
 -- trail, what is known of blocked nodes, the classes with which its run had to do, how many steps were made, whether
@@ -68,14 +68,17 @@ abbrev pub room_for : ℕ → On → ℕ → ℕ
 room_for count on not_sup = if is_any on && not_sup == 0 then count else 0
 
 -- Its run: all its trails, as many as steps were made and the first one, and the classes with which they had to do.
--- Other nodes are told apart from the node in question where the search did not go on behind a beginning: what tells
--- them apart is not noted of a beginning's run, for the searches that go on from it
+-- Where the search did not go on behind a beginning, it is known whether the run gave the node in question no more than
+-- top, and other nodes are told apart from this node. What tells them apart is not noted of a beginning's run, for the
+-- searches that go on from it
 pub record HasRun (s : SearchState) : Type 0 where
   pub earlier : List (List Item)
   pub is_run : IsRun (context_of s) (start (question_of s).at s.sub s.not_sup) (trail_of s ∷ earlier)
   pub counted : length earlier ≡ s.steps
   pub are_over : AreOver (room_for (length s.rules.ontology.classes) s.query.on s.not_sup) s.seen
   pub are_seen : AreSeenIn (question_of s).at s.rules.table (trail_of s ∷ earlier) s.seen
+  pub bare : s.behind ≡ false → was_ever (gives_more (question_of s).at) (trail_of s ∷ earlier) ≡ false
+      → s.seen.bare ≡ true
   pub told_apart : s.behind ≡ false
       → IsToldApart (context_of s).first (question_of s).at s.rules.table (trail_of s ∷ earlier) s.seen
   pub not_apart : s.behind ≡ true → s.seen.tells_apart ≡ false

@@ -6,7 +6,9 @@ ghost use Rattle.tableau_specs.specs.Reached.{start};
 ghost use Rattle.search_rules.specs.Limits.{IsInLimit};
 ghost use Rattle.search_rules.specs.RuleLists.{AreNumbersOf};
 ghost use Rattle.search_state.specs.Trail.{items_of};
-ghost use Rattle.tableau.specs.Seen.{AreOver, AreSeenIn, IsToldApart, concept_room};
+ghost use Rattle.std.specs.List.{list_any};
+ghost use Rattle.tableau_specs.specs.Items.{facts_of};
+ghost use Rattle.tableau.specs.Seen.{AreOver, AreSeenIn, IsToldApart, concept_room, gives_more};
 ghost use Rattle.tableau.specs.SearchState.{is_any, room_for, context_of, tree_in, IsReachedBy, HasRun, HasBegun};
 ghost use Rattle.tableau.specs.SearchState.{HasAllBlocks, IsSameSearch};
 ghost use Rattle.tableau.specs.SearchState.{question_of, trail_of};
@@ -525,6 +527,8 @@ fn first_seen<A: Allocator + Copy>(
 ) -> Result<SeenClasses, NoMemory>
     ensures over { IfOk result (AreOver room) }
     ensures seen { IfOk result (AreSeenIn at rules.now.table (items_of tree.now.entries ∷ [])) }
+    ensures bare { IfOk result (λ s. list_any (gives_more at) (facts_of (items_of tree.now.entries)) ≡ false
+        → s.bare ≡ true) }
     ensures told { IfOk result (λ s. (a b : ℕ) → items_of tree.now.entries ≡ start at a b
         → IsToldApart tree.now.first at rules.now.table (items_of tree.now.entries ∷ []) s) }
 {

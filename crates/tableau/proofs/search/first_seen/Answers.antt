@@ -4,7 +4,7 @@ use Rattle.calculus_specs.specs.declared.facts.Fact.{Fact}
 use Rattle.tableau_specs.specs.Items.{facts_of}
 use Rattle.search_state.proofs.Entries.{facts-items}
 use Rattle.tableau.specs.Seen.{SeenSets, nothing_seen, HasNoted, HasTold}
-use Rattle.tableau.proofs.Noted.{over_at_start, seen_at_start}
+use Rattle.tableau.proofs.Noted.{over_at_start, seen_at_start, bare_at_start}
 use Rattle.tableau.proofs.Told.{told_at_start}
 use Rattle.tableau.proofs.search.first_seen.Goals as goal
 
@@ -20,6 +20,14 @@ returns-clause-seen g c =
     let table = c.args.rules.now.table in
     let items = items_of c.args.tree.now.entries in
     seen_at_start c.args.at table items c.args.room c.concept_room-concepts.result c.note.new.self
+    (subst (λ (s : SeenSets). HasNoted c.args.at table (facts_of items) s c.note.new.self) c.in_ok-seen.ensures
+    c.note.ensures.noted)
+
+pub returns-clause-bare : goal.returns-clause-bare
+returns-clause-bare g c =
+    let table = c.args.rules.now.table in
+    let items = items_of c.args.tree.now.entries in
+    bare_at_start c.args.at table items c.args.room c.concept_room-concepts.result c.note.new.self
     (subst (λ (s : SeenSets). HasNoted c.args.at table (facts_of items) s c.note.new.self) c.in_ok-seen.ensures
     c.note.ensures.noted)
 

@@ -1,7 +1,10 @@
-use Rattle.std.proofs.Common.{◌≡◌, ℕ, [], ◌∷◌, ap, sym, subst, ◌∙◌}
+use Rattle.std.proofs.Common.{◌≡◌, ℕ, true, false, [], ◌∷◌, ap, sym, subst, ◌∙◌}
+use Rattle.std.specs.List.{list_any}
+use Rattle.std.proofs.lemmas.Bool.{or_parts}
+use Rattle.tableau_specs.specs.Items.{facts_of}
 use Rattle.search_state.specs.Trail.{TreeEntries, items_of}
 use Rattle.tableau_specs.specs.Reached.{start}
-use Rattle.tableau.specs.Seen.{AreOver, AreSeenIn, IsToldApart}
+use Rattle.tableau.specs.Seen.{gives_more, AreOver, AreSeenIn, IsToldApart}
 use Rattle.search_rules.specs.RuleLists.{context_in}
 use Rattle.search_state.specs.Progress.{IsAsked}
 use Rattle.tableau.proofs.Kept.{asked, begun_is_kept, is_asked}
@@ -29,6 +32,14 @@ invariant_of-result g c =
     c.requires.set c.requires.numbers begun.begun begun.query.0 (begun.query.1 ∙ c.node_in_question-at.ensures)
     begun.numbers.0 begun.numbers.1
     (subst (λ (room : ℕ). AreOver room c.in_ok-seen.seen) c.room_for-room.ensures c.in_ok-seen.ensures.over) seen
+    (λ none.
+    subst (λ (x : ℕ). list_any (gives_more x) (facts_of (items_of p.entries)) ≡ false → c.in_ok-seen.seen.bare ≡ true)
+    c.node_in_question-at.ensures
+    (subst
+    (λ (t : TreeEntries). list_any (gives_more c.node_in_question-at.result) (facts_of (items_of t.entries)) ≡ false
+    → c.in_ok-seen.seen.bare ≡ true)
+    c.tree.ensures c.in_ok-seen.ensures.bare)
+    (or_parts (list_any (gives_more (asked rules c.args.query.now).at) (facts_of (items_of p.entries))) false none).0)
     (subst (λ (n : ℕ). IsToldApart n (asked rules c.args.query.now).at rules.table (items_of p.entries ∷ [])
     c.in_ok-seen.seen) begun.begun.is_searching.standing.first_is
     (subst (λ (x : ℕ). IsToldApart p.first x rules.table (items_of p.entries ∷ []) c.in_ok-seen.seen)
