@@ -2,7 +2,7 @@
 use Rattle.std.proofs.Common.{◌≡◌, ℕ, zero, suc, ◌<◌, ◌⊎◌, eqb, Bool, true, false, List, [], ◌∷◌, ◌++◌, length, Some}
 use Rattle.std.proofs.Common.{refl, ap, ◌∙◌, sym, subst, arith, inl, inr, eq-eqb, length-append}
 use Rattle.std.proofs.lemmas.List.{append-nil, get_or_push}
-use Rattle.std.proofs.lemmas.List.Elements.{All-weaker}
+use Rattle.std.proofs.lemmas.List.Elements.{All-weaker, All-head, All-tail}
 use Rattle.std.proofs.lemmas.Bool.{cases_Bool, cases_lt, eqb-true}
 use Rattle.calculus_specs.specs.Concept.{Concept, top as concept_top, name, complement}
 use Rattle.calculus_specs.specs.Rules.{Question}
@@ -18,13 +18,13 @@ use Rattle.tableau_specs.specs.declared.Item.{Item}
 use Rattle.tableau_specs.specs.Steps.{IsSaturated}
 use Rattle.tableau_specs.specs.Reached.{FactsHaveNumbers, start, context_of}
 use Rattle.tableau_specs.proofs.Listed.{listed}
-use Rattle.search_laws.specs.Runs.{IsRun, LeavesOut}
+use Rattle.search_laws.specs.Runs.{IsRun, before_nodes, SetsApart, LeavesOut}
 use Rattle.search_laws.specs.ReuseLaws.{EndsSaturated, with_sup, OneRunAnswersMore}
 use Rattle.search_laws.proofs.LongerGiven.{facts_up}
 use Rattle.search_laws.proofs.ReuseSetting.{short, IsSetting}
 use Rattle.tableau_specs.specs.Items.{facts_of}
 use Rattle.search_laws.proofs.Stepping.{saturated}
-use Rattle.search_laws.proofs.Running.{leaves_out_before, followed, unnamed_setting}
+use Rattle.search_laws.proofs.Running.{PutsNoMore, followed, besides, unnamed_setting}
 
 -- ---- the number of the complement
 
@@ -91,30 +91,36 @@ choice_up theory table more rows h = record {
 module _ (q : Question) (table : List Shape) (rows : List Row) (home number a : ℕ) (good : IsTable table)
     (fits : IsChoice q.theory table rows) (have : FactsHaveNumbers q table) (is_first : q.at < q.first)
     (number_listed : number < length table) (number_reads : tree_of table number ≡ normal_form q.sub)
-    (Leaves : List (List Item) → Type 0)
-    (out : (run : List (List Item)) → Leaves run → LeavesOut q.first q.at table run a)
-    (shorter : (trail : List Item) (earlier : List (List Item)) → Leaves (trail ∷ earlier) → Leaves earlier)
-    (set_of : (more : List Shape) (n : ℕ) → IsTable (table ++ more) → shape_of (table ++ more) n ≡ not_name a
-    → (rest : List Item) (earlier : List (List Item))
-    → IsRun (context_of q table rows) (start home number 0) ((start home number 0 ++ rest) ∷ earlier)
-    → Leaves ((start home number 0 ++ rest) ∷ earlier) → IsSetting q table more home number n a (facts_of rest))
     (trail : List Item) (earlier : List (List Item))
     (run : IsRun (context_of q table rows) (start home number 0) (trail ∷ earlier))
-    (sat : IsSaturated (context_of q table rows) trail) (h : Leaves (trail ∷ earlier)) where
+    (sat : IsSaturated (context_of q table rows) trail) (h : LeavesOut q.first q.at table (trail ∷ earlier) a)
+    (set_of : (more : List Shape) (n : ℕ) → IsTable (table ++ more) → shape_of (table ++ more) n ≡ not_name a
+    → (rest : List Item) (before : List (List Item))
+    → IsRun (context_of q table rows) (start home number 0) ((start home number 0 ++ rest) ∷ before)
+    → PutsNoMore ((start home number 0 ++ rest) ∷ before) (trail ∷ earlier)
+    → IsSetting q table more home number n a (facts_of rest)) where
   -- over the table, or one that has grown
   answers : (more : List Shape) (n : ℕ) → IsTable (table ++ more)
       → (table ++ more ≡ table) ⊎ (table ++ more ≡ table ++ not_name a ∷ [])
       → shape_of (table ++ more) n ≡ not_name a
       → EndsSaturated table rows a (with_sup q (name a)) (length earlier)
   answers more n longer is_longer shape_n =
+      let all : List (List Item) = trail ∷ earlier in
+      let Apart : List Item → Type 0 = SetsApart q.first q.at table all a in
+      let inside : PutsNoMore all all = λ p ever. ever in
       let f =
-      followed q table more rows good fits n a shape_n home number number_listed Leaves out shorter
-      (set_of more n longer shape_n) trail earlier run h in
+      followed q table more rows good fits n a shape_n home number number_listed all h (set_of more n longer shape_n)
+      trail earlier run inside (All-tail Apart trail (before_nodes q.first all) h.complement_is_apart) in
       let w = short q table more rows in
-      let set =
-      set_of more n longer shape_n f.rest earlier
-      (subst (λ (is : List Item). IsRun w (start home number 0) (is ∷ earlier)) f.splits run)
-      (subst (λ (is : List Item). Leaves (is ∷ earlier)) f.splits h) in
+      let last : List Item = start home number 0 ++ f.rest in
+      let run_of : IsRun w (start home number 0) (last ∷ earlier) =
+      subst (λ (is : List Item). IsRun w (start home number 0) (is ∷ earlier)) f.splits run in
+      let put : PutsNoMore (last ∷ earlier) all =
+      subst (λ (is : List Item). PutsNoMore (is ∷ earlier) all) f.splits inside in
+      let set = set_of more n longer shape_n f.rest earlier run_of put in
+      let own =
+      besides q table more rows good fits n a shape_n home number number_listed f.rest earlier run_of all put set.stays
+      set.alone h (subst Apart f.splits (All-head Apart trail (before_nodes q.first all) h.complement_is_apart)) in
       let n_listed : n < length (table ++ more) = listed (table ++ more) n (λ k. (let l = sym shape_n ∙ k in cc)) in
       record {
         longer = table ++ more;
@@ -134,7 +140,7 @@ module _ (q : Question) (table : List Shape) (rows : List Row) (home number a : 
           follows = f.follows;
         };
         is_saturated =
-            saturated q table more rows good n a shape_n home number f.rest set longer have
+            saturated q table more rows good n a shape_n home number f.rest set longer have own
             (subst (IsSaturated w) f.splits sat);
       }
 
@@ -154,8 +160,6 @@ module _ (q : Question) (table : List Shape) (rows : List Row) (home number a : 
 pub one_run_answers_more : OneRunAnswersMore
 one_run_answers_more q table rows number k a trail earlier good fits have is_first unnamed lt reads run steps sat out =
     subst (EndsSaturated table rows a (with_sup q (name a))) steps
-    (answered q table rows q.at number a good fits have is_first lt reads (λ r. LeavesOut q.first q.at table r a)
-    (λ r h. h)
-    (λ t e h. leaves_out_before q.first q.at table a t e h)
-    (λ more n longer shape_n. unnamed_setting q table more rows good fits n a shape_n number lt is_first unnamed) trail
-    earlier run sat out)
+    (answered q table rows q.at number a good fits have is_first lt reads trail earlier run sat out
+    (λ more n longer shape_n. unnamed_setting q table more rows good fits n a shape_n number lt is_first unnamed
+    (trail ∷ earlier) out))

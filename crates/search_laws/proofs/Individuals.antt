@@ -2,7 +2,7 @@
 use Rattle.std.proofs.Common.{◌≡◌, ℕ, ◌<◌, ◌||◌, eqb, Bool, true, false, List, [], ◌∷◌, ◌++◌, length, refl, ap}
 use Rattle.std.proofs.Common.{◌∙◌, sym, subst, arith, inr, eq-eqb}
 use Rattle.std.specs.List.{list_any}
-use Rattle.std.proofs.lemmas.Bool.{or_left, or_right, and_parts, eqb-true, ltb-true}
+use Rattle.std.proofs.lemmas.Bool.{or_left, or_right, and_parts, eqb-true, ltb-true, false_from_ne_true}
 use Rattle.calculus_specs.specs.Concept.{name}
 use Rattle.calculus_specs.specs.Normal.{negated_form}
 use Rattle.calculus_specs.specs.Shape.{Shape, shape_of, has_parts_below, IsTable}
@@ -19,12 +19,12 @@ use Rattle.tableau_specs.specs.declared.Item.{Item}
 use Rattle.tableau_specs.specs.Items.{facts_of}
 use Rattle.tableau_specs.specs.Reached.{start}
 use Rattle.tableau_specs.proofs.Listed.{listed, most_listed}
-use Rattle.search_laws.specs.Runs.{IsRun, was_ever, puts, joins_node, has_filler, LeavesOutAt}
+use Rattle.search_laws.specs.Runs.{IsRun, joins_node, has_filler, LeavesOutAt}
 use Rattle.search_laws.specs.ReuseLaws.{EndsSaturated, about, OneRunAnswersOfIndividuals}
 use Rattle.search_laws.proofs.Root.{merged_root, merged_stays}
 use Rattle.search_laws.proofs.Turned.{old_facts}
 use Rattle.search_laws.proofs.ReuseSetting.{short, IsSetting}
-use Rattle.search_laws.proofs.Running.{leaves_out_before, is_complement, not_top, now_listed, was_put, besides}
+use Rattle.search_laws.proofs.Running.{PutsNoMore, ever_now, is_complement, not_top, now_listed, was_put}
 use Rattle.search_laws.proofs.Running.{lacks_class, no_part}
 use Rattle.search_laws.proofs.Answering.{complement_tree, zero_tree, answered}
 
@@ -105,47 +105,37 @@ module _ (table : List Shape) (good : IsTable table) (c s e : ℕ) (is : has_fil
 
 -- ---- the law
 
-at_before : (first at : ℕ) (table : List Shape) (a : ℕ) (trail : List Item) (earlier : List (List Item))
-    → LeavesOutAt first at table (trail ∷ earlier) a → LeavesOutAt first at table earlier a
-at_before first at table a trail earlier h = record {
-  leaves_out = leaves_out_before first at table a trail earlier h.leaves_out;
-  is_never_joined =
-      (none_of (list_any (joins_node at) (facts_of trail)) (was_ever (joins_node at) earlier) h.is_never_joined).1;
-  complement_is_no_filler = λ c s e ever.
-      h.complement_is_no_filler c s e (or_right (list_any (puts c) (facts_of trail)) (was_ever (puts c) earlier) ever);
-  class_is_not_counted = λ c m s e ever.
-      h.class_is_not_counted c m s e (or_right (list_any (puts c) (facts_of trail)) (was_ever (puts c) earlier) ever);
-}
-
 module _ (q : Question) (table more : List Shape) (rows : List Row) (good : IsTable table)
     (longer : IsTable (table ++ more)) (fits : IsChoice q.theory table rows) (n a : ℕ)
     (shape_n : shape_of (table ++ more) n ≡ not_name a) (home : ℕ) (is_first : q.at < q.first) (rest : List Item)
     (earlier : List (List Item))
     (run : IsRun (short q table more rows) (start home 0 0) ((start home 0 0 ++ rest) ∷ earlier))
-    (h : LeavesOutAt q.first q.at table ((start home 0 0 ++ rest) ∷ earlier) a) where
+    (all : List (List Item)) (inside : PutsNoMore ((start home 0 0 ++ rest) ∷ earlier) all)
+    (h : LeavesOutAt q.first q.at table all a) where
   abbrev now : List (Fact ℕ)
   now = old_facts home q.at 0 n (facts_of rest)
 
   alone : IsAlone q.at now
-  alone =
-      is_alone q.at now
-      (none_of (list_any (joins_node q.at) now) (was_ever (joins_node q.at) earlier) h.is_never_joined).0
+  alone = is_alone q.at now (false_from_ne_true (list_any (joins_node q.at) now) (λ joined.
+      (let k = inside (joins_node q.at) (ever_now (joins_node q.at) (start home 0 0 ++ rest) earlier joined) in
+      let l = h.is_never_joined in
+      cc)))
 
   pub individual_setting : IsSetting q table more home 0 n a (facts_of rest)
   individual_setting = record {
-    known = now_listed q table more rows good fits n a shape_n home 0 good.has_top rest earlier run h.leaves_out;
+    known = now_listed q table more rows good fits n a shape_n home 0 good.has_top rest earlier run;
     moves = inr refl;
     fillers = λ x c s e held is y edge root.
         let e_listed = filler_listed table good c s e is in
         h.complement_is_no_filler c s e
-        (was_put q table more rows good fits n a shape_n home 0 good.has_top rest earlier run h.leaves_out x c
+        (was_put q table more rows good fits n a shape_n home 0 good.has_top rest earlier run all inside x c
         (asks_no_top table good c s e is) held) is
         (subst (λ (d : ℕ). shape_of table d ≡ not_name a) root.1
         (is_complement q table more rows good fits n a shape_n home 0 good.has_top (omega (arith, root.1, e_listed))));
     complements = λ x c m s e d held sh neg y edge root.
         let e_listed = most_listed (short q table more rows) good c m s e sh in
         h.class_is_not_counted c m s e
-        (was_put q table more rows good fits n a shape_n home 0 good.has_top rest earlier run h.leaves_out x c
+        (was_put q table more rows good fits n a shape_n home 0 good.has_top rest earlier run all inside x c
         (not_top q table more rows good fits n a shape_n home 0 good.has_top c (at_most m s e) (λ k. cc) sh) held) sh
         (ap negated_form (sym (tree_of-append table more e e_listed)) ∙ sym neg.negates
         ∙ ap (tree_of (table ++ more)) (sym root.1) ∙ complement_tree (table ++ more) longer n a shape_n);
@@ -153,22 +143,18 @@ module _ (q : Question) (table more : List Shape) (rows : List Row) (good : IsTa
     stays = alone.stays;
     is_first = is_first;
     lacks_class =
-        lacks_class q table more rows good fits n a shape_n home 0 good.has_top rest earlier run h.leaves_out
-        alone.stays alone.alone;
+        lacks_class q table more rows good fits n a shape_n home 0 good.has_top rest earlier run all inside alone.stays
+        alone.alone h.leaves_out;
     no_part =
-        no_part q table more rows good fits n a shape_n home 0 good.has_top rest earlier run h.leaves_out alone.stays
-        alone.alone;
-    besides =
-        besides q table more rows good fits n a shape_n home 0 good.has_top rest earlier run h.leaves_out alone.stays
-        alone.alone;
+        no_part q table more rows good fits n a shape_n home 0 good.has_top rest earlier run all inside alone.stays
+        alone.alone h.leaves_out;
   }
 
 pub one_run_answers_of_individuals : OneRunAnswersOfIndividuals
 one_run_answers_of_individuals q table rows k at a trail earlier good fits have is_first run steps sat out =
     let asked = about q at (name a) in
     subst (EndsSaturated table rows a asked) steps
-    (answered asked table rows q.at 0 a good fits have is_first good.has_top (zero_tree table good)
-    (λ r. LeavesOutAt q.first at table r a) (λ r h. h.leaves_out) (λ t e h. at_before q.first at table a t e h)
-    (λ more n longer shape_n rest e r h. individual_setting asked table more rows good longer fits n a shape_n q.at
-    is_first rest e r h) trail
-    earlier run sat out)
+    (answered asked table rows q.at 0 a good fits have is_first good.has_top (zero_tree table good) trail earlier run
+    sat out.leaves_out
+    (λ more n longer shape_n rest before begun inside. individual_setting asked table more rows good longer fits n a
+    shape_n q.at is_first rest before begun (trail ∷ earlier) inside out))

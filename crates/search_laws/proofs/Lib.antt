@@ -46,6 +46,7 @@ pub mod Turned
 pub mod TurnedBlocks
 pub mod Root
 pub mod LongerGiven
+pub mod BeforeNodes
 pub mod ReuseSetting
 pub mod Stepping
 pub mod Running

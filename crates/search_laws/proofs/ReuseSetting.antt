@@ -59,7 +59,6 @@ pub record IsSetting (q : Question) (table more : List Shape) (home sub n a : �
   pub lacks_class : (c : ℕ) → has (old_facts home q.at sub n gs) q.at c ≡ true → ¬ (shape_of table c ≡ name_shape a)
   pub no_part : (c : ℕ) (parts : List ℕ) → has (old_facts home q.at sub n gs) q.at c ≡ true
       → shape_of table c ≡ union parts → ¬ Contains parts n
-  pub besides : HaveBesides q.first q.at n (old_facts home q.at sub n gs)
 
 module _ (q : Question) (table more : List Shape) (rows : List Row) (good : IsTable table) (n a : ℕ)
     (shape_n : shape_of (table ++ more) n ≡ not_name a) where
@@ -212,24 +211,6 @@ module _ (q : Question) (table more : List Shape) (rows : List Row) (good : IsTa
 
     -- ---- Generate
 
-    open_up : (x : ℕ) → IsOpen (short q table more rows) old x → IsOpen (long q table more rows) new x
-    open_up x h = record {
-      is_node = h.is_node;
-      is_rep = h.is_rep;
-      is_clear =
-          block_same q.first home q.at sub n gs set.moves set.stays set.is_first set.alone set.besides x h.is_rep
-          ∙ h.is_clear;
-    }
-
-    open_down : (x : ℕ) → IsOpen (long q table more rows) new x → IsOpen (short q table more rows) old x
-    open_down x h = record {
-      is_node = h.is_node;
-      is_rep = h.is_rep;
-      is_clear =
-          sym (block_same q.first home q.at sub n gs set.moves set.stays set.is_first set.alone set.besides x h.is_rep)
-          ∙ h.is_clear;
-    }
-
     same_run : (x c s e m y : ℕ) → has old x c ≡ true → has_filler s e (shape_of table c) ≡ true
         → is_run (long q table more rows) new x s e m y ≡ is_run (short q table more rows) old x s e m y
     same_run x c s e m y h is =
@@ -237,25 +218,45 @@ module _ (q : Question) (table more : List Shape) (rows : List Row) (good : IsTa
         (run_same q.first home q.at sub n gs set.moves set.stays q.theory.below x s e (set.fillers x c s e h is)
         (range_with_len y m))
 
-    pub generates_up : (fs : List (Fact ℕ)) → Generates (short q table more rows) old fs
-        → Generates (long q table more rows) new fs
-    generates_up fs (by_some x c s e at h sh none) =
-        by_some x c s e (open_up x at) (up x c h) (shape_up table more c _ (λ k. cc) sh)
-        (filled x c s e h (filler_of c s e (some_of s e) sh (self_has s e)) ∙ none)
-    generates_up fs (by_least x c m s e at h sh none) =
-        by_least x c m s e (open_up x at) (up x c h) (shape_up table more c _ (λ k. cc) sh)
-        (λ y. same_run x c s e m y h (filler_of c s e (at_least m s e) sh (self_has s e)) ∙ none y)
+    -- each node is blocked as before, if the others that have the complement have a concept besides
+    module _ (besides : HaveBesides q.first q.at n old) where
+      open_up : (x : ℕ) → IsOpen (short q table more rows) old x → IsOpen (long q table more rows) new x
+      open_up x h = record {
+        is_node = h.is_node;
+        is_rep = h.is_rep;
+        is_clear =
+            block_same q.first home q.at sub n gs set.moves set.stays set.is_first set.alone besides x h.is_rep
+            ∙ h.is_clear;
+      }
 
-    pub generates_down : (fs : List (Fact ℕ)) → Generates (long q table more rows) new fs
-        → Generates (short q table more rows) old fs
-    generates_down fs (by_some x c s e at h sh none) =
-        let t = down x c (some_of s e) (λ k. cc) sh h in
-        by_some x c s e (open_down x at) t.0 t.1
-        (sym (filled x c s e t.0 (filler_of c s e (some_of s e) t.1 (self_has s e))) ∙ none)
-    generates_down fs (by_least x c m s e at h sh none) =
-        let t = down x c (at_least m s e) (λ k. cc) sh h in
-        by_least x c m s e (open_down x at) t.0 t.1
-        (λ y. sym (same_run x c s e m y t.0 (filler_of c s e (at_least m s e) t.1 (self_has s e))) ∙ none y)
+      open_down : (x : ℕ) → IsOpen (long q table more rows) new x → IsOpen (short q table more rows) old x
+      open_down x h = record {
+        is_node = h.is_node;
+        is_rep = h.is_rep;
+        is_clear =
+            sym (block_same q.first home q.at sub n gs set.moves set.stays set.is_first set.alone besides x h.is_rep)
+            ∙ h.is_clear;
+      }
+
+      pub generates_up : (fs : List (Fact ℕ)) → Generates (short q table more rows) old fs
+          → Generates (long q table more rows) new fs
+      generates_up fs (by_some x c s e at h sh none) =
+          by_some x c s e (open_up x at) (up x c h) (shape_up table more c _ (λ k. cc) sh)
+          (filled x c s e h (filler_of c s e (some_of s e) sh (self_has s e)) ∙ none)
+      generates_up fs (by_least x c m s e at h sh none) =
+          by_least x c m s e (open_up x at) (up x c h) (shape_up table more c _ (λ k. cc) sh)
+          (λ y. same_run x c s e m y h (filler_of c s e (at_least m s e) sh (self_has s e)) ∙ none y)
+
+      pub generates_down : (fs : List (Fact ℕ)) → Generates (long q table more rows) new fs
+          → Generates (short q table more rows) old fs
+      generates_down fs (by_some x c s e at h sh none) =
+          let t = down x c (some_of s e) (λ k. cc) sh h in
+          by_some x c s e (open_down x at) t.0 t.1
+          (sym (filled x c s e t.0 (filler_of c s e (some_of s e) t.1 (self_has s e))) ∙ none)
+      generates_down fs (by_least x c m s e at h sh none) =
+          let t = down x c (at_least m s e) (λ k. cc) sh h in
+          by_least x c m s e (open_down x at) t.0 t.1
+          (λ y. sym (same_run x c s e m y t.0 (filler_of c s e (at_least m s e) t.1 (self_has s e))) ∙ none y)
 
     -- ---- Choose
 

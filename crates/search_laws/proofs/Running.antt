@@ -1,11 +1,10 @@
 -- A whole run.
-use Rattle.std.proofs.Common.{◌≡◌, ℕ, suc, ◌<◌, ◌&&◌, ◌||◌, eqb, ltb, Bool, true, false, List, [], ◌∷◌, ◌++◌, length, refl}
-use Rattle.std.proofs.Common.{ap, ◌∙◌, sym, subst, arith, inl, inr, eq-eqb, Contains}
+use Rattle.std.proofs.Common.{◌≡◌, ℕ, suc, ◌<◌, ◌&&◌, ◌||◌, eqb, ltb, Bool, true, false, List, [], ◌∷◌, ◌++◌, length}
+use Rattle.std.proofs.Common.{refl, ap, ◌∙◌, sym, subst, arith, inl, inr, eq-eqb, Contains}
 use Rattle.std.specs.List.{list_any, All}
 use Rattle.std.proofs.lemmas.List.{get_or_append_left}
-use Rattle.std.proofs.lemmas.Bool.{cases_Bool, or_cases, or_left, or_right, and_parts, and_from, eqb-true, ltb-true}
+use Rattle.std.proofs.lemmas.Bool.{or_cases, or_left, or_right, and_parts, and_from, eqb-true, ltb-true}
 use Rattle.std.proofs.lemmas.Bool.{false_from_ne_true}
-use Rattle.std.proofs.lemmas.List.Elements.{All-weaker, All-head, All-tail}
 use Rattle.calculus_specs.specs.Shape.{Shape, shape_of, IsTable}
 use Rattle.calculus_specs.specs.Shape.Shape.{top, name as name_shape, not_name, union}
 use Rattle.calculus_specs.specs.Rows.{Row, IsChoice}
@@ -22,8 +21,9 @@ use Rattle.tableau_specs.specs.Steps.{IsLegal}
 use Rattle.tableau_specs.specs.Reached.{start, Follows}
 use Rattle.tableau_specs.proofs.Listed.{ItemListed, facts_listed, follows_listed, start_listed, disjunct_listed}
 use Rattle.tableau_specs.proofs.Reached.{reached_built}
-use Rattle.search_laws.specs.Runs.{IsRun, was_ever, puts, puts_at, HasItsOwn, SetsApart, LeavesOut}
+use Rattle.search_laws.specs.Runs.{IsRun, was_ever, puts, puts_at, makes_node, before_nodes, SetsApart, LeavesOut}
 use Rattle.search_laws.specs.ReuseLaws.{IsUnnamed}
+use Rattle.search_laws.proofs.BeforeNodes.{first_of, rest_of}
 use Rattle.search_laws.proofs.Root.{IsRooted, built_rooted, end_is_other}
 use Rattle.search_laws.proofs.LongerGiven.{given_avoids}
 use Rattle.search_laws.proofs.First.{rep-rep}
@@ -48,38 +48,14 @@ pub ever_now : (p : Fact ℕ → Bool) (trail : List Item) (earlier : List (List
     → was_ever p (trail ∷ earlier) ≡ true
 ever_now p trail earlier h = or_left (list_any p (facts_of trail)) (was_ever p earlier) h
 
-never_before : (p : Fact ℕ → Bool) (trail : List Item) (earlier : List (List Item))
-    → was_ever p (trail ∷ earlier) ≡ false → was_ever p earlier ≡ false
-never_before p trail earlier none = false_from_ne_true (was_ever p earlier) (λ ever.
-    (let k : was_ever p (trail ∷ earlier) ≡ true = or_right (list_any p (facts_of trail)) (was_ever p earlier) ever in
-    cc))
+-- what was ever in the one run was in the other
+abbrev pub PutsNoMore : List (List Item) → List (List Item) → Type 0
+PutsNoMore run all = (p : Fact ℕ → Bool) → was_ever p run ≡ true → was_ever p all ≡ true
 
-pub leaves_out_before : (first at : ℕ) (table : List Shape) (a : ℕ) (trail : List Item) (earlier : List (List Item))
-    → LeavesOut first at table (trail ∷ earlier) a → LeavesOut first at table earlier a
-leaves_out_before first at table a trail earlier h = record {
-  class_is_not_there =
-      λ c e. h.class_is_not_there c
-      (or_right (list_any (puts_at at c) (facts_of trail)) (was_ever (puts_at at c) earlier) e);
-  unions_there_lack_complement =
-      λ c d parts e. h.unions_there_lack_complement c d parts
-      (or_right (list_any (puts_at at c) (facts_of trail)) (was_ever (puts_at at c) earlier) e);
-  complement_is_not_there =
-      λ c e. h.complement_is_not_there c
-      (or_right (list_any (puts_at at c) (facts_of trail)) (was_ever (puts_at at c) earlier) e);
-  complement_is_apart =
-      All-weaker (SetsApart first at table (trail ∷ earlier) a) (SetsApart first at table earlier a)
-      (λ t sets x c high put sh. own_before t x c (sets x c high put sh)) earlier
-      (All-tail (SetsApart first at table (trail ∷ earlier) a) trail earlier h.complement_is_apart);
-}
-  where
-    own_before : (t : List Item) (x c : ℕ) → HasItsOwn at (trail ∷ earlier) t x c → HasItsOwn at earlier t x c
-    own_before t x c own = record {
-      concept = own.concept;
-      holds = own.holds;
-      is_never_there = never_before (puts_at at own.concept) trail earlier own.is_never_there;
-      is_not_top = own.is_not_top;
-      is_another = own.is_another;
-    }
+puts_no_more : (trail : List Item) (earlier all : List (List Item)) → PutsNoMore (trail ∷ earlier) all
+    → PutsNoMore earlier all
+puts_no_more trail earlier all inside p ever =
+    inside p (or_right (list_any p (facts_of trail)) (was_ever p earlier) ever)
 
 -- ---- what a node has was put
 
@@ -161,22 +137,23 @@ module _ (q : Question) (table more : List Shape) (rows : List Row) (good : IsTa
       (start_listed (length table) home sub 0 sub_listed good.has_top)
       (run_follows q table more rows (start home sub 0) trail earlier r)
 
-  never_put_there : (first at : ℕ) (trail : List Item) (earlier : List (List Item))
-      → All (ItemListed (length table)) trail
-      → LeavesOut first at table (trail ∷ earlier) a → list_any (puts_at at n) (facts_of trail) ≡ false
-  never_put_there first at trail earlier items h = false_from_ne_true (list_any (puts_at at n) (facts_of trail)) (λ there.
-      let lt =
-      puts_listed (length table) n (facts_of trail) (facts_listed (length table) trail items)
-      (there_puts at n (facts_of trail) there) in
-      h.complement_is_not_there n (ever_now (puts_at at n) trail earlier there) (is_complement lt))
-
   pub not_top : (c : ℕ) (s : Shape) → ¬ (top ≡ s) → shape_of table c ≡ s → ¬ (c ≡ 0)
   not_top c s ne sh e = ne (sym good.begins_with_top ∙ ap (shape_of table) (sym e) ∙ sh)
 
-  -- a trail of the run, in which the node in question is joined to no other
+  never_put_there : (trail : List Item) (earlier all : List (List Item)) → PutsNoMore (trail ∷ earlier) all
+      → LeavesOut q.first q.at table all a → All (ItemListed (length table)) trail
+      → list_any (puts_at q.at n) (facts_of trail) ≡ false
+  never_put_there trail earlier all inside h items =
+      false_from_ne_true (list_any (puts_at q.at n) (facts_of trail)) (λ there.
+      let lt =
+      puts_listed (length table) n (facts_of trail) (facts_listed (length table) trail items)
+      (there_puts q.at n (facts_of trail) there) in
+      h.complement_is_not_there n (inside (puts_at q.at n) (ever_now (puts_at q.at n) trail earlier there))
+      (is_complement lt))
+
+  -- a trail of a run
   module _ (rest : List Item) (earlier : List (List Item))
-      (run : IsRun (short q table more rows) (start home sub 0) ((start home sub 0 ++ rest) ∷ earlier))
-      (h : LeavesOut q.first q.at table ((start home sub 0 ++ rest) ∷ earlier) a) where
+      (run : IsRun (short q table more rows) (start home sub 0) ((start home sub 0 ++ rest) ∷ earlier)) where
     abbrev now : List (Fact ℕ)
     now = old_facts home q.at sub n (facts_of rest)
 
@@ -195,48 +172,49 @@ module _ (q : Question) (table more : List Shape) (rows : List Row) (good : IsTa
           | inr given ↦ given
         ]
 
-    -- and it was put
-    pub was_put : (x c : ℕ) → ¬ (c ≡ 0) → has now x c ≡ true
-        → was_ever (puts c) ((start home sub 0 ++ rest) ∷ earlier) ≡ true
-    was_put x c other held =
-        ever_now (puts c) (start home sub 0 ++ rest) earlier
-        (given_puts c (rep now) (rep now x) now (given_is x c other held))
+    module _ (all : List (List Item)) (inside : PutsNoMore ((start home sub 0 ++ rest) ∷ earlier) all) where
+      -- and it was put
+      pub was_put : (x c : ℕ) → ¬ (c ≡ 0) → has now x c ≡ true → was_ever (puts c) all ≡ true
+      was_put x c other held =
+          inside (puts c)
+          (ever_now (puts c) (start home sub 0 ++ rest) earlier
+          (given_puts c (rep now) (rep now x) now (given_is x c other held)))
 
-    module _ (stays : rep now q.at ≡ q.at) (alone : (x : ℕ) → rep now x ≡ q.at → x ≡ q.at) where
-      put_there : (c : ℕ) → ¬ (c ≡ 0) → has now q.at c ≡ true
-          → was_ever (puts_at q.at c) ((start home sub 0 ++ rest) ∷ earlier) ≡ true
-      put_there c other held =
-          ever_now (puts_at q.at c) (start home sub 0 ++ rest) earlier
-          (given_there q.at c (rep now) (rep now q.at) stays alone now (given_is q.at c other held))
+      -- the node in question is joined to no other, and the whole run leaves the class out
+      module _ (stays : rep now q.at ≡ q.at) (alone : (x : ℕ) → rep now x ≡ q.at → x ≡ q.at)
+          (h : LeavesOut q.first q.at table all a) where
+        put_there : (c : ℕ) → ¬ (c ≡ 0) → has now q.at c ≡ true → was_ever (puts_at q.at c) all ≡ true
+        put_there c other held =
+            inside (puts_at q.at c)
+            (ever_now (puts_at q.at c) (start home sub 0 ++ rest) earlier
+            (given_there q.at c (rep now) (rep now q.at) stays alone now (given_is q.at c other held)))
 
-      pub lacks_class : (c : ℕ) → has now q.at c ≡ true → ¬ (shape_of table c ≡ name_shape a)
-      lacks_class c held sh = h.class_is_not_there c (put_there c (not_top c (name_shape a) (λ k. cc) sh) held) sh
+        pub lacks_class : (c : ℕ) → has now q.at c ≡ true → ¬ (shape_of table c ≡ name_shape a)
+        lacks_class c held sh = h.class_is_not_there c (put_there c (not_top c (name_shape a) (λ k. cc) sh) held) sh
 
-      pub no_part : (c : ℕ) (parts : List ℕ) → has now q.at c ≡ true → shape_of table c ≡ union parts
-          → ¬ Contains parts n
-      no_part c parts held sh part =
-          h.unions_there_lack_complement c n parts (put_there c (not_top c (union parts) (λ k. cc) sh) held) sh part
-          (is_complement (disjunct_listed (short q table more rows) good c n parts sh part))
+        pub no_part : (c : ℕ) (parts : List ℕ) → has now q.at c ≡ true → shape_of table c ≡ union parts
+            → ¬ Contains parts n
+        no_part c parts held sh part =
+            h.unions_there_lack_complement c n parts (put_there c (not_top c (union parts) (λ k. cc) sh) held) sh part
+            (is_complement (disjunct_listed (short q table more rows) good c n parts sh part))
 
-      -- the node that was given the complement stands for it, and has its own concept too
-      pub besides : HaveBesides q.first q.at n now
-      besides x high is_rep held =
-          let lt = has_listed (length table) now good.has_top now_listed x n held in
-          let sh = is_complement lt in
-          let by = giver (rep now) (rep now x) n now (given_is x n (not_top n (not_name a) (λ k. cc) sh) held) in
-          let up : rep now by.node ≡ x = by.stands ∙ is_rep in
-          let own =
-          All-head (SetsApart q.first q.at table ((start home sub 0 ++ rest) ∷ earlier) a) (start home sub 0 ++ rest)
-          earlier h.complement_is_apart by.node n (omega (arith, high, up, rep-le now by.node)) (puts_are by.node n now ∙ by.gives) sh in
-          record {
-            concept = own.concept;
-            holds =
-                subst (λ (y : ℕ). has now y own.concept ≡ true) up
-                (has_rep now by.node own.concept ∙ own.holds);
-            is_not_there = false_from_ne_true (has now q.at own.concept) (λ there.
-                (let k = put_there own.concept own.is_not_top there in let l = own.is_never_there in cc));
-            is_another = λ e. own.is_another (sym e);
-          }
+        -- the node that was given the complement stands for it, and has its own concept too
+        pub besides : SetsApart q.first q.at table all a (start home sub 0 ++ rest) → HaveBesides q.first q.at n now
+        besides apart x high is_rep held =
+            let lt = has_listed (length table) now good.has_top now_listed x n held in
+            let sh = is_complement lt in
+            let by = giver (rep now) (rep now x) n now (given_is x n (not_top n (not_name a) (λ k. cc) sh) held) in
+            let up : rep now by.node ≡ x = by.stands ∙ is_rep in
+            let own =
+            apart by.node n (omega (arith, high, up, rep-le now by.node)) (puts_are by.node n now ∙ by.gives) sh in
+            record {
+              concept = own.concept;
+              holds =
+                  subst (λ (y : ℕ). has now y own.concept ≡ true) up (has_rep now by.node own.concept ∙ own.holds);
+              is_not_there = false_from_ne_true (has now q.at own.concept) (λ there.
+                  (let k = put_there own.concept own.is_not_top there in let l = own.is_never_there in cc));
+              is_another = λ e. own.is_another (sym e);
+            }
 
   -- ---- the other run
 
@@ -246,46 +224,59 @@ module _ (q : Question) (table more : List Shape) (rows : List Row) (good : IsTa
     pub splits : trail ≡ start home sub 0 ++ rest
     pub follows : Follows (long q table more rows) (start q.at sub n) k (start q.at sub n ++ rest)
 
-  module _ (Leaves : List (List Item) → Type 0)
-      (out : (run : List (List Item)) → Leaves run → LeavesOut q.first q.at table run a)
-      (shorter : (trail : List Item) (earlier : List (List Item)) → Leaves (trail ∷ earlier) → Leaves earlier)
+  module _ (all : List (List Item)) (h : LeavesOut q.first q.at table all a)
       (set_of : (rest : List Item) (earlier : List (List Item))
       → IsRun (short q table more rows) (start home sub 0) ((start home sub 0 ++ rest) ∷ earlier)
-      → Leaves ((start home sub 0 ++ rest) ∷ earlier) → IsSetting q table more home sub n a (facts_of rest)) where
+      → PutsNoMore ((start home sub 0 ++ rest) ∷ earlier) all
+      → IsSetting q table more home sub n a (facts_of rest)) where
     one_more : (k : ℕ) (before trail : List Item) (earlier : List (List Item)) → IsFollowed k before
         → IsRun (short q table more rows) (start home sub 0) (trail ∷ before ∷ earlier)
-        → Leaves (trail ∷ before ∷ earlier) → IsFollowed (suc k) trail
-    one_more k before trail earlier f run h =
-        let again : IsRun (short q table more rows) (start home sub 0) ((start home sub 0 ++ f.rest) ∷ earlier) =
-        subst (λ (is : List Item). IsRun (short q table more rows) (start home sub 0) (is ∷ earlier)) f.splits run.1 in
-        let left : Leaves ((start home sub 0 ++ f.rest) ∷ earlier) =
-        subst (λ (is : List Item). Leaves (is ∷ earlier)) f.splits (shorter trail (before ∷ earlier) h) in
-        let legal = subst (λ (is : List Item). IsLegal (short q table more rows) is trail) f.splits run.0 in
+        → PutsNoMore (trail ∷ before ∷ earlier) all
+        → All (SetsApart q.first q.at table all a) (before_nodes q.first (trail ∷ before ∷ earlier))
+        → IsFollowed (suc k) trail
+    one_more k before trail earlier f run inside apart =
+        let w = short q table more rows in
+        let is : List Item = start home sub 0 ++ f.rest in
+        let again : IsRun w (start home sub 0) (is ∷ earlier) =
+        subst (λ (js : List Item). IsRun w (start home sub 0) (js ∷ earlier)) f.splits run.1 in
+        let inner : PutsNoMore (is ∷ earlier) all =
+        subst (λ (js : List Item). PutsNoMore (js ∷ earlier) all) f.splits
+        (puts_no_more trail (before ∷ earlier) all inside) in
+        let set = set_of f.rest earlier again inner in
+        let Apart : List Item → Type 0 = SetsApart q.first q.at table all a in
+        let own : makes_node q.first is trail ≡ true
+        → HaveBesides q.first q.at n (old_facts home q.at sub n (facts_of f.rest)) =
+        λ makes. besides f.rest earlier again all inner set.stays set.alone h
+        (subst Apart f.splits
+        (first_of Apart (makes_node q.first before trail) before (before_nodes q.first (before ∷ earlier))
+        (ap (λ (js : List Item). makes_node q.first js trail) f.splits ∙ makes) apart)) in
         let t =
-        turned q table more rows good n a shape_n home sub f.rest (set_of f.rest earlier again left) trail
-        (items_listed (start home sub 0 ++ f.rest) earlier again) fits
-        (never_put_there q.first q.at trail (before ∷ earlier) (items_listed trail (before ∷ earlier) run)
-        (out (trail ∷ before ∷ earlier) h)) legal in
+        turned q table more rows good n a shape_n home sub f.rest set trail (items_listed is earlier again) fits
+        (never_put_there trail (before ∷ earlier) all inside h (items_listed trail (before ∷ earlier) run)) own
+        (subst (λ (js : List Item). IsLegal w js trail) f.splits run.0) in
         record { rest = t.further; splits = t.splits; follows = (start q.at sub n ++ f.rest, f.follows, t.is_legal) }
 
     pub followed : (trail : List Item) (earlier : List (List Item))
-        → IsRun (short q table more rows) (start home sub 0) (trail ∷ earlier) → Leaves (trail ∷ earlier)
+        → IsRun (short q table more rows) (start home sub 0) (trail ∷ earlier) → PutsNoMore (trail ∷ earlier) all
+        → All (SetsApart q.first q.at table all a) (before_nodes q.first (trail ∷ earlier))
         → IsFollowed (length earlier) trail
-    followed trail [] run h = record { rest = []; splits = run; follows = refl }
-    followed trail (before ∷ earlier) run h =
+    followed trail [] run inside apart = record { rest = []; splits = run; follows = refl }
+    followed trail (before ∷ earlier) run inside apart =
         one_more (length earlier) before trail earlier
-        (followed before earlier run.1 (shorter trail (before ∷ earlier) h)) run h
+        (followed before earlier run.1 (puts_no_more trail (before ∷ earlier) all inside)
+        (rest_of (SetsApart q.first q.at table all a) (makes_node q.first before trail) before
+        (before_nodes q.first (before ∷ earlier)) apart)) run inside apart
 
 -- ---- where no axiom speaks of the node in question
 
 module _ (q : Question) (table more : List Shape) (rows : List Row) (good : IsTable table)
     (fits : IsChoice q.theory table rows) (n a : ℕ) (shape_n : shape_of (table ++ more) n ≡ not_name a)
-    (sub : ℕ) (sub_listed : sub < length table) (is_first : q.at < q.first) (unnamed : IsUnnamed q) where
+    (sub : ℕ) (sub_listed : sub < length table) (is_first : q.at < q.first) (unnamed : IsUnnamed q)
+    (all : List (List Item)) (h : LeavesOut q.first q.at table all a) where
   pub unnamed_setting : (rest : List Item) (earlier : List (List Item))
       → IsRun (short q table more rows) (start q.at sub 0) ((start q.at sub 0 ++ rest) ∷ earlier)
-      → LeavesOut q.first q.at table ((start q.at sub 0 ++ rest) ∷ earlier) a
-      → IsSetting q table more q.at sub n a (facts_of rest)
-  unnamed_setting rest earlier run h =
+      → PutsNoMore ((start q.at sub 0 ++ rest) ∷ earlier) all → IsSetting q table more q.at sub n a (facts_of rest)
+  unnamed_setting rest earlier run inside =
       let now : List (Fact ℕ) = old_facts q.at q.at sub n (facts_of rest) in
       let w = short q table more rows in
       let avoided = given_avoids q table rows unnamed in
@@ -295,7 +286,7 @@ module _ (q : Question) (table more : List Shape) (rows : List Row) (good : IsTa
       (run_follows q table more rows (start q.at sub 0) (start q.at sub 0 ++ rest) earlier run)) in
       let ends = end_is_other w q.at is_first avoided now rooted in
       record {
-        known = now_listed q table more rows good fits n a shape_n q.at sub sub_listed rest earlier run h;
+        known = now_listed q table more rows good fits n a shape_n q.at sub sub_listed rest earlier run;
         moves = inl refl;
         fillers = λ x c s e held is y edge root. ends (λ r. q.theory.below r s) x y edge root.0;
         complements = λ x c m s e d held sh neg y edge root. ends (λ r. q.theory.below r s) x y edge root.0;
@@ -303,12 +294,9 @@ module _ (q : Question) (table more : List Shape) (rows : List Row) (good : IsTa
         stays = rooted.stays;
         is_first = is_first;
         lacks_class =
-            lacks_class q table more rows good fits n a shape_n q.at sub sub_listed rest earlier run h rooted.stays
-            rooted.alone;
+            lacks_class q table more rows good fits n a shape_n q.at sub sub_listed rest earlier run all inside
+            rooted.stays rooted.alone h;
         no_part =
-            no_part q table more rows good fits n a shape_n q.at sub sub_listed rest earlier run h rooted.stays
-            rooted.alone;
-        besides =
-            besides q table more rows good fits n a shape_n q.at sub sub_listed rest earlier run h rooted.stays
-            rooted.alone;
+            no_part q table more rows good fits n a shape_n q.at sub sub_listed rest earlier run all inside
+            rooted.stays rooted.alone h;
       }

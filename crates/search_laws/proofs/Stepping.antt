@@ -1,6 +1,6 @@
 -- One step, and the end.
-use Rattle.std.proofs.Common.{◌≡◌, ℕ, zero, suc, ◌+◌, ◌<◌, eqb, true, false, List, [], ◌∷◌, ◌++◌, length, take, Some}
-use Rattle.std.proofs.Common.{refl, ap, ◌∙◌, sym, subst, arith, eq-eqb, Bool, inl, inr}
+use Rattle.std.proofs.Common.{◌≡◌, ℕ, zero, suc, ◌+◌, ◌<◌, true, false, List, [], ◌∷◌, ◌++◌, length, take, Some}
+use Rattle.std.proofs.Common.{refl, ap, ◌∙◌, sym, subst, arith, Bool, inl, inr}
 use Rattle.std.specs.List.{list_any, slice_get, All}
 use Rattle.std.proofs.lemmas.List.Elements.{All-get_or}
 use Rattle.std.proofs.lemmas.Bool.{or_right, cases_Bool}
@@ -28,9 +28,11 @@ use Rattle.tableau_specs.specs.Steps.IsLegal.{add, give, generate, choose, back}
 use Rattle.tableau_specs.specs.Reached.{start, FactsHaveNumbers}
 use Rattle.tableau_specs.proofs.Built.{facts_of-snoc}
 use Rattle.tableau_specs.proofs.Listed.{listed, branch_listed, BranchListed, ItemListed}
-use Rattle.search_laws.specs.Runs.{puts_at}
+use Rattle.search_laws.specs.Runs.{puts_at, makes_node}
+use Rattle.search_laws.proofs.BeforeNodes.{generate_makes_node}
 use Rattle.search_laws.proofs.FullerSteps.{last_puts_at}
 use Rattle.search_laws.proofs.Turned.{old_facts, new_facts}
+use Rattle.search_laws.proofs.TurnedBlocks.{HaveBesides}
 use Rattle.search_laws.proofs.LongerShapes.{alternative_up, shape_up, shape_down}
 use Rattle.search_laws.proofs.ReuseSetting.{short, long, IsSetting, held_listed, down, up, out_up, same_use}
 use Rattle.search_laws.proofs.ReuseSetting.{plain_down, clash_up, carried_down, adds_up}
@@ -82,8 +84,10 @@ module _ (q : Question) (table more : List Shape) (rows : List Row) (good : IsTa
 
     pub turned : (new : List Item) → All (ItemListed (length table)) (start home sub 0 ++ rest)
         → IsChoice q.theory table rows → list_any (puts_at q.at n) (facts_of new) ≡ false
+        → (makes_node q.first (start home sub 0 ++ rest) new ≡ true
+        → HaveBesides q.first q.at n (old_facts home q.at sub n (facts_of rest)))
         → IsLegal old_context (start home sub 0 ++ rest) new → IsTurned rest new
-    turned new' items fits never (add x d nc adds out) = record {
+    turned new' items fits never besides (add x d nc adds out) = record {
       further = rest ++ Says (Has x d) ∷ [];
       splits = refl;
       is_legal =
@@ -100,7 +104,7 @@ module _ (q : Question) (table more : List Shape) (rows : List Row) (good : IsTa
           cc))
           out);
     }
-    turned new' items fits never (give f nc is_given out) = record {
+    turned new' items fits never besides (give f nc is_given out) = record {
       further = rest ++ Says f ∷ [];
       splits = refl;
       is_legal =
@@ -110,14 +114,15 @@ module _ (q : Question) (table more : List Shape) (rows : List Row) (good : IsTa
           (last_passes_not (puts_at q.at n) (start home sub 0 ++ rest) f never)
           ∙ out);
     }
-    turned new' items fits never (generate fs nc makes) = record {
+    turned new' items fits never besides (generate fs nc makes) = record {
       further = rest ++ says fs;
       splits = refl;
       is_legal =
           generate fs (λ k. nc (plain_down q table more rows good n a shape_n home sub (facts_of rest) set k))
-          (generates_up q table more rows good n a shape_n home sub (facts_of rest) set fs makes);
+          (generates_up q table more rows good n a shape_n home sub (facts_of rest) set
+          (besides (generate_makes_node old_context (start home sub 0 ++ rest) fs makes)) fs makes);
     }
-    turned new' items fits never (choose c f nc may one alt) = record {
+    turned new' items fits never besides (choose c f nc may one alt) = record {
       further = rest ++ Mark c ∷ Says f ∷ [];
       splits = refl;
       is_legal =
@@ -126,7 +131,7 @@ module _ (q : Question) (table more : List Shape) (rows : List Row) (good : IsTa
           (alternative_up table more c.branch 1 f
           (branch_listed q table rows good fits (old_facts home q.at sub n (facts_of rest)) c.branch may) alt);
     }
-    turned new' items fits never (back place c f clash read alt) =
+    turned new' items fits never besides (back place c f clash read alt) =
         let is : List Item = start home sub 0 ++ rest in
         let about : BranchListed (length table) c.branch =
         (let g =
@@ -139,6 +144,7 @@ module _ (q : Question) (table more : List Shape) (rows : List Row) (good : IsTa
     -- ---- the end
 
     module _ (longer : IsTable (table ++ more)) (have : FactsHaveNumbers q table)
+        (besides : HaveBesides q.first q.at n (old_facts home q.at sub n (facts_of rest)))
         (sat : IsSaturated old_context (start home sub 0 ++ rest)) where
       same_number : (c d s e : ℕ) → shape_of (table ++ more) c ≡ all_of s e → shape_of (table ++ more) d ≡ all_of s e
           → c ≡ d
@@ -222,6 +228,6 @@ module _ (q : Question) (table more : List Shape) (rows : List Row) (good : IsTa
         no_carry = carried;
         no_generate =
             λ fs makes. sat.no_generate fs
-            (generates_down q table more rows good n a shape_n home sub (facts_of rest) set fs makes);
+            (generates_down q table more rows good n a shape_n home sub (facts_of rest) set besides fs makes);
         no_choose = no_choice;
       }

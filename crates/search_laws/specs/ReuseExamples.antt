@@ -1,6 +1,7 @@
 -- Worked examples. The first run is for class 10, over the axiom that class 10 is in class 11: the row gives node 0
 -- class 11. The table's numbers are: 0 top, 1 class 10, 2 class 11, 3 the complement of class 11.
-use Rattle.std.specs.Prelude.{◌≡◌, ℕ, zero, suc, Bool, true, false, ◌==◌, ◌&&◌, ◌||◌, List, [], ◌∷◌, ◌++◌, None, refl, All}
+use Rattle.std.specs.Prelude.{◌≡◌, ℕ, zero, suc, Bool, true, false, ◌==◌, ◌&&◌, ◌||◌, List, [], ◌∷◌, ◌++◌, None}
+use Rattle.std.specs.Prelude.{refl, All}
 use Rattle.std.proofs.Common.{lit<, lit≤, ap, sym, subst, ◌∙◌, arith, inl, inr}
 use Rattle.std.specs.List.{list_any}
 use Rattle.std.proofs.lemmas.Bool.{eqb-true, or_cases}
@@ -21,7 +22,8 @@ use Rattle.tableau_specs.specs.Steps.Adds.{by_row}
 use Rattle.tableau_specs.specs.Steps.IsLegal.{add}
 use Rattle.tableau_specs.specs.Reached.{start}
 use Rattle.tableau_specs.specs.StepExamples.{IsPlain}
-use Rattle.search_laws.specs.Runs.{IsRun, was_ever, puts_at, HasItsOwn, SetsApart, LeavesOut, LeavesOutAt}
+use Rattle.search_laws.specs.Runs.{IsRun, was_ever, puts_at, HasItsOwn, SetsApart, asked_for_blocks, LeavesOut}
+use Rattle.search_laws.specs.Runs.{LeavesOutAt}
 
 -- ---- the run for class 10
 
@@ -161,12 +163,6 @@ is_last true false = refl
 is_last false true = refl
 is_last false false = refl
 
-no_last : (p q : Bool) → ((p && false) || ((p && false) || ((p && false) || (false || ((q && false) || false))))) ≡ false
-no_last true true = refl
-no_last true false = refl
-no_last false true = refl
-no_last false false = refl
-
 no_third : (p : Bool) → ((p && false) || ((p && false) || ((p && false) || false))) ≡ false
 no_third true = refl
 no_third false = refl
@@ -205,16 +201,14 @@ leaves_out_eleven = record {
   complement_is_apart = each;
 }
   where
-    each : All (SetsApart 1 0 wider apart 11) apart
+    each : All (SetsApart 1 0 wider apart 11) ((made ++ Says (Has 1 4) ∷ []) ∷ asking ∷ [])
     each zero d lt x c high put sh =
         let last : List Item = made ++ Says (Has 1 4) ∷ [] in
         let e = complement_is_four c sh in
         let at = is_successor x (ap (λ (n : ℕ). list_any (puts_at x n) (facts_of last)) (sym e) ∙ put) in
         subst (λ (y : ℕ). HasItsOwn 0 apart last y c) at (subst (HasItsOwn 0 apart last 1) (sym e) own_concept)
-    each (suc zero) d lt x c high put sh = absurd (never made x c put sh (no_last (0 == x) (1 == x)))
-    each (suc (suc zero)) d lt x c high put sh = absurd (never asking x c put sh (no_third (0 == x)))
-    each (suc (suc (suc zero))) d lt x c high put sh = absurd (never (start 0 1 0) x c put sh (no_second (0 == x)))
-    each (suc (suc (suc (suc k)))) d lt x c high put sh = absurd (omega (arith, lt))
+    each (suc zero) d lt x c high put sh = absurd (never asking x c put sh (no_third (0 == x)))
+    each (suc (suc k)) d lt x c high put sh = absurd (omega (arith, lt))
 
 -- where node 0 is in class 13 too, or the successor has no other concept, it shows nothing of class 11: with the
 -- complement node 0 may block the successor
@@ -240,10 +234,12 @@ says_nothing_of_shared h =
       ]
     ]
 
-pub says_nothing_of_bare : ¬ LeavesOut 1 0 wider
-    ((start 0 1 0 ++ Says (Edge 7 0 1) ∷ Says (Has 1 4) ∷ []) ∷ []) 11
-says_nothing_of_bare h =
-    let own = h.complement_is_apart 0 [] (lit< tt) 1 4 (lit≤ tt) refl refl in
+-- node 1 by number 4 alone
+abbrev bare : List Item
+bare = start 0 1 0 ++ Says (Edge 7 0 1) ∷ Says (Has 1 4) ∷ []
+
+bare_lacks_own : (run : List (List Item)) → ¬ HasItsOwn 0 run bare 1 4
+bare_lacks_own run own =
     let c = own.concept in
     elim (or_cases (c == 0) ((4 == c) || false) own.holds) [
       | inl none ↦ own.is_not_top (eqb-true c 0 none)
@@ -252,6 +248,69 @@ says_nothing_of_bare h =
         | inr no' ↦ absurd (cc)
       ]
     ]
+
+pub says_nothing_of_bare : ¬ LeavesOut 1 0 wider (bare ∷ []) 11
+says_nothing_of_bare h = bare_lacks_own (bare ∷ []) (h.complement_is_apart 0 [] (lit< tt) 1 4 (lit≤ tt) refl refl)
+
+-- ---- when the other concept comes
+
+-- the successor may get the other concept after the complement, as long as no node is made in between
+abbrev in_time : List (List Item)
+in_time = (bare ++ Says (Has 1 2) ∷ []) ∷ bare ∷ start 0 1 0 ∷ []
+
+pub blocks_of_in_time : asked_for_blocks 1 in_time ≡ (bare ++ Says (Has 1 2) ∷ []) ∷ start 0 1 0 ∷ []
+blocks_of_in_time = refl
+
+-- the successor alone is given number 4, before number 2
+is_fourth : (p q : Bool)
+    → ((p && false) || ((p && false) || (false || ((q && true) || ((q && false) || false))))) ≡ q
+is_fourth true true = refl
+is_fourth true false = refl
+is_fourth false true = refl
+is_fourth false false = refl
+
+own_in_time : HasItsOwn 0 in_time (bare ++ Says (Has 1 2) ∷ []) 1 4
+own_in_time = record {
+  concept = 2;
+  holds = refl;
+  is_never_there = refl;
+  is_not_top = λ e. cc;
+  is_another = λ e. cc;
+}
+
+pub leaves_out_in_time : LeavesOut 1 0 wider in_time 11
+leaves_out_in_time = record {
+  class_is_not_there = λ c ever. no_eleven c;
+  unions_there_lack_complement = λ c d parts ever sh. absurd (no_union c parts sh);
+  complement_is_not_there = λ c ever sh. (let e = complement_is_four c sh in
+      let k : was_ever (puts_at 0 c) in_time ≡ false = ap (λ (n : ℕ). was_ever (puts_at 0 n) in_time) e in
+      cc);
+  complement_is_apart = each;
+}
+  where
+    each : All (SetsApart 1 0 wider in_time 11) ((bare ++ Says (Has 1 2) ∷ []) ∷ start 0 1 0 ∷ [])
+    each zero d lt x c high put sh =
+        let last : List Item = bare ++ Says (Has 1 2) ∷ [] in
+        let e = complement_is_four c sh in
+        let put_four : list_any (puts_at x 4) (facts_of last) ≡ true =
+        ap (λ (n : ℕ). list_any (puts_at x n) (facts_of last)) (sym e) ∙ put in
+        let at : 1 ≡ x = eqb-true 1 x (sym (is_fourth (0 == x) (1 == x)) ∙ put_four) in
+        subst (λ (y : ℕ). HasItsOwn 0 in_time last y c) at (subst (HasItsOwn 0 in_time last 1) (sym e) own_in_time)
+    each (suc zero) d lt x c high put sh = absurd (never (start 0 1 0) x c put sh (no_second (0 == x)))
+    each (suc (suc k)) d lt x c high put sh = absurd (omega (arith, lt))
+
+-- where another node is made before, the run shows nothing of class 11: with the complement node 0 may block the
+-- successor then
+abbrev too_late : List (List Item)
+too_late =
+    (bare ++ Says (Edge 7 0 2) ∷ Says (Has 2 2) ∷ Says (Has 1 2) ∷ [])
+    ∷ (bare ++ Says (Edge 7 0 2) ∷ Says (Has 2 2) ∷ [])
+    ∷ bare
+    ∷ start 0 1 0
+    ∷ []
+
+pub says_nothing_too_late : ¬ LeavesOut 1 0 wider too_late 11
+says_nothing_too_late h = bare_lacks_own too_late (h.complement_is_apart 1 [] (lit< tt) 1 4 (lit≤ tt) refl refl)
 
 -- ---- an individual, whose node is 0, and which is said to be in class 10
 
@@ -281,7 +340,8 @@ pub says_nothing_of_joined : (¬ LeavesOutAt 3 0 table ((start 2 0 0 ++ Says (Sa
 says_nothing_of_joined = (λ h. (let k = h.is_never_joined in cc), λ h. (let k = h.is_never_joined in cc))
 
 -- nor of a class where successors are asked for in its complement, or counted in it: an edge may lead to the node
-pub says_nothing_of_fillers : ¬ LeavesOutAt 3 1 (table ++ some_of 7 3 ∷ []) ((start 2 0 0 ++ Says (Has 0 4) ∷ []) ∷ []) 11
+pub says_nothing_of_fillers : ¬ LeavesOutAt 3 1 (table ++ some_of 7 3 ∷ [])
+    ((start 2 0 0 ++ Says (Has 0 4) ∷ []) ∷ []) 11
 says_nothing_of_fillers h = h.complement_is_no_filler 4 7 3 refl refl refl
 
 pub says_nothing_of_counted : ¬ LeavesOutAt 3 1 (table ++ at_most 1 7 2 ∷ [])

@@ -1,12 +1,13 @@
 -- Runs of a search: all their trails, and what was ever put into one.
-use Rattle.std.specs.Prelude.{◌≡◌, ℕ, ◌≤◌, ◌==◌, ◌&&◌, ◌||◌, Bool, true, false, List, [], ◌∷◌, All, Contains}
+use Rattle.std.specs.Prelude.{◌≡◌, ℕ, ◌≤◌, ◌==◌, nat_lt, ◌&&◌, ◌||◌, Bool, true, false, List, [], ◌∷◌, All, Contains}
+use Rattle.std.specs.Prelude.{if◌then◌else◌}
 use Rattle.std.specs.List.{list_any}
 use Rattle.calculus_specs.specs.Concept.{name as class, complement}
 use Rattle.calculus_specs.specs.Normal.{negated_form}
 use Rattle.calculus_specs.specs.Shape.{Shape, shape_of}
 use Rattle.calculus_specs.specs.Tree.{tree_of}
 use Rattle.calculus_specs.specs.Shape.Shape.{name, not_name, union, some_of, at_least, at_most}
-use Rattle.calculus_specs.specs.State.{has}
+use Rattle.calculus_specs.specs.State.{node_count_from, has}
 use Rattle.calculus_specs.specs.declared.facts.Fact.{Fact}
 use Rattle.calculus_specs.specs.declared.facts.Fact.TheVariants.{Has, Edge, Apart, Same}
 use Rattle.tableau_specs.specs.declared.Item.{Item}
@@ -61,23 +62,42 @@ pub record HasItsOwn (at : ℕ) (run : List (List Item)) (trail : List Item) (x 
   pub is_not_top : ¬ (concept ≡ 0)
   pub is_another : ¬ (concept ≡ c)
 
--- where the trail gives the complement of class a to a node that is no first one, this has a concept of its own besides.
--- So the node `at` never blocks it, with the complement or without
+-- where the trail gives the complement of class a to a node that is no first one, this node has a concept of its own
+-- besides. So the node `at` does not block it, with the complement or without
 abbrev pub SetsApart : ℕ → ℕ → List Shape → List (List Item) → ℕ → List Item → Type 0
 SetsApart first at table run a trail =
     (x c : ℕ) → first ≤ x → list_any (puts_at x c) (facts_of trail) ≡ true → shape_of table c ≡ not_name a
     → HasItsOwn at run trail x c
 
+-- whether the later one of two trails has more nodes
+abbrev pub makes_node : ℕ → List Item → List Item → Bool
+makes_node first before trail =
+    nat_lt (node_count_from first (facts_of before)) (node_count_from first (facts_of trail))
+
+-- the trails of the run from which it goes on by a step that makes a node. No other step asks which nodes are blocked
+abbrev pub before_nodes : ℕ → List (List Item) → List (List Item)
+before_nodes first [] = []
+before_nodes first (trail ∷ []) = []
+before_nodes first (trail ∷ before ∷ earlier) =
+    if makes_node first before trail then before ∷ before_nodes first (before ∷ earlier)
+    else before_nodes first (before ∷ earlier)
+
+-- the trails of the run whose blocks are asked for: the latest one, which is saturated only where no open node asks for
+-- more nodes, and these
+abbrev pub asked_for_blocks : ℕ → List (List Item) → List (List Item)
+asked_for_blocks first [] = []
+asked_for_blocks first (trail ∷ earlier) = trail ∷ before_nodes first (trail ∷ earlier)
+
 -- The run has nothing to do with whether the node `at` is in class a. No trail gives this node the class, its
--- complement, or a union of which the complement is a part. And to other nodes the complement is given only if they are
--- first ones, which are never blocked, or have a concept that the node `at` never has
+-- complement, or a union of which the complement is a part. And wherever blocks are asked for, each other node that was
+-- given the complement is a first one, which is never blocked, or has a concept that the node `at` never has
 pub record LeavesOut (first at : ℕ) (table : List Shape) (run : List (List Item)) (a : ℕ) : Type 0 where
   pub class_is_not_there : (c : ℕ) → was_ever (puts_at at c) run ≡ true → ¬ (shape_of table c ≡ name a)
   pub unions_there_lack_complement : (c d : ℕ) (parts : List ℕ) → was_ever (puts_at at c) run ≡ true
       → shape_of table c ≡ union parts → Contains parts d
       → ¬ (shape_of table d ≡ not_name a)
   pub complement_is_not_there : (c : ℕ) → was_ever (puts_at at c) run ≡ true → ¬ (shape_of table c ≡ not_name a)
-  pub complement_is_apart : All (SetsApart first at table run a) run
+  pub complement_is_apart : All (SetsApart first at table run a) (asked_for_blocks first run)
 
 -- the same where edges may lead to the node `at`, as to that of an individual: no trail joins it to another node, and
 -- none gives a node a concept that asks of successors whether they are in the complement, or counts those in the class

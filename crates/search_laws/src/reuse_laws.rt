@@ -12,9 +12,12 @@
 //!   or where it is itself to be put; and the node in question is neither a successor nor joined to another node. That
 //!   holds where it is the node of no individual, so that no given fact speaks of it: a query on any element asks of such
 //!   a node.
-//! - **The end is saturated** by the same reasons. The blocks are the same: a first node is never blocked, and the one
-//!   in question blocks no other node more than before, since each that has the complement has a concept of its own,
-//!   too, which the node in question never has.
+//! - **Nodes are made below the same ones.** A first node is never blocked, and another one only by a node that has all
+//!   its concepts. So the node in question blocks no other one, with the complement or without, where each that has the
+//!   complement has a concept of its own, too, which the node in question never has. Only a step that makes nodes asks
+//!   which nodes are blocked. So this is asked of the trails from which the run goes on by such a step, and of the last
+//!   one: in between, a node may have the complement and get a concept of its own later.
+//! - **The end is saturated** by the same reasons.
 //! - **Of individuals too.** One run over all axioms, for the question whether anything is in top and not in bottom,
 //!   shows of many individuals that they are not in W. Edges may lead to the node of an individual, and facts may join
 //!   it to another. So the run may not do the latter, and it may not give any node a concept that asks of successors

@@ -31,6 +31,7 @@ use Rattle.search_laws.proofs.CounterModelLaws.{saturated_does_not_entail}
 use Rattle.search_laws.specs.Runs.{IsRun, was_ever, puts, puts_at, SetsApart, LeavesOut}
 use Rattle.search_laws.specs.ReuseLaws.{EndsSaturated, with_sup}
 use Rattle.search_laws.proofs.Answering.{one_run_answers_more}
+use Rattle.search_laws.proofs.BeforeNodes.{asked_each}
 use Rattle.search_laws.proofs.Unnamed.{any_is_unnamed}
 use Rattle.tableau.specs.Seen.{holds, class_of, complement_of, union_parts, is_one, is_complement, has_complement}
 use Rattle.tableau.specs.Seen.{SeenSets, gives_class, gives_complement, gives_bearing, has_seen, counted, IsToldApart}
@@ -178,7 +179,7 @@ module _ (first at : ℕ) (table : List Shape) (a : ℕ) where
       complement_is_not_there = λ c ever sh. (let k =
           ever_more (puts_at at c) (gives_bearing at table a) (bearing_there c sh) run ever in
           cc);
-      complement_is_apart = apart;
+      complement_is_apart = asked_each (SetsApart first at table run a) first run apart;
     }
 
   -- the complement was put nowhere
