@@ -49,6 +49,8 @@ module _ (o : Listed) (q : Asked) (budget : ℕ) (log : List Entry) (s : Searche
   }
   all_answered (Err x) text w = tt
 
-  pub all_logs : {T : Type 0} (r : Result T NoMemory) → OnErr r (HasAsked o q budget log)
-  all_logs (Ok a) = tt
-  all_logs (Err x) = inr is.honest
+  -- memory is refused for the text only where the search was finished
+  pub all_logs : {T : Type 0} (r : Result T NoMemory) → OnErr r (s.found.finished ≡ true)
+      → OnErr r (HasAsked o q budget log)
+  all_logs (Ok a) finished = tt
+  all_logs (Err x) finished = inr (record { honest = is.honest; unspent = is.unspent finished })

@@ -3,7 +3,7 @@ use Rattle.std.proofs.Common.{◌≡◌, length, ap, sym, ◌∙◌, subst}
 use Rattle.std.specs.Prelude.{Result, Ok, Err, IfOk, OnOk, OnErr}
 use Rattle.axiom_sets.specs.Sets.{Limited}
 use Rattle.shq_terms.specs.NoMemory.{NoMemory}
-use Rattle.set_questions.specs.Asked.{Answers, IsUnknownIf, ShowsNoOther}
+use Rattle.set_questions.specs.Asked.{Answers, IsUnknownIf, ShowsNoOther, AsksInBudget}
 use Rattle.set_questions.specs.Meaning.{Keeps, one_more}
 use Rattle.set_questions.specs.declared.entail.Reply.{Reply}
 use Rattle.decision_jobs.specs.Entries.{nodes_of}
@@ -14,6 +14,7 @@ use Rattle.pinpointing_jobs.specs.Deciding.{IsKnown}
 use Rattle.pinpointing_jobs.specs.AskerKnown.TheVariants.{Unknown}
 use Rattle.pinpointing_jobs.proofs.Tested.{nothing_later}
 use Rattle.pinpointing_jobs.proofs.Answering.{keeps_later, lifted, local_later, unknown_whole, left_out}
+use Rattle.pinpointing_jobs.proofs.Answering.{still_in_budget}
 use Rattle.audit_jobs.specs.declared.evidence.Evidence.{Evidence}
 use Rattle.audit_jobs.specs.Kept.{IsEvidence}
 use Rattle.audit_jobs.specs.Told.{HasTold}
@@ -51,6 +52,11 @@ shown : (mid new : AskerLists) (p : Limited) (r : Result Reply NoMemory) → IfO
 shown mid new p (Ok reply) told = told.shown
 shown mid new p (Err x) told = tt
 
+in_budget : (mid new : AskerLists) (p : Limited) (r : Result Reply NoMemory) → IfOk r (HasTold mid new p)
+    → IfOk r (AsksInBudget (asker_meaning mid) (asker_meaning new))
+in_budget mid new p (Ok reply) told = told.in_budget
+in_budget mid new p (Err x) told = tt
+
 counted : (mid new : AskerLists) (p : Limited) (r : Result Reply NoMemory) → IfOk r (HasTold mid new p)
     → OnOk r (new.asks ≡ one_more mid.asks)
 counted mid new p (Ok reply) told = told.counted
@@ -83,6 +89,16 @@ module _ (old mid new : AskerLists) (s p : Limited) (known : IsKnown old mid s (
   asked_shown =
       subst (λ (x : AskerLists). IfOk r (ShowsNoOther (asker_meaning x) (asker_meaning new))) known.0
       (shown mid new p r told)
+
+  pub asked_in_budget : IfOk r (AsksInBudget (asker_meaning old) (asker_meaning new))
+  asked_in_budget =
+      subst (λ (x : AskerLists). IfOk r (AsksInBudget (asker_meaning x) (asker_meaning new))) known.0
+      (in_budget mid new p r told)
+
+  pub asked_ran_out : OnErr r ((asker_meaning new).ran_out ≡ (asker_meaning old).ran_out)
+  asked_ran_out =
+      subst (λ (x : AskerLists). OnErr r ((asker_meaning new).ran_out ≡ (asker_meaning x).ran_out)) known.0
+      (still_in_budget mid new r unchanged)
 
   pub asked_keeps : Keeps (asker_meaning old) (asker_meaning new)
   asked_keeps =

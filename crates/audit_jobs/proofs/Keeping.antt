@@ -16,7 +16,7 @@ use Rattle.shq_terms.specs.NoMemory.{NoMemory}
 use Rattle.shq_terms.specs.declared.axioms.Query.{Query as Asked}
 use Rattle.refutation_tree.specs.RefutationLists.{RefutationLists}
 use Rattle.finite_model.specs.ModelLists.{ModelLists}
-use Rattle.set_questions.specs.Asked.{Answers, ShowsNoOther}
+use Rattle.set_questions.specs.Asked.{Answers, ShowsNoOther, AsksInBudget}
 use Rattle.set_questions.specs.declared.entail.Reply.{Reply}
 use Rattle.decision_jobs.specs.Entry.{Entry}
 use Rattle.decision_jobs.specs.Entry.TheVariants.{Test, Node}
@@ -33,6 +33,7 @@ use Rattle.pinpointing_jobs.specs.AskerLists.{AskerLists}
 use Rattle.pinpointing_jobs.specs.Told.{asker_meaning, IsUnknown, LogsNode}
 use Rattle.pinpointing_jobs.specs.Asking.{reply_of, IsLater}
 use Rattle.pinpointing_jobs.specs.Deciding.{GainsTest}
+use Rattle.pinpointing_jobs.proofs.Answering.{tested_in_budget}
 use Rattle.pinpointing_jobs.proofs.Tested.{nodes_test}
 use Rattle.audit_jobs.specs.declared.evidence.CounterModel.{CounterModel}
 use Rattle.audit_jobs.specs.declared.evidence.Evidence.{Evidence}
@@ -252,6 +253,8 @@ has_told a b s v reply is gains answer unknown shown = record {
   answer = subst (Answers (asker_meaning b) s) (sym is) answer;
   unknown = subst (IsUnknown b s) (sym is) unknown;
   shown = subst (ShowsNoOther (asker_meaning a) (asker_meaning b)) (sym is) shown;
+  in_budget =
+      subst (AsksInBudget (asker_meaning a) (asker_meaning b)) (sym is) (tested_in_budget a b s v gains);
   later = gained_later a b s v gains;
   counted = ap (λ (x : AskerLists). x.asks) gains.is_more;
   nodes = gained_nodes a b s v gains;

@@ -4,7 +4,7 @@ use Rattle.std.proofs.Common.{refl, sym}
 use Rattle.std.proofs.Common.{◌∙◌, subst, arith, inr}
 use Rattle.std.specs.Prelude.{IfOk, OnErr}
 use Rattle.std.specs.Result.{result_map_both}
-use Rattle.std.specs.List.{Contains}
+use Rattle.std.specs.List.{Contains, list_any}
 use Rattle.std.specs.FinSet as set
 use Rattle.std.proofs.lemmas.List.Elements.{All-contains}
 use Rattle.lane_sieve.specs.Sets.{NumberSet, IsPart}
@@ -19,13 +19,14 @@ use Rattle.set_questions.proofs.Rest.{numbers_within}
 use Rattle.pinpointing_jobs.specs.TreeFound.{Found}
 use Rattle.pinpointing_jobs.specs.Found.{IsFound, ListsAllShown, HasTree}
 use Rattle.pinpointing_jobs.specs.Open.{AsksFew}
+use Rattle.pinpointing_jobs.specs.Tree.{LooksInBudget}
 use Rattle.shq_terms.specs.Listed.{Listed}
 use Rattle.shq_terms.specs.NoMemory.{NoMemory}
 use Rattle.shq_terms.specs.declared.axioms.Query.{Query as Asked}
 use Rattle.decision_jobs.specs.Entry.{Entry}
 use Rattle.decision_jobs.specs.Entry.TheVariants.{Test}
 use Rattle.decision_jobs.specs.TestEnd.TheVariants as E
-use Rattle.decision_jobs.specs.Entries.{spent_of, nodes_of}
+use Rattle.decision_jobs.specs.Entries.{spent_of, nodes_of, is_spent}
 use Rattle.decision_jobs.specs.HonestLog.{IsHonestEntry, IsJustificationSet, AreTreeNodes}
 use Rattle.pinpointing_jobs.specs.OracleLists.{OracleLists}
 use Rattle.run_log.specs.Shown.{IsShownYes, IsShownNo}
@@ -38,7 +39,7 @@ use Rattle.audit_jobs.specs.declared.evidence.Evidence.{Evidence}
 use Rattle.audit_jobs.specs.declared.searching.Searched.{Searched}
 use Rattle.audit_jobs.specs.Kept.{HasRefutation, IsEvidence}
 use Rattle.audit_jobs.specs.Witnessed.{IsEvidenceLog, HasAsked, HasModelOutside, IsOfAll, IsCutShort, IsSearched}
-use Rattle.audit_jobs.specs.Witnessed.{ShowsEvidence}
+use Rattle.audit_jobs.specs.Witnessed.{ShowsEvidence, IsUnspentLog}
 
 -- ---- the evidence of what was shown
 
@@ -93,7 +94,8 @@ module _ (a : AskerLists) (s : Searched) (is_log : IsAskerLog a) (found : IsFoun
     (asked : a.asks ≤ (length a.ontology.axioms + 1) * length (nodes_of a.gained))
     (small : length a.ontology.axioms ≤ 20000) (budget_small : a.budget < 2 ^ 32)
     (begun : AskerLists) (fresh_log : begun.gained ≡ [])
-    (lists : ListsAllShown (asker_meaning begun) (asker_meaning a) s.found) where
+    (lists : ListsAllShown (asker_meaning begun) (asker_meaning a) s.found)
+    (in_budget : LooksInBudget (asker_meaning begun) (asker_meaning a) s.found.finished) where
   keep : KeepsAnswers a.ontology.axioms a.query a.local_part
   keep = subst (KeepsAnswers a.ontology.axioms a.query) (sym whole) (all_keep a.ontology.axioms a.query)
 
@@ -151,6 +153,12 @@ module _ (a : AskerLists) (s : Searched) (is_log : IsAskerLog a) (found : IsFoun
     taken = λ r x. found.leaf_taken (of_axioms a.ontology.axioms r) (leaf_of finished r x);
   }
 
+  unspent : s.found.finished ≡ true → list_any is_spent a.gained ≡ false
+  unspent finished =
+      let same : (asker_meaning a).ran_out ≡ (asker_meaning begun).ran_out =
+      subst (LooksInBudget (asker_meaning begun) (asker_meaning a)) finished in_budget in
+      same ∙ ap (list_any is_spent) fresh_log
+
   searched : IsSearched a.ontology a.query (left_at_first a) a.gained s
   searched = record {
     honest =
@@ -166,6 +174,7 @@ module _ (a : AskerLists) (s : Searched) (is_log : IsAskerLog a) (found : IsFoun
       explored = found.explored;
     };
     shown = shows;
+    unspent = unspent;
     spent = λ unfinished. omega (arith, found.spent unfinished, is_log.within, spent_both a is_log);
     cut_short = cut;
   }
@@ -218,28 +227,36 @@ module _ (o : Listed) (q : Asked) (budget : ℕ) (begun ended : AskerLists) (log
 
   pub all_begun : length o.axioms ≤ 20000 → budget < 2 ^ 32 → (e : Evidence) (r : Result Found NoMemory)
       → OnErr r (HasTree (asker_meaning ended))
+      → OnErr r ((asker_meaning ended).ran_out ≡ (asker_meaning begun).ran_out)
       → AsksFew (length ended.ontology.axioms) (asker_meaning begun) (asker_meaning ended)
       → OnErr (result_map_both (with_evidence e) (λ (x : NoMemory). x) r) (HasAsked o q budget log)
-  all_begun small budget_small e (Ok f) begun_tree asked = tt
-  all_begun small budget_small e (Err x) begun_tree asked =
+  all_begun small budget_small e (Ok f) begun_tree ran_out asked = tt
+  all_begun small budget_small e (Err x) begun_tree ran_out asked =
       let count : length ended.ontology.axioms ≡ length o.axioms = ap (λ (l : Listed). length l.axioms) of.ontology in
-      inr (along IsEvidenceLog ended.ontology o ended.query q (left_at_first ended) budget ended.gained log of.ontology
-      of.query left logged
-      (honest_by ended is_log (asks_few o q budget (numbers_to (length o.axioms)) [] begun ended made asked)
-      (omega (arith, small, count)) (omega (arith, budget_small, of.budget_is))
-      (tree ended begun_tree.labels begun_tree.limits begun_tree.smallest begun_tree.nodes)))
+      inr (record {
+        honest =
+            along IsEvidenceLog ended.ontology o ended.query q (left_at_first ended) budget ended.gained log of.ontology
+            of.query left logged
+            (honest_by ended is_log (asks_few o q budget (numbers_to (length o.axioms)) [] begun ended made asked)
+            (omega (arith, small, count)) (omega (arith, budget_small, of.budget_is))
+            (tree ended begun_tree.labels begun_tree.limits begun_tree.smallest begun_tree.nodes));
+        unspent =
+            ap (list_any is_spent) (sym logged) ∙ ran_out ∙ ap (λ (a : AskerLists). list_any is_spent a.gained) made;
+      })
 
   pub all_searched : (e : Evidence) → IsEvidence ended.ontology ended.query ended.gained e → length o.axioms ≤ 20000
       → budget < 2 ^ 32 → (r : Result Found NoMemory) → IfOk r (IsFound (asker_meaning ended))
       → IfOk r (ListsAllShown (asker_meaning begun) (asker_meaning ended))
+      → IfOk r (λ (f : Found). LooksInBudget (asker_meaning begun) (asker_meaning ended) f.finished)
       → AsksFew (length ended.ontology.axioms) (asker_meaning begun) (asker_meaning ended)
       → IfOk (result_map_both (with_evidence e) (λ (x : NoMemory). x) r) (IsSearched o q budget log)
-  all_searched e evidence small budget_small (Err x) found lists few = tt
-  all_searched e evidence small budget_small (Ok f) found lists few =
+  all_searched e evidence small budget_small (Err x) found lists in_budget few = tt
+  all_searched e evidence small budget_small (Ok f) found lists in_budget few =
       let count : length ended.ontology.axioms ≡ length o.axioms = ap (λ (l : Listed). length l.axioms) of.ontology in
       let s : Searched = with_evidence e f in
       along (λ l k n es. IsSearched l k n es s) ended.ontology o ended.query q (left_at_first ended) budget ended.gained
       log of.ontology of.query left logged
       (searched ended s is_log found evidence (of.local_part ∙ ap numbers_to (sym count))
       (asks_few o q budget (numbers_to (length o.axioms)) [] begun ended made few) (omega (arith, small, count))
-      (omega (arith, budget_small, of.budget_is)) begun (ap (λ (x : AskerLists). x.gained) made) lists)
+      (omega (arith, budget_small, of.budget_is)) begun (ap (λ (x : AskerLists). x.gained) made) lists
+      in_budget)

@@ -17,7 +17,7 @@ use Rattle.job_inputs.specs.Questions.{follows, IsQuestion}
 use Rattle.job_inputs.specs.Refusals.{IsRefused, HasBegun}
 use Rattle.pinpointing_jobs.specs.Memory.{UnlessNoMemory}
 use Rattle.pinpointing_jobs.specs.Listings.{end_status}
-use Rattle.audit_jobs.specs.Witnessed.{IsEvidenceLog, ShowsEvidence, IsCutShort}
+use Rattle.audit_jobs.specs.Witnessed.{IsEvidenceLog, IsUnspentLog, ShowsEvidence, IsCutShort}
 
 -- ---- what is printed
 
@@ -62,8 +62,9 @@ pub record IsEvidenced (statement : List ℕ) (budget : ℕ) (bytes out : List �
   pub is_question : IsQuestion (follows statement) bytes ontology query
   pub answer : IsEvidenceAnswer ontology query budget log s out
 
--- the document or the statement is refused, or the statement was searched
+-- the document or the statement is refused, or the statement was searched; if memory was refused, no test ended because
+-- the budget was spent
 abbrev pub AnswersEvidence : List ℕ → ℕ → List ℕ → List ℕ → Status → List Entry → Type 0
 AnswersEvidence statement budget bytes out s log =
-    UnlessNoMemory s out (HasBegun (follows statement) bytes log (λ o q. IsEvidenceLog o q budget log))
+    UnlessNoMemory s out (HasBegun (follows statement) bytes log (λ o q. IsUnspentLog o q budget log))
     (IsRefused (follows statement) bytes out s log ⊎ IsEvidenced statement budget bytes out s log)

@@ -6,7 +6,7 @@ use Rattle.job_inputs.specs.Inputs.{IsInputOf, IsNoInputOf}
 use Rattle.job_inputs.specs.Questions.{follows}
 use Rattle.job_inputs.specs.declared.status.Status.{Status}
 use Rattle.pinpointing_jobs.specs.QuestionTold.{question_told}
-use Rattle.audit_jobs.specs.Witnessed.{IsEvidenceLog, HasAsked}
+use Rattle.audit_jobs.specs.Witnessed.{IsUnspentLog, HasAsked}
 use Rattle.audit_jobs.specs.Answers.{IsEvidenceAnswer, IsEvidenced, AnswersEvidence}
 
 pub evidence_told : (statement : List ℕ) (budget : ℕ) (bytes out : List ℕ) (log : List Entry) (s : Status)
@@ -15,7 +15,7 @@ pub evidence_told : (statement : List ℕ) (budget : ℕ) (bytes out : List ℕ)
     (λ i l. HasAsked i.ontology i.query budget l) log out s
     → AnswersEvidence statement budget bytes out s log
 evidence_told statement budget bytes out log s =
-    question_told (follows statement) bytes out log (λ o q. IsEvidenceLog o q budget log)
+    question_told (follows statement) bytes out log (λ o q. IsUnspentLog o q budget log)
     (λ s. IsEvidenced statement budget bytes out s log)
     (λ i l s out. IsEvidenceAnswer i.ontology i.query budget l s out) (λ i l. HasAsked i.ontology i.query budget l)
     (λ i s read so. (

@@ -1,5 +1,6 @@
 -- What the search for justifications and repairs finds, with the evidence of its tests.
 use Rattle.std.specs.Prelude.{◌≡◌, ◌⊎◌, ℕ, ◌++◌, [], true, false, List, length, Contains}
+use Rattle.std.specs.List.{list_any}
 use Rattle.lane_sieve.specs.Sets.{NumberSet, IsPart}
 use Rattle.axiom_sets.specs.Sets.{Limited}
 use Rattle.pinpointing_specs.specs.LocalModule.{FollowsFrom, of_axioms, IsJustification, IsRepair}
@@ -12,7 +13,7 @@ use Rattle.shq_terms.specs.Listed.{Listed}
 use Rattle.shq_terms.specs.declared.axioms.Query.{Query as Asked}
 use Rattle.refutation_tree.specs.RefutationLists.{RefutationLists}
 use Rattle.decision_jobs.specs.Entry.{Entry}
-use Rattle.decision_jobs.specs.Entries.{spent_of, nodes_of}
+use Rattle.decision_jobs.specs.Entries.{spent_of, nodes_of, is_spent}
 use Rattle.decision_jobs.specs.HonestLog.{IsJustificationSet, IsHonestWithin, AreTestsOf, AsksNoAnswer, AreTreeNodes}
 use Rattle.decision_jobs.specs.HonestLog.{AsksFewPerNode}
 use Rattle.run_log.specs.Shown.{IsShownYes, IsShownNo}
@@ -32,9 +33,15 @@ pub record IsEvidenceLog (o : Listed) (q : Asked) (budget : ℕ) (log : List Ent
   pub nodes : AreTreeNodes o q log
   pub few : AsksFewPerNode o log
 
--- nothing was asked, or the log is such a one
+-- the log of such a search, in which no test ended because the budget was spent
+pub record IsUnspentLog (o : Listed) (q : Asked) (budget : ℕ) (log : List Entry) : Type 0 where
+  pub honest : IsEvidenceLog o q budget log
+  pub unspent : list_any is_spent log ≡ false
+
+-- where memory was refused, nothing was asked, or the log is such a one: that the budget was spent is told without
+-- memory
 abbrev pub HasAsked : Listed → Asked → ℕ → List Entry → Type 0
-HasAsked o q budget log = (log ≡ []) ⊎ IsEvidenceLog o q budget log
+HasAsked o q budget log = (log ≡ []) ⊎ IsUnspentLog o q budget log
 
 -- ---- what was found
 
@@ -72,10 +79,11 @@ pub record IsCutShort (o : Listed) (q : Asked) (log : List Entry) : Type 0 where
   pub justifications : (j : Limited) → Contains found j → IsJustificationSet o q j
   pub known : AreKnownAmong (IsOfAll o) o q log found
 
--- a query was searched, with this log
+-- a query was searched, with this log; if the search was finished, no test ended because the budget was spent
 pub record IsSearched (o : Listed) (q : Asked) (budget : ℕ) (log : List Entry) (s : Searched) : Type 0 where
   pub honest : IsEvidenceLog o q budget log
   pub witnessed : IsWitnessed o q s.found s.evidence.refutations.items s.evidence.models.items
   pub shown : s.found.finished ≡ true → ShowsEvidence o q log
+  pub unspent : s.found.finished ≡ true → list_any is_spent log ≡ false
   pub spent : s.found.finished ≡ false → spent_of log ≡ budget
   pub cut_short : s.found.finished ≡ false → IsCutShort o q log

@@ -24,7 +24,7 @@ pub(crate) struct Searched {
 ///
 /// # Errors
 ///
-/// Out of memory. The log is empty then, or honest all the same.
+/// Out of memory. The log is empty then, or honest all the same, and no test ended because the budget was spent.
 pub(crate) fn search(
     alloc: Global,
     ontology: &Ontology,

@@ -4,6 +4,7 @@ pub mod Path
 pub mod Settling
 pub mod Begun
 pub mod Showing
+pub mod InBudget
 pub mod Finding
 pub mod Counts
 pub mod Children

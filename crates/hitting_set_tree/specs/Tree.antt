@@ -6,6 +6,7 @@ use Rattle.lane_sieve.specs.Sets.{NumberSet, IsPart}
 use Rattle.axiom_sets.specs.Sets.{Limited, IsWithin}
 use Rattle.pinpointing_specs.specs.Smallest.{rest, IsMinimalYes, HasPart, MeetsEach, IsExplored}
 use Rattle.pinpointing_specs.specs.Nodes.{IsSettled}
+use Rattle.set_questions.specs.InOrder.{AreInOrder}
 use Rattle.set_questions.specs.Meaning.{Meaning}
 use Rattle.set_questions.specs.declared.entail.Reply.{Reply}
 use Rattle.set_questions.specs.declared.entail.Reply.TheVariants.{Yes, No, Spent}
@@ -25,6 +26,10 @@ pub record Lists : Type 0 where
 -- what the tree of the code keeps, as lists
 abbrev pub lists : Tree → Lists
 lists t = record { justifications = t.justifications.items; leaves = t.leaves.items; frames = t.frames.items }
+
+-- the sets that were found are kept in their order too
+abbrev pub IsOrdered : Tree → Type 0
+IsOrdered t = AreInOrder t.justifications.items t.ordered.items
 
 -- the lists with one frame more
 abbrev pub with_frame : Lists → Frame → Lists
@@ -104,6 +109,23 @@ HasFoundNamed m justifications Spent went_on = Unit {0}
 abbrev pub ListsShown : Meaning → Meaning → List Limited → Bool → Type 0
 ListsShown m m' justifications went_on = (s : NumberSet) → m'.shown_yes s
     → m.shown_yes s ⊎ HasFoundIn m' justifications s went_on
+
+-- no test ended from m to m' because the budget was spent, unless that is told
+abbrev pub LooksInBudget : Meaning → Meaning → Bool → Type 0
+LooksInBudget m m' true = m'.ran_out ≡ m.ran_out
+LooksInBudget m m' false = Unit {0}
+
+-- the same after an answer: if it was that the budget is spent, that is told
+abbrev pub SettlesInBudget : Meaning → Meaning → Reply → Bool → Type 0
+SettlesInBudget m m' (Yes part) went_on = LooksInBudget m m' went_on
+SettlesInBudget m m' No went_on = LooksInBudget m m' went_on
+SettlesInBudget m m' Spent went_on = went_on ≡ false
+
+-- the same where memory was refused, which never happens after the answer that the budget is spent
+abbrev pub FailsInBudget : Meaning → Meaning → Reply → Type 0
+FailsInBudget m m' (Yes part) = m'.ran_out ≡ m.ran_out
+FailsInBudget m m' No = m'.ran_out ≡ m.ran_out
+FailsInBudget m m' Spent = ⊥
 
 -- so it is by this node
 abbrev pub IsOutstanding : Lists → Node → Type 0

@@ -11,9 +11,10 @@ ghost use Rattle.set_questions.specs.Meaning.{Keeps, ShowsNothing};
 ghost use Rattle.set_questions.specs.Asked.{Answers, IsUnknownIf};
 ghost use Rattle.hitting_set_tree.specs.Territory.{IsNode, IsFrame, InNode, InFrame, Frames};
 ghost use Rattle.hitting_set_tree.specs.Weight.{node_weight, frame_weight};
-ghost use Rattle.hitting_set_tree.specs.Tree.{lists, with_frame, others, HoldsLists, AreFrames, IsCovered};
+ghost use Rattle.hitting_set_tree.specs.Tree.{lists, IsOrdered, with_frame, others, HoldsLists, AreFrames, IsCovered};
 ghost use Rattle.hitting_set_tree.specs.Tree.{IsOutstanding, IsStep, IsGrown, AddsLabel, AddsLeaf};
-ghost use Rattle.hitting_set_tree.specs.Tree.{HasFoundIn, HasFoundNamed, ListsShown, KeepsAll};
+ghost use Rattle.hitting_set_tree.specs.Tree.{HasFoundIn, HasFoundNamed, ListsShown, KeepsAll, LooksInBudget};
+ghost use Rattle.hitting_set_tree.specs.Tree.{SettlesInBudget, FailsInBudget};
 ghost use Rattle.hitting_set_tree.specs.Open.{HasOpen, HasPending, IsBeside, StaysOpen, TakesPath, Closes, AsksFew};
 ghost use Rattle.hitting_set_tree.specs.Found.{IsFound, ListsAllShown, HasTree};
 
@@ -21,13 +22,18 @@ use crate::{Frame, Look, Node, frame_of, next_child};
 use axiom_sets::AxiomSet;
 use justification_shrink::{Shrunk, shrink};
 use lane_sieve::NoMemory;
-use set_questions::{Entail, Reply, in_order, place_apart, place_of_part, rest_of};
+use set_questions::{Entail, Reply, place_apart, place_of_part, put_in_order, rest_of};
 use std::alloc::Global;
 
 /// What is known, and what is still to be looked at.
 #[derive(Drop)]
 pub struct Tree {
+    /// The smallest yes-sets that were found, in the order in which a label is looked for among them.
     justifications: Vec<AxiomSet>,
+
+    /// The same sets in the order of sets. Each is put here when it is found, so that no memory is needed once the
+    /// budget is spent.
+    ordered: Vec<AxiomSet>,
     leaves: Vec<AxiomSet>,
     frames: Vec<Frame>,
 
@@ -59,19 +65,23 @@ pub struct Found {
 ///
 /// # Errors
 /// Where memory is refused. The sets that were taken until then are nodes of such a tree all the same, and no more was
-/// asked than goes with them.
+/// asked than goes with them. No test ended because the budget was spent: that is told without memory.
 pub fn enumerate<E: Entail>(alloc: Global, entail: &mut E) -> Result<Found, NoMemory>
     requires { (E.meaning entail.old).taken ≡ [] }
     ensures keeps { Keeps (E.meaning entail.old) (E.meaning entail.new) }
     ensures same { E.origin entail.new ≡ E.origin entail.old }
     ensures found { IfOk result (IsFound (E.meaning entail.new)) }
     ensures shown { IfOk result (ListsAllShown (E.meaning entail.old) (E.meaning entail.new)) }
+    ensures in_budget { IfOk result
+        (λ f. LooksInBudget (E.meaning entail.old) (E.meaning entail.new) f.finished) }
     ensures begun { OnErr result (HasTree (E.meaning entail.new)) }
+    ensures ran_out { OnErr result ((E.meaning entail.new).ran_out ≡ (E.meaning entail.old).ran_out) }
     ensures asked { AsksFew (E.meaning entail.new).size (E.meaning entail.old) (E.meaning entail.new) }
 {
     let count = entail.count();
     let mut tree = Tree {
         justifications: Vec::new(alloc),
+        ordered: Vec::new(alloc),
         leaves: Vec::new(alloc),
         frames: Vec::new(alloc),
         rooted: 0,
@@ -81,15 +91,15 @@ pub fn enumerate<E: Entail>(alloc: Global, entail: &mut E) -> Result<Found, NoMe
         barred: AxiomSet::empty(alloc, count)?,
     };
     let finished = grow(alloc, entail, &mut tree, root)?;
-    let justifications = in_order(alloc, &tree.justifications)?;
     let Tree {
         justifications: _,
+        ordered,
         leaves,
         frames: _,
         rooted: _,
     } = tree;
     Ok(Found {
-        justifications,
+        justifications: ordered,
         leaves,
         finished,
     })
@@ -104,6 +114,7 @@ fn grow<E: Entail>(
 ) -> Result<bool, NoMemory>
     requires node { IsNode (E.meaning entail.old).size root }
     requires listed { HoldsLists (E.meaning entail.old) (lists tree.old) }
+    requires order { IsOrdered tree.old }
     requires open { HasOpen (E.meaning entail.old).taken (lists tree.old) tree.old.rooted }
     requires beside { IsBeside (E.meaning entail.old).taken (lists tree.old).frames root }
     requires covered { IsCovered (lists tree.old) (InNode root) }
@@ -113,7 +124,10 @@ fn grow<E: Entail>(
     ensures grown { IfOk result (IsGrown (E.meaning entail.new) (lists tree.new)) }
     ensures shown { IfOk result
         (ListsShown (E.meaning entail.old) (E.meaning entail.new) (lists tree.new).justifications) }
+    ensures order { OnOk result (IsOrdered tree.new) }
+    ensures in_budget { IfOk result (LooksInBudget (E.meaning entail.old) (E.meaning entail.new)) }
     ensures begun { OnErr result (HasTree (E.meaning entail.new)) }
+    ensures ran_out { OnErr result ((E.meaning entail.new).ran_out ≡ (E.meaning entail.old).ran_out) }
     ensures asked { AsksFew (E.meaning entail.old).size (E.meaning entail.old) (E.meaning entail.new) }
 {
     let went_on = visit(alloc, entail, tree, root)?;
@@ -126,6 +140,7 @@ fn grow<E: Entail>(
 /// Looks at frames, the last one first, until none is left or the budget is spent.
 fn run<E: Entail>(alloc: Global, entail: &mut E, tree: &mut Tree) -> Result<bool, NoMemory>
     requires listed { HoldsLists (E.meaning entail.old) (lists tree.old) }
+    requires order { IsOrdered tree.old }
     requires open { HasOpen (E.meaning entail.old).taken (lists tree.old) tree.old.rooted }
     requires covered { IsCovered (lists tree.old) (λ _. ⊥) }
     ensures keeps { Keeps (E.meaning entail.old) (E.meaning entail.new) }
@@ -135,7 +150,10 @@ fn run<E: Entail>(alloc: Global, entail: &mut E, tree: &mut Tree) -> Result<bool
     ensures grows { OnOk result (KeepsAll (lists tree.old).justifications (lists tree.new).justifications) }
     ensures shown { IfOk result
         (ListsShown (E.meaning entail.old) (E.meaning entail.new) (lists tree.new).justifications) }
+    ensures order { OnOk result (IsOrdered tree.new) }
+    ensures in_budget { IfOk result (LooksInBudget (E.meaning entail.old) (E.meaning entail.new)) }
     ensures begun { OnErr result (HasTree (E.meaning entail.new)) }
+    ensures ran_out { OnErr result ((E.meaning entail.new).ran_out ≡ (E.meaning entail.old).ran_out) }
     ensures asked { AsksFew (E.meaning entail.old).size (E.meaning entail.old) (E.meaning entail.new) }
 {
     while let Some(frame) = tree.frames.pop() {
@@ -156,6 +174,7 @@ fn look_on<E: Entail>(
 ) -> Result<bool, NoMemory>
     requires frame { IsFrame (E.meaning entail.old).size frame }
     requires listed { HoldsLists (E.meaning entail.old) (lists tree.old) }
+    requires order { IsOrdered tree.old }
     requires open { HasOpen (E.meaning entail.old).taken (with_frame (lists tree.old) frame) tree.old.rooted }
     ensures keeps { Keeps (E.meaning entail.old) (E.meaning entail.new) }
     ensures same { E.origin entail.new ≡ E.origin entail.old }
@@ -164,7 +183,10 @@ fn look_on<E: Entail>(
         (IsStep (E.meaning entail.new) (lists tree.old) (lists tree.new) (InFrame frame) (frame_weight frame)) }
     ensures shown { IfOk result
         (ListsShown (E.meaning entail.old) (E.meaning entail.new) (lists tree.new).justifications) }
+    ensures order { OnOk result (IsOrdered tree.new) }
+    ensures in_budget { IfOk result (LooksInBudget (E.meaning entail.old) (E.meaning entail.new)) }
     ensures begun { OnErr result (HasTree (E.meaning entail.new)) }
+    ensures ran_out { OnErr result ((E.meaning entail.new).ran_out ≡ (E.meaning entail.old).ran_out) }
     ensures asked { AsksFew (E.meaning entail.old).size (E.meaning entail.old) (E.meaning entail.new) }
 {
     match next_child(&mut frame)? {
@@ -190,6 +212,7 @@ fn visit<E: Entail>(
 ) -> Result<bool, NoMemory>
     requires node { IsNode (E.meaning entail.old).size node }
     requires listed { HoldsLists (E.meaning entail.old) (lists tree.old) }
+    requires order { IsOrdered tree.old }
     requires open { HasOpen (E.meaning entail.old).taken (lists tree.old) tree.old.rooted }
     requires beside { IsBeside (E.meaning entail.old).taken (lists tree.old).frames node }
     ensures keeps { Keeps (E.meaning entail.old) (E.meaning entail.new) }
@@ -199,7 +222,10 @@ fn visit<E: Entail>(
         (IsStep (E.meaning entail.new) (lists tree.old) (lists tree.new) (InNode node) (node_weight node)) }
     ensures shown { IfOk result
         (ListsShown (E.meaning entail.old) (E.meaning entail.new) (lists tree.new).justifications) }
+    ensures order { OnOk result (IsOrdered tree.new) }
+    ensures in_budget { IfOk result (LooksInBudget (E.meaning entail.old) (E.meaning entail.new)) }
     ensures begun { OnErr result (HasTree (E.meaning entail.new)) }
+    ensures ran_out { OnErr result ((E.meaning entail.new).ran_out ≡ (E.meaning entail.old).ran_out) }
     ensures asked { AsksFew (E.meaning entail.old).size (E.meaning entail.old) (E.meaning entail.new) }
 {
     if let Some(place) = place_apart(&tree.justifications, &node.hit) {
@@ -234,6 +260,7 @@ fn take_and_ask<E: Entail>(
 ) -> Result<bool, NoMemory>
     requires node { IsNode (E.meaning entail.old).size node }
     requires listed { HoldsLists (E.meaning entail.old) (lists tree.old) }
+    requires order { IsOrdered tree.old }
     requires open { HasOpen (E.meaning entail.old).taken (lists tree.old) tree.old.rooted }
     requires beside { IsBeside (E.meaning entail.old).taken (lists tree.old).frames node }
     requires outstanding { IsOutstanding (lists tree.old) node }
@@ -244,7 +271,10 @@ fn take_and_ask<E: Entail>(
         (IsStep (E.meaning entail.new) (lists tree.old) (lists tree.new) (InNode node) (node_weight node)) }
     ensures shown { IfOk result
         (ListsShown (E.meaning entail.old) (E.meaning entail.new) (lists tree.new).justifications) }
+    ensures order { OnOk result (IsOrdered tree.new) }
+    ensures in_budget { IfOk result (LooksInBudget (E.meaning entail.old) (E.meaning entail.new)) }
     ensures begun { OnErr result (HasTree (E.meaning entail.new)) }
+    ensures ran_out { OnErr result ((E.meaning entail.new).ran_out ≡ (E.meaning entail.old).ran_out) }
     ensures asked { AsksFew (E.meaning entail.old).size (E.meaning entail.old) (E.meaning entail.new) }
 {
     let taken = take_path(entail, tree, &node)?;
@@ -265,6 +295,7 @@ fn take_path<E: Entail>(entail: &mut E, tree: &Tree, node: &Node) -> Result<bool
     ensures taken { IfOk result (TakesPath (E.meaning entail.new) (lists tree.now) node.now) }
     ensures shown { ShowsNothing (E.meaning entail.old) (E.meaning entail.new) }
     ensures asks { (E.meaning entail.new).asks ≡ (E.meaning entail.old).asks }
+    ensures ran_out { (E.meaning entail.new).ran_out ≡ (E.meaning entail.old).ran_out }
     ensures more { IfOk result (λ b. b ≡ true →
         length (E.meaning entail.old).taken < length (E.meaning entail.new).taken) }
     ensures begun { OnErr result (AreNodes (lists tree.now).justifications (E.meaning entail.new).taken) }
@@ -289,6 +320,7 @@ fn ask_node<E: Entail>(
 ) -> Result<bool, NoMemory>
     requires node { IsNode (E.meaning entail.old).size node }
     requires listed { HoldsLists (E.meaning entail.old) (lists tree.old) }
+    requires order { IsOrdered tree.old }
     requires pending { HasPending (E.meaning entail.old).taken (lists tree.old) node }
     requires outstanding { IsOutstanding (lists tree.old) node }
     ensures keeps { Keeps (E.meaning entail.old) (E.meaning entail.new) }
@@ -299,7 +331,10 @@ fn ask_node<E: Entail>(
         (IsStep (E.meaning entail.new) (lists tree.old) (lists tree.new) (InNode node) (node_weight node)) }
     ensures shown { IfOk result
         (ListsShown (E.meaning entail.old) (E.meaning entail.new) (lists tree.new).justifications) }
+    ensures order { OnOk result (IsOrdered tree.new) }
+    ensures in_budget { IfOk result (LooksInBudget (E.meaning entail.old) (E.meaning entail.new)) }
     ensures begun { OnErr result (HasTree (E.meaning entail.new)) }
+    ensures ran_out { OnErr result ((E.meaning entail.new).ran_out ≡ (E.meaning entail.old).ran_out) }
     ensures asked { (E.meaning entail.new).asks ≤ (E.meaning entail.old).asks + ((E.meaning entail.old).size + 1) }
 {
     let rest = rest_of(alloc, &node.hit)?;
@@ -318,6 +353,7 @@ fn settle<E: Entail>(
     requires node { IsNode (E.meaning entail.old).size node }
     requires within { IsWithin node.hit.limit node.hit.members }
     requires listed { HoldsLists (E.meaning entail.old) (lists tree.old) }
+    requires order { IsOrdered tree.old }
     requires pending { HasPending (E.meaning entail.old).taken (lists tree.old) node }
     requires outstanding { IsOutstanding (lists tree.old) node }
     requires answer { Answers (E.meaning entail.old) (others node) answer }
@@ -331,7 +367,10 @@ fn settle<E: Entail>(
     ensures named { IfOk result (HasFoundNamed (E.meaning entail.new) (lists tree.new).justifications answer) }
     ensures shown { IfOk result
         (ListsShown (E.meaning entail.old) (E.meaning entail.new) (lists tree.new).justifications) }
+    ensures order { OnOk result (IsOrdered tree.new) }
+    ensures in_budget { IfOk result (SettlesInBudget (E.meaning entail.old) (E.meaning entail.new) answer) }
     ensures begun { OnErr result (HasTree (E.meaning entail.new)) }
+    ensures ran_out { OnErr result (FailsInBudget (E.meaning entail.old) (E.meaning entail.new) answer) }
     ensures asked { (E.meaning entail.new).asks ≤ (E.meaning entail.old).asks + (E.meaning entail.old).size }
 {
     match answer {
@@ -353,6 +392,7 @@ fn label_node<E: Entail>(
 ) -> Result<bool, NoMemory>
     requires node { IsNode (E.meaning entail.old).size node }
     requires listed { HoldsLists (E.meaning entail.old) (lists tree.old) }
+    requires order { IsOrdered tree.old }
     requires pending { HasPending (E.meaning entail.old).taken (lists tree.old) node }
     requires outstanding { IsOutstanding (lists tree.old) node }
     requires part { Answers (E.meaning entail.old) (others node) (Reply.Yes part.now) }
@@ -365,7 +405,10 @@ fn label_node<E: Entail>(
     ensures named { IfOk result (HasFoundIn (E.meaning entail.new) (lists tree.new).justifications part.now.members) }
     ensures shown { IfOk result
         (ListsShown (E.meaning entail.old) (E.meaning entail.new) (lists tree.new).justifications) }
+    ensures order { OnOk result (IsOrdered tree.new) }
+    ensures in_budget { IfOk result (LooksInBudget (E.meaning entail.old) (E.meaning entail.new)) }
     ensures begun { OnErr result (HasTree (E.meaning entail.new)) }
+    ensures ran_out { OnErr result ((E.meaning entail.new).ran_out ≡ (E.meaning entail.old).ran_out) }
     ensures asked { (E.meaning entail.new).asks ≤ (E.meaning entail.old).asks + (E.meaning entail.old).size }
 {
     match shrink(entail, part)? {
@@ -382,9 +425,13 @@ fn add_label(tree: &mut Tree, node: Node, just: AxiomSet) -> Result<(), NoMemory
     requires node { IsNode node.hit.limit node }
     requires limit { just.limit ≡ node.hit.limit }
     requires apart { AreApart just.members node.hit.members }
-    ensures { OnOk result (AddsLabel (lists tree.old) (lists tree.new) tree.new.rooted node just) }
+    requires limits { (s : Limited) → Contains tree.old.justifications.items s → s.limit ≡ just.limit }
+    requires order { IsOrdered tree.old }
+    ensures added { OnOk result (AddsLabel (lists tree.old) (lists tree.new) tree.new.rooted node just) }
+    ensures order { OnOk result (IsOrdered tree.new) }
 {
     let frame = frame_of(node, &just)?;
+    put_in_order(&mut tree.ordered, just.try_clone()?)?;
     tree.justifications.push(just)?;
     tree.frames.push(frame)?;
     tree.rooted = tree.frames.len();
@@ -393,7 +440,9 @@ fn add_label(tree: &mut Tree, node: Node, just: AxiomSet) -> Result<(), NoMemory
 
 /// Puts the node with the leaves.
 fn add_leaf(tree: &mut Tree, node: Node) -> Result<(), NoMemory>
-    ensures { OnOk result (AddsLeaf (lists tree.old) (lists tree.new) tree.new.rooted node) }
+    requires order { IsOrdered tree.old }
+    ensures added { OnOk result (AddsLeaf (lists tree.old) (lists tree.new) tree.new.rooted node) }
+    ensures order { OnOk result (IsOrdered tree.new) }
 {
     tree.leaves.push(node.hit)?;
     tree.rooted = tree.frames.len();

@@ -28,6 +28,11 @@ LosesNothing m m' start (Smallest j) = ShowsAbove m m' j
 LosesNothing m m' start Spent = (kept : Limited) × IsPart kept.members start.members × IsUndecided m' kept
     × ShowsAbove m m' kept
 
+-- no test ended meanwhile because the budget was spent, unless that is what came of it
+abbrev pub ShrinksInBudget : Meaning → Meaning → Shrunk → Type 0
+ShrinksInBudget m m' (Smallest j) = m'.ran_out ≡ m.ran_out
+ShrinksInBudget m m' Spent = Unit {0}
+
 -- what is left of a yes-set that was tried without one of its numbers: the same set, which needs the number if it has
 -- it, or a smaller one without it
 abbrev pub Tries : Meaning → Limited → ℕ → Shrunk → Type 0

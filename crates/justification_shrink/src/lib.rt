@@ -9,11 +9,11 @@
 //! nothing, and there are never more asks than the given set has members.
 #![tactic(auto)]
 
-ghost use Rattle.std.specs.Prelude.{◌≡◌, ◌+◌, ◌<◌, ◌≤◌, IfOk, cond, length};
+ghost use Rattle.std.specs.Prelude.{◌≡◌, ◌+◌, ◌<◌, ◌≤◌, IfOk, OnErr, cond, length};
 ghost use Rattle.std.specs.FinSet as set;
 ghost use Rattle.axiom_sets.specs.Sets.{member_list};
 ghost use Rattle.set_questions.specs.Meaning.{Keeps};
-ghost use Rattle.justification_shrink.specs.Shrunk.{ShrinksTo, LosesNothing, Tries, TriesAbove};
+ghost use Rattle.justification_shrink.specs.Shrunk.{ShrinksTo, LosesNothing, ShrinksInBudget, Tries, TriesAbove};
 
 use axiom_sets::AxiomSet;
 use lane_sieve::NoMemory;
@@ -33,7 +33,8 @@ pub enum Shrunk {
 /// budget was spent, it has a yes-set as part of which no answer says whether it is a smallest one.
 ///
 /// # Errors
-/// Where memory is refused. The object has then answered some asks, and means what it did.
+/// Where memory is refused. The object has then answered some asks, and means what it did. No test ended because the
+/// budget was spent: that is always told.
 pub fn shrink<E: Entail>(entail: &mut E, start: &AxiomSet) -> Result<Shrunk, NoMemory>
     requires limit { start.now.limit ≡ (E.meaning entail.old).size }
     requires yes_set { (E.meaning entail.old).holds start.now.members }
@@ -43,6 +44,8 @@ pub fn shrink<E: Entail>(entail: &mut E, start: &AxiomSet) -> Result<Shrunk, NoM
     ensures keeps { Keeps (E.meaning entail.old) (E.meaning entail.new) }
     ensures same { E.origin entail.new ≡ E.origin entail.old }
     ensures taken { (E.meaning entail.new).taken ≡ (E.meaning entail.old).taken }
+    ensures in_budget { IfOk result (ShrinksInBudget (E.meaning entail.old) (E.meaning entail.new)) }
+    ensures ran_out { OnErr result ((E.meaning entail.new).ran_out ≡ (E.meaning entail.old).ran_out) }
 {
     let mut kept = start.try_clone()?;
     let limit = start.limit();
@@ -71,6 +74,8 @@ fn try_without<E: Entail>(
     ensures keeps { Keeps (E.meaning entail.old) (E.meaning entail.new) }
     ensures same { E.origin entail.new ≡ E.origin entail.old }
     ensures taken { (E.meaning entail.new).taken ≡ (E.meaning entail.old).taken }
+    ensures in_budget { IfOk result (ShrinksInBudget (E.meaning entail.old) (E.meaning entail.new)) }
+    ensures ran_out { OnErr result ((E.meaning entail.new).ran_out ≡ (E.meaning entail.old).ran_out) }
 {
     if !kept.has(number) {
         return Ok(Shrunk::Smallest(kept));

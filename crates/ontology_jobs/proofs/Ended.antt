@@ -20,7 +20,7 @@ use Rattle.classification_jobs.specs.Status.{Status}
 use Rattle.classification_jobs.specs.Status.TheVariants.{Done, Rejected, BadWords, BadText, Outside, Limit, ReadFault}
 use Rattle.classification_jobs.specs.Status.TheVariants.{WriteFault, Undecided, NoMemory}
 use Rattle.audit_jobs.specs.Answers.{IsEvidenced}
-use Rattle.audit_jobs.specs.Witnessed.{IsEvidenceLog}
+use Rattle.audit_jobs.specs.Witnessed.{IsUnspentLog}
 use Rattle.audit_jobs.specs.PinpointingAnswers.{IsPinpointed, IsMeasured, AnswersWorkload}
 use Rattle.edit_session.specs.HonestLog.{IsPinpointingLog}
 use Rattle.audit_jobs.specs.Memory.{UnlessNoMemory}
@@ -150,7 +150,7 @@ evidence_ended statement budget bytes out s log known answer =
     elim (by_job (evidence statement budget) bytes out s log known answer) [
       | inl long ↦ too_long long
       | inr read ↦
-          elim (by_begun out s (HasBegun (follows statement) bytes log (λ o q. IsEvidenceLog o q budget log))
+          elim (by_begun out s (HasBegun (follows statement) bytes log (λ o q. IsUnspentLog o q budget log))
           (IsRefused (follows statement) bytes out s log ⊎ IsEvidenced statement budget bytes out s log) known read.1) [
             | inl r ↦ is_refused read.0 r.reply r.refused r.answer r.unlogged
             | inr e ↦

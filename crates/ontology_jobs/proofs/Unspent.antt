@@ -6,7 +6,7 @@ use Rattle.shq_terms.specs.declared.axioms.Query.{Query as Asked}
 use Rattle.edit_session.specs.Entry.{Entry}
 use Rattle.edit_session.specs.Entries.{is_spent}
 use Rattle.audit_jobs.proofs.Logged.{none_spent}
-use Rattle.classification_jobs.specs.Questions.{Text, has_element}
+use Rattle.classification_jobs.specs.Questions.{Text, has_element, follows}
 use Rattle.classification_jobs.specs.Refusals.{OnDocument, HasBegun, nothing, asked}
 use Rattle.classification_jobs.specs.Status.{Status}
 use Rattle.classification_jobs.specs.Status.TheVariants.{NoMemory}
@@ -49,8 +49,11 @@ spends_no_test (on_input (instances class budget)) bytes out log (inr (short, re
 spends_no_test (on_input (reasons class budget)) bytes out log refused = tt
 spends_no_test (on_input (session budget)) bytes out log refused = tt
 spends_no_test (on_input (pinpoint wanted statement budget)) bytes out log refused = tt
-spends_no_test (on_input (evidence statement budget)) bytes out log refused = tt
-spends_no_test (generated number budget) bytes out log refused = tt
+spends_no_test (on_input (evidence statement budget)) bytes out log (inl early) = none_spent log early.log_is
+spends_no_test (on_input (evidence statement budget)) bytes out log (inr (short, refused)) =
+    begun_unspent (follows statement) bytes log _ (λ o q so. so.unspent) refused.log_is
+spends_no_test (generated number budget) bytes out log refused =
+    begun_unspent _ _ log _ (λ o q so. so.unspent) refused.log_is
 
 pub answered_unspent : (held : Option (List ℕ)) (words : List (List ℕ)) (out : List ℕ) (s : Status) (log : List Entry)
     → AnswersAll held words out s log → s ≡ NoMemory → HasSpentNoTest (request_of words) log

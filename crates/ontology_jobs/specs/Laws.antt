@@ -85,9 +85,9 @@ UndecidedSpendsAll = (r : Request) (bytes out : List ℕ) (log : List Entry) →
 
 -- ---- out of memory
 
--- No test in the log ended with the budget spent. Nothing is said of a session, nor of the searches for
--- justifications: after the budget is spent, a session still takes memory for its line `undecided`, and these searches
--- take it for the sets that they have found by then.
+-- No test in the log ended with the budget spent. Nothing is said of a session, nor of lists of justifications, of
+-- repairs and of the reasons for instances: after the budget is spent, a session still takes memory for its line
+-- `undecided`, and a list takes it for what was found by then.
 abbrev pub SpendsNoTest : Request → List Entry → Type 0
 SpendsNoTest (on_input (check query)) log = list_any is_spent log ≡ false
 SpendsNoTest (on_input (audit query)) log = list_any is_spent log ≡ false
@@ -98,8 +98,8 @@ SpendsNoTest (on_input (instances class budget)) log = list_any is_spent log ≡
 SpendsNoTest (on_input (reasons class budget)) log = Unit {0}
 SpendsNoTest (on_input (session budget)) log = Unit {0}
 SpendsNoTest (on_input (pinpoint wanted statement budget)) log = Unit {0}
-SpendsNoTest (on_input (evidence statement budget)) log = Unit {0}
-SpendsNoTest (generated number budget) log = Unit {0}
+SpendsNoTest (on_input (evidence statement budget)) log = list_any is_spent log ≡ false
+SpendsNoTest (generated number budget) log = list_any is_spent log ≡ false
 
 -- the same of what words ask for
 abbrev pub HasSpentNoTest : Option Request → List Entry → Type 0

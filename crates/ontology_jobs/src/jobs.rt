@@ -43,8 +43,8 @@ pub fn run<S: Source, K: Sink>(
     // Where it is undecided, the whole budget was spent on what the log says.
     ensures undecided { result ≡ Status.Undecided → HasSpentAll (request_of (texts_of words.now)) log.new }
 
-    // Where it is out of memory, no test of a job that decides, classifies, realizes or lists instances ended with the
-    // budget spent: that is told as undecided.
+    // Where it is out of memory, no test of a job that decides, classifies, realizes, lists instances, finds evidence
+    // or counts the sets of a workload ended with the budget spent: that is told as undecided.
     ensures unspent { result ≡ Status.NoMemory → HasSpentNoTest (request_of (texts_of words.now)) log.new }
 
     // A run whose document and question are read, and which has something of its budget left, is done, but for faults

@@ -35,7 +35,7 @@ pub fn undecided_spends_all()
 {}
 
 /// An answer is out of memory only where no test of the log ended with the budget spent, if the words ask to decide, to
-/// classify, to realize or for instances, or for a verification.
+/// classify, to realize, for instances, for evidence or for a workload, or for a verification.
 pub fn no_memory_spends_no_test()
     ensures { NoMemorySpendsNoTest }
 {}

@@ -1,8 +1,8 @@
 -- From what a search found to the list that is written.
 use Rattle.std.proofs.Common.{◌≡◌, ℕ, ◌-◌, Bool, true, false, List, length, get_or, cond, Result, Ok, Err, refl, sym}
-use Rattle.std.proofs.Common.{subst, inr}
+use Rattle.std.proofs.Common.{subst, inl, inr}
 use Rattle.std.specs.Prelude.{IfOk, OnErr}
-use Rattle.std.specs.List.{Contains, All}
+use Rattle.std.specs.List.{Contains, All, list_any}
 use Rattle.std.proofs.lemmas.List.Elements.{Contains-get_or}
 use Rattle.shq_terms.specs.NoMemory.{NoMemory}
 use Rattle.axiom_sets.specs.Sets.{Limited}
@@ -15,14 +15,14 @@ use Rattle.shq_terms.specs.declared.axioms.Query.{Query as Asked}
 use Rattle.pinpointing_specs.specs.LocalModule.{of_axioms}
 use Rattle.pinpointing_specs.proofs.Grown.{grows}
 use Rattle.query_asker.specs.Entry.{Entry}
-use Rattle.query_asker.specs.Entries.{nodes_of}
+use Rattle.query_asker.specs.Entries.{nodes_of, is_spent}
 use Rattle.job_inputs.specs.declared.status.Status.{Status}
 use Rattle.pinpointing_jobs.specs.declared.wanted.Wanted.{Wanted}
 use Rattle.pinpointing_jobs.specs.declared.wanted.Wanted.TheVariants.{Justifications, Repairs}
 use Rattle.pinpointing_jobs.specs.Wanted.{IsRepairSet, HasAll, ShowsAll, HasSome}
 use Rattle.pinpointing_jobs.specs.Listings.{listing_text, end_status, IsListing, IsListAnswer}
 use Rattle.pinpointing_jobs.specs.Counts.{IsCount, IsCounted}
-use Rattle.pinpointing_jobs.specs.Begun.{HasSearched}
+use Rattle.pinpointing_jobs.specs.Begun.{HasSearched, HasMeasured}
 use Rattle.pinpointing_jobs.specs.Known.{AreKnown}
 use Rattle.pinpointing_jobs.specs.Searched.{IsSearched}
 use Rattle.pinpointing_jobs.specs.Written.{AreOfAxioms, AreFoundRepairs, AreFound, IsWritten, IsCountOf, IsToldCount}
@@ -194,3 +194,16 @@ module _ (o : Listed) (q : Asked) (budget : ℕ) (log : List Entry) (f : Found) 
   pub all_fronts : {T : Type 0} (r : Result T NoMemory) → OnErr r (HasSearched o q budget log)
   all_fronts (Ok a) = tt
   all_fronts (Err e) = inr s.honest
+
+  -- memory is refused for the numbers only where the search was finished
+  pub all_measured : {T : Type 0} (r : Result T NoMemory) → OnErr r (f.finished ≡ true)
+      → OnErr r (HasMeasured o q budget log)
+  all_measured (Ok a) finished = tt
+  all_measured (Err e) finished = inr (record { honest = s.honest; unspent = s.unspent finished })
+
+-- memory was refused for the search
+pub measured_begun : {T : Type 0} (r : Result T NoMemory) (o : Listed) (q : Asked) (budget : ℕ) (log : List Entry)
+    → HasSearched o q budget log → list_any is_spent log ≡ false → OnErr r (HasMeasured o q budget log)
+measured_begun (Ok a) o q budget log begun unspent = tt
+measured_begun (Err e) o q budget log (inl none) unspent = inl none
+measured_begun (Err e) o q budget log (inr honest) unspent = inr (record { honest = honest; unspent = unspent })

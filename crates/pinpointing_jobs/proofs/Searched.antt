@@ -21,7 +21,7 @@ use Rattle.pinpointing_specs.proofs.Choices.{to_rest, in_rest, to_without}
 use Rattle.pinpointing_specs.proofs.Explored.{removal_is_leaf}
 use Rattle.shq_terms.specs.NoMemory.{NoMemory}
 use Rattle.repair_list.specs.TreeFound.{Found}
-use Rattle.repair_list.specs.Tree.{HasFoundIn}
+use Rattle.repair_list.specs.Tree.{HasFoundIn, LooksInBudget}
 use Rattle.repair_list.specs.Found.{IsFound, ListsAllShown, HasTree}
 use Rattle.repair_list.specs.Open.{AsksFew}
 use Rattle.shq_terms.specs.Listed.{Listed}
@@ -334,7 +334,8 @@ module _ (a : AskerLists) (f : Found) (is_log : IsAskerLog a) (found : IsFound (
     (asked : a.asks ≤ (length a.ontology.axioms + 1) * length (nodes_of a.gained))
     (small : length a.ontology.axioms ≤ 20000) (budget_small : a.budget < 2 ^ 32)
     (begun : AskerLists) (fresh_log : begun.gained ≡ [])
-    (lists : ListsAllShown (asker_meaning begun) (asker_meaning a) f) where
+    (lists : ListsAllShown (asker_meaning begun) (asker_meaning a) f)
+    (in_budget : LooksInBudget (asker_meaning begun) (asker_meaning a) f.finished) where
   honest : IsPinpointingLog a.ontology a.query (left_at_first a) a.gained
   honest =
       honest_by a is_log is_module asked small budget_small
@@ -370,6 +371,12 @@ module _ (a : AskerLists) (f : Found) (is_log : IsAskerLog a) (found : IsFound (
             shown.has_part k (to_rest s k inside.0 inside.1 out_r) (is.least a.local_part is_module.closed k in_m);
       }
 
+  unspent : f.finished ≡ true → list_any is_spent a.gained ≡ false
+  unspent finished =
+      let same : (asker_meaning a).ran_out ≡ (asker_meaning begun).ran_out =
+      subst (LooksInBudget (asker_meaning begun) (asker_meaning a)) finished in_budget in
+      same ∙ ap (list_any is_spent) fresh_log
+
   keep : KeepsAnswers a.ontology.axioms a.query a.local_part
   keep = module_keeps_answers a.ontology a.ontology a.query a.local_part refl is_module
 
@@ -393,6 +400,7 @@ module _ (a : AskerLists) (f : Found) (is_log : IsAskerLog a) (found : IsFound (
     left_open = leaves_open a is_log keep IsModule in_each f found;
     explored = found.explored;
     shown = λ finished. record { justifications = yes_shown finished; repairs = no_shown finished };
+    unspent = unspent;
     spent = λ unfinished. omega (arith, found.spent unfinished, is_log.within, spent_both a is_log);
   }
 
@@ -509,12 +517,24 @@ module _ (o : Listed) (q : Asked) (budget : ℕ) (m : NumberSet) (before : List 
             (tree ended begun_tree.labels begun_tree.limits begun_tree.smallest begun_tree.nodes)));
       }
 
+  -- the log had no test that spent the budget, and gained none
+  pub all_unspent : list_any is_spent before ≡ false → (r : Result Found NoMemory)
+      → OnErr r ((asker_meaning ended).ran_out ≡ (asker_meaning begun).ran_out)
+      → OnErr r (list_any is_spent log ≡ false)
+  all_unspent none (Ok f) same = tt
+  all_unspent none (Err e) same =
+      let gained : list_any is_spent ended.gained ≡ false =
+      same ∙ ap (λ (a : AskerLists). list_any is_spent a.gained) made in
+      ap (list_any is_spent) more ∙ list_any-append is_spent before ended.gained
+      ∙ ap (λ (b : Bool). b || list_any is_spent ended.gained) none ∙ gained
+
   pub all_searched : length o.axioms ≤ 20000 → budget < 2 ^ 32 → (r : Result Found NoMemory)
       → IfOk r (IsFound (asker_meaning ended)) → IfOk r (ListsAllShown (asker_meaning begun) (asker_meaning ended))
+      → IfOk r (λ (f : Found). LooksInBudget (asker_meaning begun) (asker_meaning ended) f.finished)
       → AsksFew (length ended.ontology.axioms) (asker_meaning begun) (asker_meaning ended)
       → IfOk r (GainsSearch o q budget before log)
-  all_searched small budget_small (Err e) found lists asked = tt
-  all_searched small budget_small (Ok f) found lists asked =
+  all_searched small budget_small (Err e) found lists in_budget asked = tt
+  all_searched small budget_small (Ok f) found lists in_budget asked =
       let count : length ended.ontology.axioms ≡ length o.axioms = ap (λ (l : Listed). length l.axioms) of.ontology in
       record {
         gained = ended.gained;
@@ -524,7 +544,7 @@ module _ (o : Listed) (q : Asked) (budget : ℕ) (m : NumberSet) (before : List 
             (budget - spent_of before) ended.gained ended.gained of.ontology of.query left refl
             (searched ended f is_log found moved (asks_few o q budget m before begun ended made asked)
             (omega (arith, small, count)) (omega (arith, budget_small, of.budget_is))
-            begun (ap (λ (x : AskerLists). x.gained) made) lists);
+            begun (ap (λ (x : AskerLists). x.gained) made) lists in_budget);
       }
 
 -- ---- with an empty log

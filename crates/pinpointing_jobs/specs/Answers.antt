@@ -11,6 +11,7 @@ use Rattle.job_inputs.specs.declared.unread.Unread.TheVariants.{NoMemory as OutO
 use Rattle.job_inputs.specs.Questions.{follows, IsQuestion}
 use Rattle.job_inputs.specs.Refusals.{IsRefused, HasBegun}
 use Rattle.pinpointing_jobs.specs.declared.wanted.Wanted.{Wanted}
+use Rattle.pinpointing_jobs.specs.Begun.{IsUnspentLog}
 use Rattle.pinpointing_jobs.specs.Listings.{IsListAnswer}
 use Rattle.pinpointing_jobs.specs.Counts.{IsCounted}
 use Rattle.pinpointing_jobs.specs.Memory.{UnlessNoMemory}
@@ -48,9 +49,10 @@ pub record IsMeasured (number budget : ℕ) (out : List ℕ) (s : Status) (log :
 abbrev pub IsWant : ℕ → List ℕ → Unread → Type 0
 IsWant number bytes u = bytes ≡ workload_text number → number ≤ 4000 → u ≡ OutOfMemory
 
--- what is answered to a workload: its counts, or that memory was refused
+-- what is answered to a workload: its counts, or that memory was refused; then no test ended because the budget was
+-- spent
 abbrev pub AnswersWorkload : ℕ → ℕ → List ℕ → Status → List Entry → Type 0
 AnswersWorkload number budget out s log =
     UnlessNoMemory s out
-    (HasBegun (follows workload_query) (workload_text number) log (λ o q. IsPinpointingLog o q budget log))
+    (HasBegun (follows workload_query) (workload_text number) log (λ o q. IsUnspentLog o q budget log))
     (IsMeasured number budget out s log)

@@ -27,3 +27,4 @@ pub use Rattle.query_asker.specs.OracleLists
 pub use Rattle.repair_list.specs.TreeFound
 pub use Rattle.repair_list.specs.Found
 pub use Rattle.repair_list.specs.Open
+pub use Rattle.repair_list.specs.Tree

@@ -1,6 +1,6 @@
 -- What the search for justifications and repairs finds.
 use Rattle.std.specs.Prelude.{◌≡◌, ℕ, ◌-◌, ◌++◌, true, false, List, length, cond}
-use Rattle.std.specs.List.{Contains}
+use Rattle.std.specs.List.{Contains, list_any}
 use Rattle.axiom_sets.specs.Sets.{Limited, IsWithin}
 use Rattle.pinpointing_specs.specs.Smallest.{rest, IsExplored}
 use Rattle.pinpointing_specs.specs.Order.{IsAscending}
@@ -11,7 +11,7 @@ use Rattle.shq_terms.specs.Listed.{Listed}
 use Rattle.shq_terms.specs.declared.axioms.Query.{Query as Asked}
 use Rattle.pinpointing_specs.specs.LocalModule.{FollowsFrom}
 use Rattle.query_asker.specs.Entry.{Entry}
-use Rattle.query_asker.specs.Entries.{spent_of, nodes_of}
+use Rattle.query_asker.specs.Entries.{spent_of, nodes_of, is_spent}
 use Rattle.query_asker.specs.HonestLog.{IsJustificationSet, IsPinpointingLog}
 use Rattle.query_asker.specs.Shown.{ShowsPinpointing}
 use Rattle.pinpointing_jobs.specs.Known.{HasAllShown, LeavesSomeOpen}
@@ -39,8 +39,9 @@ pub record IsSearched (o : Listed) (q : Asked) (budget : ℕ) (log : List Entry)
   -- nothing that was found is left out, and a search that is not finished lacks some
   pub all_shown : HasAllShown o q log f.justifications.items
   pub left_open : f.finished ≡ false → LeavesSomeOpen o q log f.justifications.items
-  -- a finished search found all, and its log shows it
+  -- a finished search found all, and its log shows it; no test ended because the budget was spent
   pub explored : f.finished ≡ true
       → IsExplored (FollowsFrom o.axioms q) (length o.axioms) f.justifications.items f.leaves.items
   pub shown : f.finished ≡ true → ShowsPinpointing o q log
+  pub unspent : f.finished ≡ true → list_any is_spent log ≡ false
   pub spent : f.finished ≡ false → spent_of log ≡ budget

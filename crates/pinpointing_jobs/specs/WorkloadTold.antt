@@ -2,7 +2,6 @@
 use Rattle.std.proofs.Common.{◌≡◌, ℕ, ◌≤◌, Bool, true, false, List, [], sym, subst, inl, inr}
 use Rattle.workload.specs.WorkloadText.{workload_text}
 use Rattle.query_asker.specs.Entry.{Entry}
-use Rattle.query_asker.specs.HonestLog.{IsPinpointingLog}
 use Rattle.job_inputs.specs.Answer.{no_memory, Gives}
 use Rattle.job_inputs.specs.Answered.{HasAnswered, answered, unread, out_of_memory}
 use Rattle.job_inputs.specs.Questions.{follows, IsQuestion}
@@ -13,7 +12,7 @@ use Rattle.job_inputs.specs.declared.status.Status.{Status}
 use Rattle.job_inputs.specs.declared.status.Status.TheVariants.{NoMemory}
 use Rattle.job_inputs.proofs.Ends.{memory_ends, want_ends}
 use Rattle.pinpointing_jobs.specs.Asked.{IsInput}
-use Rattle.pinpointing_jobs.specs.Begun.{HasSearched}
+use Rattle.pinpointing_jobs.specs.Begun.{IsUnspentLog, HasMeasured}
 use Rattle.pinpointing_jobs.specs.Counts.{IsCounted}
 use Rattle.pinpointing_jobs.specs.Listings.{end_status}
 use Rattle.pinpointing_jobs.specs.Answers.{workload_query, IsMeasured, IsWant, AnswersWorkload}
@@ -22,7 +21,7 @@ module _ (number budget : ℕ) (bytes out : List ℕ) (log : List Entry) where
   abbrev Tells : Status → Type 0
   Tells s = AnswersWorkload number budget out s log
 
-  memory : HasBegun (follows workload_query) (workload_text number) log (λ o q. IsPinpointingLog o q budget log)
+  memory : HasBegun (follows workload_query) (workload_text number) log (λ o q. IsUnspentLog o q budget log)
       → out ≡ no_memory → Tells NoMemory
   memory begun text = record { text = text; log_is = begun }
 
@@ -36,15 +35,15 @@ module _ (number budget : ℕ) (bytes out : List ℕ) (log : List Entry) where
       subst (λ b. IsQuestion (follows workload_query) b i.ontology i.query) same read.is_question
 
   begun : (i : Input) → IsQuestion (follows workload_query) (workload_text number) i.ontology i.query
-      → HasSearched i.ontology i.query budget log
-      → HasBegun (follows workload_query) (workload_text number) log (λ o q. IsPinpointingLog o q budget log)
+      → HasMeasured i.ontology i.query budget log
+      → HasBegun (follows workload_query) (workload_text number) log (λ o q. IsUnspentLog o q budget log)
   begun i is (inl none) = nothing none
-  begun i is (inr honest) = asked i.ontology i.query is honest
+  begun i is (inr so) = asked i.ontology i.query is so
 
   pub workload_told : (s : Status)
       → HasAnswered (IsInput workload_query bytes) (IsWant number bytes) (λ (l : List Entry). l ≡ [])
       (λ i l s out. IsCounted number i.ontology i.query budget l s out)
-      (λ i l. HasSearched i.ontology i.query budget l) log out s
+      (λ i l. HasMeasured i.ontology i.query budget l) log out s
       → bytes ≡ workload_text number → number ≤ 4000 → Tells s
   workload_told s (answered i read so) same few =
       let measured : IsMeasured number budget out s log =

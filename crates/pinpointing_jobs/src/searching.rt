@@ -22,7 +22,7 @@ use std::mem;
 ///
 /// # Errors
 ///
-/// Out of memory. The log is empty then, or honest all the same.
+/// Out of memory. The log is empty then, or honest all the same, and no test ended because the budget was spent.
 pub(crate) fn search<'a>(
     alloc: Global,
     ontology: &'a Ontology,
@@ -34,6 +34,7 @@ pub(crate) fn search<'a>(
     requires unlogged { log.old ≡ [] }
     ensures found { IfOk result (IsSearched ontology.now query.now budget log.new) }
     ensures begun { OnErr result (HasSearched ontology.now query.now budget log.new) }
+    ensures unspent { OnErr result (list_any is_spent log.new ≡ false) }
 {
     let module = module(alloc, ontology, query)?;
     let begun = mem::replace(log, RunLog::new(alloc));
@@ -49,7 +50,7 @@ pub(crate) fn search<'a>(
 ///
 /// # Errors
 ///
-/// Out of memory. What the log gained is honest all the same.
+/// Out of memory. What the log gained is honest all the same, and no test ended because the budget was spent.
 pub fn search_with<'a>(
     alloc: Global,
     oracle: &mut Oracle<'a>,
@@ -67,6 +68,7 @@ pub fn search_with<'a>(
         (GainsSearch oracle.old.ontology query.now oracle.old.budget oracle.old.log oracle.new.log) }
     ensures begun { OnErr result
         (GainsBegun oracle.old.ontology query.now oracle.old.budget oracle.old.log oracle.new.log) }
+    ensures unspent { OnErr result (list_any is_spent oracle.new.log ≡ false) }
 {
     let _left = oracle.left();
     let none = Oracle::new(alloc, oracle.ontology(), 0, RunLog::new(alloc));

@@ -42,7 +42,7 @@ impl Job for Measure {
     ghost use Rattle.workload.specs.WorkloadText.{workload_text};
     ghost use Rattle.job_inputs.specs.Limits.{IsInLimit};
     ghost use Rattle.pinpointing_jobs.specs.Asked.{IsInput};
-    ghost use Rattle.pinpointing_jobs.specs.Begun.{HasSearched};
+    ghost use Rattle.pinpointing_jobs.specs.Begun.{HasMeasured};
     ghost use Rattle.pinpointing_jobs.specs.Counts.{IsCounted};
     ghost use Rattle.pinpointing_jobs.specs.Answers.{workload_query, IsWant, AnswersWorkload};
     ghost use Rattle.pinpointing_jobs.specs.WorkloadTold.{workload_told};
@@ -61,7 +61,7 @@ impl Job for Measure {
 
     ghost answers = { λ job i log s out. IsCounted job.number i.ontology i.query job.budget log s out };
 
-    ghost begins = { λ job i log. HasSearched i.ontology i.query job.budget log };
+    ghost begins = { λ job i log. HasMeasured i.ontology i.query job.budget log };
 
     ghost tells = { λ job bytes out s log. bytes ≡ workload_text job.number → job.number ≤ 4000
         → AnswersWorkload job.number job.budget out s log };

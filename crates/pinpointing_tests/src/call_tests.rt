@@ -9,8 +9,7 @@ use crate::written_sets::{are_sets, mask_of, set_of, sets_of};
 use axiom_sets::AxiomSet;
 use justification_shrink::{Shrunk, shrink};
 use set_questions::{
-    Antichain, Entail, Reply, SetOracle, in_order, place_apart, place_of_part, put_in_order,
-    rest_of,
+    Antichain, Entail, Reply, SetOracle, place_apart, place_of_part, put_in_order, rest_of,
 };
 use shq_terms::NoMemory;
 use std::alloc::Global;
@@ -160,22 +159,9 @@ fn are_found(alloc: Global, sets: &[AxiomSet]) -> Result<bool, NoMemory>
     Ok(are_placed(sets, &set))
 }
 
-fn are_ordered(alloc: Global, sets: &[AxiomSet]) -> Result<bool, NoMemory>
-    requires { All (λ s. s.limit ≡ 4) sets.now }
-{
-    let ordered = in_order(alloc, sets)?;
-    Ok(are_sets(&ordered, &["1", "12", "3"]))
-}
-
-fn are_listed(alloc: Global, sets: &[AxiomSet]) -> Result<bool, NoMemory>
-    requires { All (λ s. s.limit ≡ 4) sets.now }
-{
-    Ok(are_ordered(alloc, sets)? && are_found(alloc, sets)?)
-}
-
-fn are_put_in_order(alloc: Global) -> Result<bool, NoMemory> {
+fn are_places_found(alloc: Global) -> Result<bool, NoMemory> {
     let sets = sets_of(alloc, 4, &["3", "12", "1", "3"])?;
-    are_listed(alloc, &sets)
+    are_found(alloc, &sets)
 }
 
 fn is_put_in(alloc: Global, sets: &mut Vec<AxiomSet>) -> Result<bool, NoMemory>
@@ -224,7 +210,7 @@ fn keeps_greatest(alloc: Global) -> Result<bool, NoMemory> {
 
 fn test_calls(rt: &impl Abort, alloc: Global) -> Result<(), NoMemory> {
     check(rt, are_all_answered(alloc)?, "budgets, and a rest");
-    check(rt, are_put_in_order(alloc)?, "in order");
+    check(rt, are_places_found(alloc)?, "places");
     check(rt, is_put(alloc)?, "one more");
     check(rt, keeps_smallest(alloc)?, "the smallest");
     check(rt, keeps_greatest(alloc)?, "the greatest");

@@ -1,34 +1,43 @@
 -- What an answer says, and what it leaves as it is.
-use Rattle.std.proofs.Common.{◌≡◌, ℕ, ◌+◌, true, List, ◌++◌, length, refl, ap, sym, ◌∙◌, subst, arith, inl}
-use Rattle.std.specs.Prelude.{Option, None, Some}
+use Rattle.std.proofs.Common.{◌≡◌, ◌⊎◌, ℕ, ◌+◌, Bool, true, false, List, [], ◌∷◌, ◌++◌, length, refl, ap, sym, ◌∙◌}
+use Rattle.std.proofs.Common.{subst, arith, inl, inr}
+use Rattle.std.specs.Prelude.{◌||◌, Option, None, Some, Result, Ok, Err, OnErr}
 use Rattle.std.specs.Cmp.{nat_cmp_total}
 use Rattle.std.specs.FinSet as set
-use Rattle.std.specs.List.{All, Contains}
+use Rattle.std.specs.List.{All, Contains, list_any}
+use Rattle.std.proofs.Math.Bool.{or-false}
 use Rattle.std.proofs.lemmas.Bool.{and_parts, and_from}
 use Rattle.std.proofs.lemmas.List.Elements.{All-contains, All-weaker, All-contains_itself, Contains-append_left}
+use Rattle.std.proofs.lemmas.List.Folds.{list_any-append}
 use Rattle.std.proofs.lemmas.List.Sums.{sum_by-append}
 use Rattle.lane_sieve.specs.Sets.{NumberSet, IsPart}
 use Rattle.axiom_sets.specs.Sets.{Limited}
 use Rattle.axiom_sets.proofs.Same.{same_limited}
 use Rattle.shq_terms.specs.Listed.{Listed}
+use Rattle.shq_terms.specs.NoMemory.{NoMemory}
 use Rattle.shq_terms.specs.declared.axioms.Query.{Query}
 use Rattle.set_questions.specs.Meaning.{Keeps}
-use Rattle.set_questions.specs.Asked.{Answers, IsUnknownIf, ShowsNoOther}
+use Rattle.set_questions.specs.Asked.{Answers, IsUnknownIf, ShowsNoOther, AsksInBudget}
 use Rattle.set_questions.specs.declared.entail.Reply.{Reply}
 use Rattle.set_questions.specs.declared.entail.Reply.TheVariants.{Yes, No, Spent}
 use Rattle.pinpointing_specs.proofs.Grown.{grows}
 use Rattle.pinpointing_specs.proofs.Kept.{intersection_part}
 use Rattle.shq_oracle.specs.Entry.{Entry}
 use Rattle.shq_oracle.specs.Entry.TheVariants.{Test, Node}
+use Rattle.shq_oracle.specs.TestEnd.{TestEnd}
 use Rattle.shq_oracle.specs.TestEnd.TheVariants as E
-use Rattle.shq_oracle.specs.Entries.{cost_of, spent_of, AnswersQuery, IsAnswered}
+use Rattle.shq_oracle.specs.Entries.{cost_of, spent_of, is_spent, ended_spent, AnswersQuery, IsAnswered}
 use Rattle.shq_oracle.specs.HonestLog.{IsHonestEntry, EachIsHonest, IsTestOf, FollowsIn}
 use Rattle.shq_oracle.specs.Shown.{IsShownYes}
+use Rattle.shq_oracle.specs.Decided.{EndsAs}
+use Rattle.shq_oracle.specs.declared.answer.Outcome.{Outcome}
+use Rattle.shq_oracle.specs.declared.answer.Outcome.TheVariants as Found
 use Rattle.shq_oracle.proofs.Named.{follows_from}
 use Rattle.query_asker.specs.AskerLists.{AskerLists}
 use Rattle.query_asker.specs.Told.{IsShownNoIn, asker_meaning, IsAskerLog, part_in, IsUnknown}
 use Rattle.query_asker.specs.Memory.{yes_of, no_of, yes_sets, no_sets, Recalls}
-use Rattle.query_asker.specs.Asking.{IsLocalPart, IsRecalled, IsLater}
+use Rattle.query_asker.specs.Asking.{IsLocalPart, IsRecalled, IsLater, reply_of}
+use Rattle.query_asker.specs.Deciding.{GainsTest}
 use Rattle.query_asker.proofs.Remembered.{of_log, found_yes, found_no, one_member}
 
 -- ---- what was shown stays shown
@@ -290,3 +299,47 @@ no_limits o log n e honest =
     let f = found_no log s at in
     (All-contains (IsHonestEntry o) log (Test s f.query f.steps E.No) honest f.is_test).0.limit_is ∙ sym e)
     (no_sets log) (All-contains_itself (no_sets log))
+
+-- ---- the budget
+
+-- one entry more, which is no test that ended because the budget was spent
+pub unspent_with : (log : List Entry) (e : Entry) → is_spent e ≡ false
+    → list_any is_spent (log ++ e ∷ []) ≡ list_any is_spent log
+unspent_with log e unspent =
+    list_any-append is_spent log (e ∷ [])
+    ∙ ap (λ (b : Bool). list_any is_spent log || (b || false)) unspent
+    ∙ or-false (list_any is_spent log)
+
+unspent_end : (v : Outcome) (d : TestEnd) → EndsAs v d → (v ≡ Found.Undecided) ⊎ (ended_spent d ≡ false)
+unspent_end (Found.Yes x) (E.Yes u) m = inr refl
+unspent_end (Found.Yes x) E.No m = absurd m
+unspent_end (Found.Yes x) (E.Spent t) m = absurd m
+unspent_end Found.No (E.Yes u) m = absurd m
+unspent_end Found.No E.No m = inr refl
+unspent_end Found.No (E.Spent t) m = absurd m
+unspent_end Found.Undecided d m = inl refl
+
+module _ (old new : AskerLists) (s : Limited) (v : Outcome) (gains : GainsTest old new s v) where
+  decided_unspent : ¬ (v ≡ Found.Undecided) → list_any is_spent new.gained ≡ list_any is_spent old.gained
+  decided_unspent decided =
+      ap (λ (a : AskerLists). list_any is_spent a.gained) gains.is_more ∙ (elim gains.is_test [
+        | inl t ↦
+            let unspent : ended_spent t.ended ≡ false =
+            elim (unspent_end v t.ended t.matches) [ inl spent ↦ absurd (decided spent) | inr e ↦ e ] in
+            ap (λ (more : List Entry). list_any is_spent (old.gained ++ more)) t.is_more
+            ∙ unspent_with old.gained (Test s old.query t.steps t.ended) unspent
+        | inr none ↦ absurd (decided none.1)
+      ])
+
+-- a test that decides has not ended because the budget was spent
+pub tested_in_budget : (old new : AskerLists) (s : Limited) (v : Outcome) → GainsTest old new s v
+    → AsksInBudget (asker_meaning old) (asker_meaning new) (reply_of v)
+tested_in_budget old new s (Found.Yes x) gains = decided_unspent old new s (Found.Yes x) gains (λ e. absurd (cc e))
+tested_in_budget old new s Found.No gains = decided_unspent old new s Found.No gains (λ e. absurd (cc e))
+tested_in_budget old new s Found.Undecided gains = tt
+
+-- where memory is refused, nothing has changed
+pub still_in_budget : {T : Type 0} (old new : AskerLists) (r : Result T NoMemory) → OnErr r (new ≡ old)
+    → OnErr r ((asker_meaning new).ran_out ≡ (asker_meaning old).ran_out)
+still_in_budget old new (Ok x) same = tt
+still_in_budget old new (Err e) same = ap (λ (a : AskerLists). list_any is_spent a.gained) same

@@ -13,7 +13,7 @@ use Rattle.axiom_sets.specs.Sets.{Limited}
 use Rattle.shq_terms.specs.NoMemory.{NoMemory}
 use Rattle.shq_terms.specs.declared.axioms.Query.{Query}
 use Rattle.set_questions.specs.Meaning.{ShowsNothing, one_more}
-use Rattle.set_questions.specs.Asked.{Answers, ShowsNoOther, Takes}
+use Rattle.set_questions.specs.Asked.{Answers, ShowsNoOther, AsksInBudget, Takes}
 use Rattle.set_questions.specs.declared.entail.Reply.{Reply}
 use Rattle.set_questions.specs.declared.entail.Reply.TheVariants.{Yes}
 use Rattle.shq_oracle.specs.Entry.{Entry}
@@ -36,7 +36,7 @@ use Rattle.query_asker.specs.Asking.{lists_of, CanAsk, IsAsker, IsLater, reply_o
 use Rattle.query_asker.specs.Deciding.{GainsTest, GainsAtMostOne}
 use Rattle.query_asker.proofs.Remembered.{kept_still}
 use Rattle.query_asker.proofs.Logged.{goes_on, with_entry, with_asks, MayBeLast, log_with, log_counted}
-use Rattle.query_asker.proofs.Answering.{yes_by_log, no_by_log}
+use Rattle.query_asker.proofs.Answering.{yes_by_log, no_by_log, unspent_with, tested_in_budget}
 use Rattle.set_questions.specs.declared.antichain.Kind.TheVariants.{Minimal, Maximal}
 use Rattle.set_questions.specs.Kept.{kept_sets}
 
@@ -303,6 +303,13 @@ module _ (o : OracleLists) (q : Query) (among : Option Limited) (first asks : �
           inl (record { steps = appends.steps; ended = appends.ended; is_more = refl; matches = appends.matches });
     }
 
+    pub in_budget : first ≤ length o.log → (t : Reply) → t ≡ reply_of v
+        → AsksInBudget (asker_meaning a) (asker_meaning (lists_of o' q among first (one_more asks))) t
+    in_budget le t e =
+        let after = lists_of o' q among first (one_more asks) in
+        subst (λ (r : Reply). AsksInBudget (asker_meaning a) (asker_meaning after) r) (sym e)
+        (tested_in_budget a after s v (gains le))
+
     pub same_nodes : first ≤ length o.log
         → nodes_of (lists_of o' q among first (one_more asks)).gained ≡ nodes_of a.gained
     same_nodes le =
@@ -487,3 +494,10 @@ module _ (a b : AskerLists) (s : Limited) where
   pub refused_by : (r : Result Bool NoMemory) → OnErr r (b ≡ a) → OnErr r (nodes_of b.gained ≡ nodes_of a.gained)
   refused_by (Ok x) e = tt
   refused_by (Err x) e = ap (λ (l : AskerLists). nodes_of l.gained) e
+
+  pub ran_out_by : (r : Result Bool NoMemory) → IfOk r (LogsNode a b s) → OnErr r (b ≡ a)
+      → (asker_meaning b).ran_out ≡ (asker_meaning a).ran_out
+  ran_out_by (Ok true) l e =
+      ap (λ (x : AskerLists). list_any is_spent x.gained) l ∙ unspent_with a.gained (Node s) refl
+  ran_out_by (Ok false) l e = ap (λ (x : AskerLists). list_any is_spent x.gained) l
+  ran_out_by (Err x) l e = ap (λ (y : AskerLists). list_any is_spent y.gained) e

@@ -1,6 +1,7 @@
 -- What an asker means, and what its part of the log is.
 use Rattle.std.specs.Prelude.{◌≡◌, ◌⊎◌, ◌↔◌, ℕ, ◌-◌, ◌^◌, ◌≤◌, Bool, true, false, List, [], ◌∷◌, ◌++◌, length, All}
 use Rattle.std.specs.Prelude.{Contains}
+use Rattle.std.specs.List.{list_any}
 use Rattle.std.specs.FinSet as set
 use Rattle.lane_sieve.specs.Sets.{NumberSet, IsPart}
 use Rattle.axiom_sets.specs.Sets.{Limited}
@@ -15,7 +16,7 @@ use Rattle.pinpointing_specs.proofs.Grown.{grows}
 use Rattle.shq_oracle.specs.Entry.{Entry}
 use Rattle.shq_oracle.specs.Entry.TheVariants.{Test, Node}
 use Rattle.shq_oracle.specs.TestEnd.TheVariants.{No}
-use Rattle.shq_oracle.specs.Entries.{spent_of, nodes_of, test_count, IsAnswered}
+use Rattle.shq_oracle.specs.Entries.{spent_of, nodes_of, test_count, is_spent, IsAnswered}
 use Rattle.shq_oracle.specs.HonestLog.{EachIsHonest, EndsWhenSpent, AreTestsOf, AsksNoAnswer, IsTestIn}
 use Rattle.shq_oracle.specs.Shown.{IsShownYes}
 use Rattle.query_asker.specs.AskerLists.{AskerLists}
@@ -67,6 +68,7 @@ asker_meaning a = record {
   shown_yes = IsShownYes a.gained a.query;
   shown_no = IsShownNoIn a.gained a.query a.local_part;
   unknown = IsLeftOut a;
+  ran_out = list_any is_spent a.gained;
 }
 
 pub asker_grows : (a : AskerLists) → Grows (asker_meaning a).holds

@@ -5,7 +5,7 @@ ghost use Rattle.std.specs.FinSet as set;
 ghost use Rattle.lane_sieve.specs.Sets.{IsPart};
 ghost use Rattle.pinpointing_specs.specs.Smallest.{numbers_to};
 ghost use Rattle.shq_oracle.specs.Limits.{IsInLimit};
-ghost use Rattle.set_questions.specs.Asked.{Answers, IsUnknownIf, ShowsNoOther, Takes};
+ghost use Rattle.set_questions.specs.Asked.{Answers, IsUnknownIf, ShowsNoOther, AsksInBudget, Takes};
 ghost use Rattle.set_questions.specs.Meaning.{Keeps, ShowsNothing, one_more};
 ghost use Rattle.shq_oracle.specs.Entries.{is_spent, nodes_of, IsAnswered};
 ghost use Rattle.query_asker.specs.AskerLists.{origin_of};
@@ -235,6 +235,7 @@ impl<'a> Asker<'a> {
         ensures answer { IfOk result (Answers (asker_meaning self.new) part.now) }
         ensures unknown { IfOk result (IsUnknown self.new part.now) }
         ensures shown { IfOk result (ShowsNoOther (asker_meaning self.old) (asker_meaning self.new)) }
+        ensures in_budget { IfOk result (AsksInBudget (asker_meaning self.old) (asker_meaning self.new)) }
         ensures later { IsLater self.old self.new }
         ensures nodes { nodes_of self.new.gained ≡ nodes_of self.old.gained }
         ensures counted { OnOk result (self.new.asks ≡ one_more self.old.asks) }
@@ -320,6 +321,8 @@ impl<'a> Entail for Asker<'a> {
         ensures counted { OnOk result ((asker_meaning self.new).asks ≡ one_more (asker_meaning self.old).asks) }
         ensures uncounted { OnErr result ((asker_meaning self.new).asks ≡ (asker_meaning self.old).asks) }
         ensures taken { (asker_meaning self.new).taken ≡ (asker_meaning self.old).taken }
+        ensures in_budget { IfOk result (AsksInBudget (asker_meaning self.old) (asker_meaning self.new)) }
+        ensures ran_out { OnErr result ((asker_meaning self.new).ran_out ≡ (asker_meaning self.old).ran_out) }
         ensures same { origin_of self.new ≡ origin_of self.old }
         ensures logged { OnOk result (GainsAtMostOne self.old self.new (part_in self.old set.now)) }
         ensures unchanged { OnErr result (self.new ≡ self.old) }
@@ -345,6 +348,7 @@ impl<'a> Entail for Asker<'a> {
         ensures keeps { Keeps (asker_meaning self.old) (asker_meaning self.new) }
         ensures shown { ShowsNothing (asker_meaning self.old) (asker_meaning self.new) }
         ensures asks { (asker_meaning self.new).asks ≡ (asker_meaning self.old).asks }
+        ensures ran_out { (asker_meaning self.new).ran_out ≡ (asker_meaning self.old).ran_out }
         ensures same { origin_of self.new ≡ origin_of self.old }
     {
         let _limit = hit.limit();

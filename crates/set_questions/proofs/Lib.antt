@@ -1,3 +1,4 @@
 pub mod Ordered
 pub mod Rest
 pub mod Dropped
+pub mod InBudget

@@ -18,7 +18,7 @@ use Rattle.pinpointing_specs.specs.Sets.{Limited, IsWithin, member_list, list_cm
 use Rattle.pinpointing_specs.proofs.Listed.{member_list-at, member_list-place}
 use Rattle.pinpointing_specs.proofs.Same.{set_of_parts, same_limited}
 use Rattle.pinpointing_specs.specs.Order.{IsAscending}
-use Rattle.set_questions.specs.InOrder.{IsBetween, HasMore}
+use Rattle.set_questions.specs.InOrder.{IsBetween, HasMore, AreInOrder}
 
 -- ---- sets of equal lists are equal
 
@@ -173,7 +173,7 @@ had sets s listed x =
     (λ h. inl h, λ h. elim h [ inl old ↦ old | inr e ↦ subst (λ (y : Limited). Contains sets y) (sym e) listed ])
 
 -- the sets of a longer front are those of the front and one more
-pub front_more : (longer front : List Limited) (s : Limited) → HasMore front s longer → (list : List Limited)
+front_more : (longer front : List Limited) (s : Limited) → HasMore front s longer → (list : List Limited)
     → ((x : Limited) → Contains front x → Contains list x) → ((x : Limited) → Contains list x → Contains front x)
     → (x : Limited)
     → (Contains longer x → Contains (list ++ s ∷ []) x) × (Contains (list ++ s ∷ []) x → Contains longer x)
@@ -185,3 +185,14 @@ front_more longer front s has list to from x = (
   λ h. elim (Contains-push_cases list s x h)
       [ inl old ↦ (has x).1 (inl (from x old)) | inr e ↦ (has x).1 (inr (sym e)) ],
 )
+
+-- one set more is put last into the one list, and to its place in the other
+pub one_more_in_order : (sets ordered longer : List Limited) (s : Limited) → AreInOrder sets ordered
+    → IsAscending longer → HasMore ordered s longer → AreInOrder (sets ++ s ∷ []) longer
+one_more_in_order sets ordered longer s old order has = record {
+  order = order;
+  same = front_more longer ordered s has sets (λ x. (old.same x).0) (λ x. (old.same x).1);
+}
+
+pub none_in_order : AreInOrder [] []
+none_in_order = record { order = λ i j d lt within. absurd (omega arith); same = λ s. (λ at. at, λ at. at) }

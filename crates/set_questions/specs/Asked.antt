@@ -25,6 +25,12 @@ ShowsNoOther m m' (Yes part) = ShowsAbove m m' part
 ShowsNoOther m m' No = ShowsNothing m m'
 ShowsNoOther m m' Spent = ShowsNothing m m'
 
+-- no test ended just now because the budget was spent, unless that is the answer
+abbrev pub AsksInBudget : Meaning → Meaning → Reply → Type 0
+AsksInBudget m m' (Yes part) = m'.ran_out ≡ m.ran_out
+AsksInBudget m m' No = m'.ran_out ≡ m.ran_out
+AsksInBudget m m' Spent = Unit {0}
+
 -- a node was taken, or nothing was left
 abbrev pub Takes : Meaning → Meaning → Limited → Bool → Type 0
 Takes m m' node true = ¬ (m.left ≡ 0) × (m'.left ≡ m.left - 1) × (m'.taken ≡ m.taken ++ node ∷ [])

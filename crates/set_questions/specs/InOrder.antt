@@ -3,6 +3,7 @@ use Rattle.std.specs.Prelude.{◌≡◌, ◌⊎◌, ◌↔◌, ℕ, ◌<◌, ◌
 use Rattle.std.specs.List.{Contains}
 use Rattle.std.specs.declared.cmp.Ordering.TheVariants.{Less, Greater}
 use Rattle.pinpointing_specs.specs.Sets.{Limited, list_cmp}
+use Rattle.pinpointing_specs.specs.Order.{IsAscending}
 
 -- all of the sets have the same limit
 abbrev pub HaveOneLimit : List Limited → Type 0
@@ -18,3 +19,8 @@ pub record IsBetween (sets : List Limited) (s : Limited) (low high : ℕ) : Type
 -- the list `more` has the sets of the list, and s
 abbrev pub HasMore : List Limited → Limited → List Limited → Type 0
 HasMore sets s more = (x : Limited) → Contains more x ↔ (Contains sets x ⊎ (x ≡ s))
+
+-- the list `ordered` has the sets of the list, each once and in their order
+pub record AreInOrder (sets ordered : List Limited) : Type 0 where
+  pub order : IsAscending ordered
+  pub same : (s : Limited) → Contains ordered s ↔ Contains sets s

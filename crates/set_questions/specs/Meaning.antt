@@ -1,5 +1,5 @@
 -- What an object that answers questions about sets means, and what its calls leave as it is.
-use Rattle.std.specs.Prelude.{◌≡◌, ◌⊎◌, ℕ, ◌+◌, ◌-◌, ◌^◌, ◌≤◌, ◌↔◌, List, min}
+use Rattle.std.specs.Prelude.{◌≡◌, ◌⊎◌, ℕ, ◌+◌, ◌-◌, ◌^◌, ◌≤◌, ◌↔◌, Bool, List, min}
 use Rattle.lane_sieve.specs.Sets.{NumberSet, IsPart}
 use Rattle.pinpointing_specs.specs.Sets.{Limited}
 
@@ -20,6 +20,8 @@ pub record Meaning : Type 1 where
   pub shown_no : NumberSet → Type 0
   -- the sets about which no answer is remembered
   pub unknown : NumberSet → Type 0
+  -- whether some test ended because the budget was spent
+  pub ran_out : Bool
 
 -- what every call keeps: the yes-sets and the greatest number stay, the budget never rises, what was shown stays shown
 pub record Keeps (m m' : Meaning) : Type 0 where

@@ -4,7 +4,8 @@
 //! of a set that does so does so too: it is a black box, as in "Finding All Justifications of OWL DL Entailments"
 //! (Aditya Kalyanpur, Bijan Parsia, Matthew Horridge and Evren Sirin, ISWC 2007). [`Entail`] is that box, with what its
 //! calls may change said by one member, its meaning: which sets are yes-sets, the budget that is left, how many asks
-//! were answered, which nodes were taken, and what was shown. What no call changes is another one, its origin.
+//! were answered, which nodes were taken, what was shown, and whether a test ended because the budget was spent. What
+//! no call changes is another one, its origin.
 //! [`SetOracle`] is the box over a list of sets in memory.
 //!
 //! Besides there is what the algorithms over any such object share: the first listed set that is part of a set or apart
@@ -25,5 +26,5 @@ pub use antichain::{Antichain, Kind};
 pub use complement::rest_of;
 pub use entail::{Entail, Reply};
 pub use places::{place_apart, place_of_part};
-pub use set_lists::{in_order, put_in_order};
+pub use set_lists::put_in_order;
 pub use set_oracle::SetOracle;

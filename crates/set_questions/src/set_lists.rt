@@ -1,30 +1,16 @@
 // Lists of sets in the order of sets.
 
-ghost use Rattle.std.specs.Prelude.{◌≡◌, ◌-◌, ◌<◌, ◌≤◌, ◌↔◌, IfOk, OnOk, OnErr, IfSome, IfNone, length};
+ghost use Rattle.std.specs.Prelude.{◌≡◌, ◌-◌, ◌<◌, OnOk, OnErr, IfSome, IfNone};
 ghost use Rattle.std.specs.List.{All, Contains};
 ghost use Rattle.std.specs.Ordering.{MatchOrdering};
 ghost use Rattle.std.specs.declared.cmp.Ordering.TheVariants.{Less, Greater};
-ghost use Rattle.pinpointing_specs.specs.Sets.{Limited, list_cmp};
+ghost use Rattle.pinpointing_specs.specs.Sets.{list_cmp};
 ghost use Rattle.pinpointing_specs.specs.Order.{IsAscending};
-ghost use Rattle.set_questions.specs.InOrder.{HaveOneLimit, IsBetween, HasMore};
+ghost use Rattle.set_questions.specs.InOrder.{IsBetween, HasMore};
 
 use lane_sieve::NoMemory;
 use pinpointing_specs::AxiomSet;
-use std::alloc::Global;
 use std::cmp::Ordering;
-
-/// The sets in their order, each once.
-pub fn in_order(alloc: Global, sets: &[AxiomSet]) -> Result<Vec<AxiomSet>, NoMemory>
-    requires { HaveOneLimit sets.now }
-    ensures order { IfOk result (λ v. IsAscending v.items) }
-    ensures members { IfOk result (λ v. (s : Limited) → Contains v.items s ↔ Contains sets.now s) }
-{
-    let mut ordered = Vec::new(alloc);
-    for place in 0..sets.len() {
-        put_in_order(&mut ordered, sets[place].try_clone()?)?;
-    }
-    Ok(ordered)
-}
 
 /// Puts a set into an ascending list, unless it stands there.
 ///

@@ -15,5 +15,6 @@ invariant-loop-place g l =
       asked : m.asks ≤ before.asks + length (members_below l.start.members (l.place + 1));
       keeps : Keeps before m;
       taken : m.taken ≡ before.taken;
+      ran_out : m.ran_out ≡ before.ran_out;
       same : g.E.Entail.origin l.entail ≡ g.E.Entail.origin l.fn.entail;
     }

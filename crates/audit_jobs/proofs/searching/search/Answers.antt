@@ -20,7 +20,7 @@ returns-clause-searched c =
     (c.into_log.ensures ∙ c.into_parts-oracle.ensures.log) c.into_parts-oracle.result.1
     c.into_parts-oracle.ensures.evidence c.requires.in_limit.ontology.few_axioms small
     c.enumerate-outcome.result c.enumerate-outcome.ensures.found c.enumerate-outcome.ensures.shown
-    c.enumerate-outcome.ensures.asked)
+    c.enumerate-outcome.ensures.in_budget c.enumerate-outcome.ensures.asked)
 
 pub returns-clause-begun : goal.returns-clause-begun
 returns-clause-begun c =
@@ -35,4 +35,4 @@ returns-clause-begun c =
     c.enumerate-outcome.ensures.same c.into_parts-oracle.ensures.is_log
     (c.into_log.ensures ∙ c.into_parts-oracle.ensures.log) c.requires.in_limit.ontology.few_axioms small
     c.into_parts-oracle.result.1 c.enumerate-outcome.result c.enumerate-outcome.ensures.begun
-    c.enumerate-outcome.ensures.asked)
+    c.enumerate-outcome.ensures.ran_out c.enumerate-outcome.ensures.asked)

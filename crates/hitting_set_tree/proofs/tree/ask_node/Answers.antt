@@ -8,6 +8,7 @@ use Rattle.hitting_set_tree.specs.Open.{HasPending}
 use Rattle.hitting_set_tree.proofs.Opening.{asked_rest}
 use Rattle.hitting_set_tree.proofs.Begun.{in_err, pending_tree, pending_later}
 use Rattle.hitting_set_tree.proofs.Showing.{all_shown_asked}
+use Rattle.hitting_set_tree.proofs.InBudget.{looks_answered, fails_answered}
 use Rattle.hitting_set_tree.proofs.Settling.{node_still}
 use Rattle.hitting_set_tree.proofs.Stepping.{keeps_listed}
 use Rattle.hitting_set_tree.proofs.tree.ask_node.Goals as goal
@@ -72,3 +73,15 @@ returns-clause-shown g c =
     all_shown_asked (g.E.Entail.meaning c.args.entail.now) (g.E.Entail.meaning c.ask.new.self)
     (g.E.Entail.meaning c.settle.new.entail) (lists c.settle.new.tree).justifications c.in_ok-answer.answer
     c.in_ok-answer.ensures.shown c.settle.result c.settle.ensures.named c.settle.ensures.shown
+
+pub returns-clause-in_budget : goal.returns-clause-in_budget
+returns-clause-in_budget g c =
+    looks_answered (g.E.Entail.meaning c.args.entail.now) (g.E.Entail.meaning c.ask.new.self)
+    (g.E.Entail.meaning c.settle.new.entail) c.in_ok-answer.answer c.in_ok-answer.ensures.in_budget c.settle.result
+    c.settle.ensures.in_budget
+
+pub returns-clause-ran_out : goal.returns-clause-ran_out
+returns-clause-ran_out g c =
+    fails_answered (g.E.Entail.meaning c.args.entail.now) (g.E.Entail.meaning c.ask.new.self)
+    (g.E.Entail.meaning c.settle.new.entail) c.in_ok-answer.answer c.in_ok-answer.ensures.in_budget c.settle.result
+    c.settle.ensures.ran_out

@@ -1,10 +1,11 @@
 use Rattle.std.proofs.Common.{true, false}
 use Rattle.justification_shrink.proofs.Shrinking.{keeps_on}
-use Rattle.hitting_set_tree.specs.Tree.{lists, ListsShown}
+use Rattle.hitting_set_tree.specs.Tree.{lists, ListsShown, LooksInBudget}
 use Rattle.hitting_set_tree.specs.Open.{StaysOpen}
 use Rattle.hitting_set_tree.proofs.Opening.{few_on}
 use Rattle.hitting_set_tree.proofs.Finding.{closes_ended, grown_spent}
 use Rattle.hitting_set_tree.proofs.Showing.{all_shown_on}
+use Rattle.hitting_set_tree.proofs.InBudget.{looks_after, fails_after}
 use Rattle.hitting_set_tree.proofs.tree.grow.Goals as goal
 
 pub returns-then-not-went_on-clause-closed : goal.returns-then-not-went_on-clause-closed
@@ -60,3 +61,17 @@ returns-clause-shown g c =
     rw c.if-not-went_on.false at c.in_ok-went_on.ensures.shown in
     all_shown_on m m' (g.E.Entail.meaning c.run.new.entail) (lists c.visit.new.tree).justifications
     (lists c.run.new.tree).justifications first c.run.result c.run.ensures.grows c.run.ensures.shown
+
+pub returns-clause-in_budget : goal.returns-clause-in_budget
+returns-clause-in_budget g c =
+    let m = g.E.Entail.meaning c.args.entail.now in
+    let m' = g.E.Entail.meaning c.visit.new.entail in
+    let first : LooksInBudget m m' true = rw c.if-not-went_on.false at c.in_ok-went_on.ensures.in_budget in
+    looks_after m m' (g.E.Entail.meaning c.run.new.entail) first c.run.result c.run.ensures.in_budget
+
+pub returns-clause-ran_out : goal.returns-clause-ran_out
+returns-clause-ran_out g c =
+    let m = g.E.Entail.meaning c.args.entail.now in
+    let m' = g.E.Entail.meaning c.visit.new.entail in
+    let first : LooksInBudget m m' true = rw c.if-not-went_on.false at c.in_ok-went_on.ensures.in_budget in
+    fails_after m m' (g.E.Entail.meaning c.run.new.entail) first c.run.result c.run.ensures.ran_out

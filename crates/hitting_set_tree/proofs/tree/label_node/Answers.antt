@@ -28,6 +28,13 @@ add_label-requires-clause-apart g c =
     rw c.in-Smallest.is at c.in_ok-just.ensures.shrunk in
     apart_from_rest c.args.node.hit c.args.part.now.members c.in-Smallest.just.members shrunk.1 c.requires.part.1
 
+pub add_label-requires-clause-limits : goal.add_label-requires-clause-limits
+add_label-requires-clause-limits g c =
+    let m' = g.E.Entail.meaning c.shrink.new.entail in
+    let shrunk : ShrinksTo m' c.args.part.now (Smallest c.in-Smallest.just) =
+    rw c.in-Smallest.is at c.in_ok-just.ensures.shrunk in
+    λ s at. c.requires.listed.just_limits s at ∙ sym c.requires.node.hit_limit ∙ sym (shrunk.0 ∙ c.requires.part.0)
+
 pub returns-in_ok-add_label-in-Smallest-clause-step : goal.returns-in_ok-add_label-in-Smallest-clause-step
 returns-in_ok-add_label-in-Smallest-clause-step g c =
     let m = g.E.Entail.meaning c.args.entail.now in
@@ -42,7 +49,7 @@ returns-in_ok-add_label-in-Smallest-clause-step g c =
     ] in
     labelled_step (lists c.args.tree.now) (lists c.add_label.new.tree) c.add_label.new.tree.rooted c.args.node m' good
     (keeps_listed m m' (lists c.args.tree.now) keeps c.requires.listed) c.in-Smallest.just
-    c.in_ok-add_label-in-Smallest.ensures
+    c.in_ok-add_label-in-Smallest.ensures.added
     (shrunk.0 ∙ c.requires.part.0 ∙ good.hit_limit) shrunk.2 shown
 
 pub returns-in_ok-add_label-in-Smallest-clause-open : goal.returns-in_ok-add_label-in-Smallest-clause-open
@@ -52,7 +59,7 @@ returns-in_ok-add_label-in-Smallest-clause-open g c =
     subst (λ (t : List Limited). HasOpen t (lists new) new.rooted) (sym c.shrink.ensures.taken)
     (labelled_open (lists c.args.tree.now) (lists new) new.rooted c.args.node m.taken c.requires.pending
     c.in-Smallest.just
-    c.in_ok-add_label-in-Smallest.ensures)
+    c.in_ok-add_label-in-Smallest.ensures.added)
 
 pub returns-in_ok-add_label-in-Smallest-clause-asked : goal.returns-in_ok-add_label-in-Smallest-clause-asked
 returns-in_ok-add_label-in-Smallest-clause-asked g c = omega (
@@ -98,7 +105,7 @@ returns-in_ok-add_label-in-Smallest-clause-shown g c =
     let above : LosesNothing m m' c.args.part.now (Smallest c.in-Smallest.just) =
     rw c.in-Smallest.is at c.in_ok-just.ensures.shown in
     shown_label m m' (lists c.args.tree.now) (lists c.add_label.new.tree) c.add_label.new.tree.rooted c.args.node
-    c.args.part.now c.in-Smallest.just c.in_ok-add_label-in-Smallest.ensures above
+    c.args.part.now c.in-Smallest.just c.in_ok-add_label-in-Smallest.ensures.added above
 
 pub returns-in_ok-add_label-in-Smallest-clause-named : goal.returns-in_ok-add_label-in-Smallest-clause-named
 returns-in_ok-add_label-in-Smallest-clause-named g c =
@@ -107,7 +114,7 @@ returns-in_ok-add_label-in-Smallest-clause-named g c =
     let shrunk : ShrinksTo m' c.args.part.now (Smallest c.in-Smallest.just) =
     rw c.in-Smallest.is at c.in_ok-just.ensures.shrunk in
     label_found m m' (lists c.args.tree.now) (lists c.add_label.new.tree) c.add_label.new.tree.rooted c.args.node
-    c.args.part.now c.in-Smallest.just c.in_ok-add_label-in-Smallest.ensures shrunk.1
+    c.args.part.now c.in-Smallest.just c.in_ok-add_label-in-Smallest.ensures.added shrunk.1
 
 pub returns-in-Spent-clause-shown : goal.returns-in-Spent-clause-shown
 returns-in-Spent-clause-shown g c =

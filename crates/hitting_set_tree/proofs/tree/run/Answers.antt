@@ -2,7 +2,7 @@ use Rattle.std.proofs.Common.{◌≡◌, ◌∙◌, ◌+◌, ◌≤◌, ◌++◌
 use Rattle.justification_shrink.proofs.Shrinking.{keeps_on}
 use Rattle.hitting_set_tree.specs.declared.frames.Frame.{Frame}
 use Rattle.hitting_set_tree.specs.Weight.{weight, frame_weight}
-use Rattle.hitting_set_tree.specs.Tree.{Lists, lists, with_frame, HoldsLists, IsCovered}
+use Rattle.hitting_set_tree.specs.Tree.{Lists, lists, with_frame, HoldsLists, IsCovered, LooksInBudget}
 use Rattle.hitting_set_tree.specs.Open.{HasOpen, StaysOpen}
 use Rattle.hitting_set_tree.proofs.Opening.{few_on}
 use Rattle.hitting_set_tree.proofs.Stepping.{unlisted, last_frame, uncovered, weight_push}
@@ -72,6 +72,7 @@ loop-frame-preserved g c =
     popped c.loop-frame.invariant.covered in
     let open' : StaysOpen m'.taken (lists tree') tree'.rooted true =
     rw c.if-not-went_on.false at c.in_ok-went_on.ensures.open in
+    let in_budget : LooksInBudget m m' true = rw c.if-not-went_on.false at c.in_ok-went_on.ensures.in_budget in
     let step = c.in_ok-went_on.ensures.step in
     record {
       keeps = keeps_on m0 m m' c.loop-frame.invariant.keeps c.look_on.ensures.keeps;
@@ -82,6 +83,8 @@ loop-frame-preserved g c =
           shown_on m0 m m' tree.justifications.items (lists tree').justifications true step.grows
           c.loop-frame.invariant.shown (rw c.if-not-went_on.false at c.in_ok-went_on.ensures.shown);
       grows = λ j at. step.grows j (c.loop-frame.invariant.grows j at);
+      order = c.in_ok-went_on.ensures.order;
+      ran_out = in_budget ∙ c.loop-frame.invariant.ran_out;
       asked =
           few_on m0 m m' m0.size m.size c.loop-frame.invariant.keeps.same_size c.loop-frame.invariant.asked
           c.look_on.ensures.asked;

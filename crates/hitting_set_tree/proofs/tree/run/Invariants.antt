@@ -1,7 +1,7 @@
 use Rattle.std.proofs.Common.{◌≡◌, true}
 use Rattle.set_questions.specs.Meaning.{Keeps}
 use Rattle.hitting_set_tree.specs.Weight.{weight}
-use Rattle.hitting_set_tree.specs.Tree.{lists, HoldsLists, IsCovered, ListsShown, KeepsAll}
+use Rattle.hitting_set_tree.specs.Tree.{lists, IsOrdered, HoldsLists, IsCovered, ListsShown, KeepsAll}
 use Rattle.hitting_set_tree.specs.Open.{HasOpen, AsksFew}
 use Rattle.hitting_set_tree.proofs.tree.run.Given as goal
 
@@ -16,6 +16,8 @@ invariant-loop-frame g l =
       covered : IsCovered (lists l.tree) (λ _. ⊥);
       shown : ListsShown before m (lists l.tree).justifications true;
       grows : KeepsAll (lists l.fn.tree).justifications (lists l.tree).justifications;
+      order : IsOrdered l.tree;
+      ran_out : m.ran_out ≡ before.ran_out;
       asked : AsksFew before.size before m;
       same : g.E.Entail.origin l.entail ≡ g.E.Entail.origin l.fn.entail;
     }

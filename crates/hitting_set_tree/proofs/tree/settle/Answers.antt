@@ -14,12 +14,12 @@ returns-in_ok-add_leaf-in-No-clause-step g c =
     let m = g.E.Entail.meaning c.args.entail.now in
     let answer : Answers m (others c.args.node) No = rw c.in-No.is at c.requires.answer in
     leaf_step (lists c.args.tree.now) (lists c.add_leaf.new.tree) c.add_leaf.new.tree.rooted c.args.node m
-    c.requires.node c.requires.listed c.in_ok-add_leaf-in-No.ensures c.requires.within answer.0 answer.1
+    c.requires.node c.requires.listed c.in_ok-add_leaf-in-No.ensures.added c.requires.within answer.0 answer.1
 
 pub returns-in_ok-add_leaf-in-No-clause-open : goal.returns-in_ok-add_leaf-in-No-clause-open
 returns-in_ok-add_leaf-in-No-clause-open g c =
     leaf_is_open (lists c.args.tree.now) (lists c.add_leaf.new.tree) c.add_leaf.new.tree.rooted c.args.node
-    (g.E.Entail.meaning c.args.entail.now).taken c.requires.pending c.in_ok-add_leaf-in-No.ensures
+    (g.E.Entail.meaning c.args.entail.now).taken c.requires.pending c.in_ok-add_leaf-in-No.ensures.added
 
 pub returns-in-Spent-clause-step : goal.returns-in-Spent-clause-step
 returns-in-Spent-clause-step g c =

@@ -5,6 +5,7 @@ use Rattle.hitting_set_tree.specs.Open.{TakesPath}
 use Rattle.hitting_set_tree.proofs.Opening.{few_still, few_taken}
 use Rattle.hitting_set_tree.proofs.Begun.{in_err, tree_later}
 use Rattle.hitting_set_tree.proofs.Showing.{settled_open, all_shown_after}
+use Rattle.hitting_set_tree.proofs.InBudget.{looks_after, fails_after}
 use Rattle.hitting_set_tree.proofs.Settling.{node_still}
 use Rattle.hitting_set_tree.proofs.Stepping.{keeps_listed, step_spent}
 use Rattle.hitting_set_tree.proofs.tree.take_and_ask.Goals as goal
@@ -73,3 +74,15 @@ returns-clause-shown g c =
     all_shown_after (g.E.Entail.meaning c.args.entail.now) (g.E.Entail.meaning c.take_path.new.entail)
     (g.E.Entail.meaning c.ask_node.new.entail) (lists c.ask_node.new.tree).justifications
     c.take_path.ensures.shown c.ask_node.result c.ask_node.ensures.shown
+
+pub returns-clause-in_budget : goal.returns-clause-in_budget
+returns-clause-in_budget g c =
+    looks_after (g.E.Entail.meaning c.args.entail.now) (g.E.Entail.meaning c.take_path.new.entail)
+    (g.E.Entail.meaning c.ask_node.new.entail) c.take_path.ensures.ran_out c.ask_node.result
+    c.ask_node.ensures.in_budget
+
+pub returns-clause-ran_out : goal.returns-clause-ran_out
+returns-clause-ran_out g c =
+    fails_after (g.E.Entail.meaning c.args.entail.now) (g.E.Entail.meaning c.take_path.new.entail)
+    (g.E.Entail.meaning c.ask_node.new.entail) c.take_path.ensures.ran_out c.ask_node.result
+    c.ask_node.ensures.ran_out

@@ -61,6 +61,7 @@ loop-place-preserved g c =
           path_beside m m' m0.size (lists tree) place frame old.open' c.requires.frames lt takes' c.args.node.now
           old.beside;
       asks = c.take_node.ensures.asks ∙ old.asks;
+      ran_out = c.take_node.ensures.ran_out ∙ old.ran_out;
       shown = nothing_on m0 m m' old.shown c.take_node.ensures.shown;
       grown = omega (arith, old.grown, one_longer m m' frame.hit takes);
       same = c.take_node.ensures.same ∙ old.same;

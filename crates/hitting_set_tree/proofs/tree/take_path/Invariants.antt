@@ -13,6 +13,7 @@ invariant-loop-place g l =
       open' : HasOpen m.taken (lists l.tree) l.place;
       beside : IsBeside m.taken (lists l.tree).frames l.node;
       asks : m.asks ≡ before.asks;
+      ran_out : m.ran_out ≡ before.ran_out;
       shown : ShowsNothing before m;
       grown : length before.taken ≤ length m.taken;
       same : g.E.Entail.origin l.entail ≡ g.E.Entail.origin l.fn.entail;

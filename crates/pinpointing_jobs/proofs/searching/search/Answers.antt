@@ -1,4 +1,8 @@
-use Rattle.std.proofs.Common.{◌∙◌}
+use Rattle.std.proofs.Common.{◌≡◌, ◌∙◌, List, false, sym, subst}
+use Rattle.std.specs.Prelude.{OnErr}
+use Rattle.std.specs.List.{list_any}
+use Rattle.query_asker.specs.Entry.{Entry}
+use Rattle.query_asker.specs.Entries.{is_spent}
 use Rattle.pinpointing_jobs.proofs.Searched.{alone_searched, alone_begun}
 use Rattle.pinpointing_jobs.proofs.searching.search.Goals as goal
 
@@ -15,3 +19,8 @@ returns-clause-begun c =
     c.search_with-outcome.new.oracle.log c.into_log.result
     c.new-oracle.ensures (c.replace-begun.ensures.value ∙ c.requires.unlogged) c.into_log.ensures
     c.search_with-outcome.result c.search_with-outcome.ensures.begun
+
+pub returns-clause-unspent : goal.returns-clause-unspent
+returns-clause-unspent c =
+    subst (λ (log : List Entry). OnErr c.search_with-outcome.result (list_any is_spent log ≡ false))
+    (sym c.into_log.ensures) c.search_with-outcome.ensures.unspent

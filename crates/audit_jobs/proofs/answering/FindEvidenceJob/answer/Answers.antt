@@ -13,4 +13,4 @@ pub returns-clause-begun : goal.returns-clause-begun
 returns-clause-begun c =
     let i = c.args.input.now in
     all_logs i.ontology i.query c.args.self.now.budget c.search.new.log c.in_ok-searched.searched
-    c.in_ok-searched.ensures.searched c.answer_of-outcome.result
+    c.in_ok-searched.ensures.searched c.answer_of-outcome.result c.answer_of-outcome.ensures.refused

@@ -1,16 +1,18 @@
 use Rattle.std.proofs.Common.{◌≡◌, ◌∙◌, length, ap, sym, subst}
 use Rattle.std.specs.Prelude.{IfOk, OnOk, OnErr}
-use Rattle.set_questions.specs.Asked.{ShowsNoOther}
+use Rattle.std.specs.List.{list_any}
+use Rattle.set_questions.specs.Asked.{ShowsNoOther, AsksInBudget}
 use Rattle.set_questions.specs.Meaning.{Keeps, one_more}
 use Rattle.lane_sieve.specs.Sets.{IsPart}
-use Rattle.decision_jobs.specs.Entries.{nodes_of, IsAnswered}
+use Rattle.set_questions.proofs.InBudget.{no_test}
+use Rattle.decision_jobs.specs.Entries.{nodes_of, is_spent, IsAnswered}
 use Rattle.pinpointing_jobs.specs.AskerLists.{AskerLists, origin_of}
 use Rattle.pinpointing_jobs.specs.Told.{asker_meaning}
 use Rattle.pinpointing_jobs.proofs.Answering.{left_out, shows_counted, local_inside}
 use Rattle.pinpointing_jobs.specs.AskerKnown.TheVariants.{Answered, Unknown}
 use Rattle.pinpointing_jobs.specs.Deciding.{IsKnown}
 use Rattle.audit_jobs.proofs.Asked.{asked_answer, asked_unknown, asked_shown, asked_keeps, asked_counted}
-use Rattle.audit_jobs.proofs.Asked.{asked_uncounted, asked_taken, asked_same}
+use Rattle.audit_jobs.proofs.Asked.{asked_uncounted, asked_taken, asked_same, asked_in_budget, asked_ran_out}
 use Rattle.audit_jobs.proofs.witness.WitnessEntail.ask.Goals as goal
 
 pub returns-in-Answered-clause-unknown : goal.returns-in-Answered-clause-unknown
@@ -110,4 +112,32 @@ returns-in-Unknown-clause-same c =
     rw c.in-Unknown.is at c.in_ok-reply.ensures.known in
     subst (λ (x : AskerLists). origin_of c.decide.new.self ≡ origin_of x) c.self.view_is
     (asked_same c.self.inside.asker c.known.new.self c.decide.new.self c.args.set.now c.in-Unknown.part known
+    c.decide.result c.decide.ensures.told c.decide.ensures.unchanged)
+
+pub returns-in-Answered-clause-in_budget : goal.returns-in-Answered-clause-in_budget
+returns-in-Answered-clause-in_budget c =
+    let a = c.self.inside.asker in
+    let new = c.known.new.self in
+    let reply = c.in-Answered.reply in
+    let known : IsKnown a new c.args.set.now (Answered reply) = rw c.in-Answered.is at c.in_ok-reply.ensures.known in
+    subst (λ (x : AskerLists). AsksInBudget (asker_meaning x) (asker_meaning new) reply) c.self.view_is
+    (no_test (asker_meaning a) (asker_meaning new) reply (ap (λ (b : AskerLists). list_any is_spent b.gained) known.0))
+
+pub returns-in-Unknown-clause-in_budget : goal.returns-in-Unknown-clause-in_budget
+returns-in-Unknown-clause-in_budget c =
+    let known : IsKnown c.self.inside.asker c.known.new.self c.args.set.now (Unknown c.in-Unknown.part) =
+    rw c.in-Unknown.is at c.in_ok-reply.ensures.known in
+    subst (λ (x : AskerLists). IfOk c.decide.result (AsksInBudget (asker_meaning x) (asker_meaning c.decide.new.self)))
+    c.self.view_is
+    (asked_in_budget c.self.inside.asker c.known.new.self c.decide.new.self c.args.set.now c.in-Unknown.part known
+    c.decide.result c.decide.ensures.told c.decide.ensures.unchanged)
+
+pub returns-in-Unknown-clause-ran_out : goal.returns-in-Unknown-clause-ran_out
+returns-in-Unknown-clause-ran_out c =
+    let known : IsKnown c.self.inside.asker c.known.new.self c.args.set.now (Unknown c.in-Unknown.part) =
+    rw c.in-Unknown.is at c.in_ok-reply.ensures.known in
+    let new = c.decide.new.self in
+    subst (λ (x : AskerLists). OnErr c.decide.result ((asker_meaning new).ran_out ≡ (asker_meaning x).ran_out))
+    c.self.view_is
+    (asked_ran_out c.self.inside.asker c.known.new.self new c.args.set.now c.in-Unknown.part known
     c.decide.result c.decide.ensures.told c.decide.ensures.unchanged)

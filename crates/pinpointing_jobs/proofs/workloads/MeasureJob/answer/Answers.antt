@@ -1,6 +1,6 @@
 use Rattle.std.proofs.Common.{}
 use Rattle.job_inputs.specs.Answer.{text_bytes}
-use Rattle.pinpointing_jobs.proofs.Listed.{of_axioms_found, all_counted, all_fronts}
+use Rattle.pinpointing_jobs.proofs.Listed.{of_axioms_found, all_counted, all_measured, measured_begun}
 use Rattle.pinpointing_jobs.proofs.workloads.MeasureJob.answer.Goals as goal
 
 pub count_answer-outcome-requires : goal.count_answer-outcome-requires
@@ -19,5 +19,11 @@ returns-clause-answer c =
 pub returns-clause-begun : goal.returns-clause-begun
 returns-clause-begun c =
     let i = c.args.input.now in
-    all_fronts i.ontology i.query c.args.self.now.budget c.search.new.log c.in_ok-found.found
-    c.in_ok-found.ensures.found c.count_answer-outcome.result
+    all_measured i.ontology i.query c.args.self.now.budget c.search.new.log c.in_ok-found.found
+    c.in_ok-found.ensures.found c.count_answer-outcome.result c.count_answer-outcome.ensures.refused
+
+pub returns-in_err-found-clause-begun : goal.returns-in_err-found-clause-begun
+returns-in_err-found-clause-begun c =
+    let i = c.args.input.now in
+    measured_begun c.from_residual.result i.ontology i.query c.args.self.now.budget c.search.new.log
+    c.in_err-found.ensures.begun c.in_err-found.ensures.unspent

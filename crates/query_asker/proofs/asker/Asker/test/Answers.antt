@@ -1,7 +1,7 @@
 use Rattle.std.proofs.Common.{◌≡◌, ◌∙◌, ℕ, length, ap, sym, subst, arith}
 use Rattle.lane_sieve.specs.Sets.{IsPart}
 use Rattle.set_questions.specs.Meaning.{one_more}
-use Rattle.set_questions.specs.Asked.{Answers, ShowsNoOther}
+use Rattle.set_questions.specs.Asked.{Answers, ShowsNoOther, AsksInBudget}
 use Rattle.shq_oracle.specs.Entries.{spent_of, nodes_of, IsAnswered}
 use Rattle.shq_oracle.specs.Shown.{IsShownYes}
 use Rattle.query_asker.specs.AskerLists.{AskerLists}
@@ -11,7 +11,7 @@ use Rattle.shq_oracle.specs.declared.answer.Outcome.TheVariants.{Undecided}
 use Rattle.query_asker.specs.Deciding.{GainsAtMostOne}
 use Rattle.query_asker.proofs.Logged.{with_asks}
 use Rattle.query_asker.proofs.Tested.{is_new, after_test, answered, unknown, shows, later, same_nodes, gains}
-use Rattle.query_asker.proofs.Tested.{gains_none, gains_one}
+use Rattle.query_asker.proofs.Tested.{in_budget, gains_none, gains_one}
 use Rattle.query_asker.proofs.asker.Asker.test.Goals as goal
 
 pub test-requires-clause-is_new : goal.test-requires-clause-is_new
@@ -113,6 +113,30 @@ returns-clause-shown c =
     (shows o i.query.now i.among i.first i.asks c.test.new.self s c.in_ok-outcome.outcome c.self.invariant.is_log some
     d.same_ontology d.same_budget ok.entry ok.spent d.within part new c.self.invariant.first_within c.reply_to.result
     c.reply_to.ensures))
+
+pub returns-clause-in_budget : goal.returns-clause-in_budget
+returns-clause-in_budget c =
+    let i = c.self.inside in
+    let o = i.oracle in
+    let s = c.args.part.now in
+    let a = lists_of o i.query.now i.among i.first i.asks in
+    let d = c.test.ensures in
+    let ok = c.in_ok-outcome.ensures in
+    let new : ¬ IsAnswered a.gained s i.query.now =
+    subst (λ (b : AskerLists). ¬ IsAnswered b.gained s b.query) (sym c.self.view_is) c.requires.is_new in
+    let part : IsPart s.members a.local_part =
+    subst (λ (b : AskerLists). IsPart s.members b.local_part) (sym c.self.view_is) c.requires.local_part in
+    let some : ¬ (spent_of o.log ≡ o.budget) =
+    λ e. absurd (omega (arith, e, c.left.ensures.left, c.if-left-eq0.false)) in
+    subst (λ (n : ℕ). AsksInBudget (asker_meaning c.args.self.now)
+    (asker_meaning (lists_of c.test.new.self i.query.now i.among i.first n)) c.reply_to.result)
+    (sym c.saturating_add-counted.ensures)
+    (subst (λ (b : AskerLists). AsksInBudget (asker_meaning b)
+    (asker_meaning (lists_of c.test.new.self i.query.now i.among i.first (one_more i.asks))) c.reply_to.result)
+    c.self.view_is
+    (in_budget o i.query.now i.among i.first i.asks c.test.new.self s c.in_ok-outcome.outcome
+    c.self.invariant.is_log some d.same_ontology d.same_budget ok.entry ok.spent d.within part new
+    c.self.invariant.first_within c.reply_to.result c.reply_to.ensures))
 
 pub returns-clause-later : goal.returns-clause-later
 returns-clause-later c =

@@ -1,11 +1,13 @@
 use Rattle.std.proofs.Common.{◌≡◌, ◌∙◌, length, ap, sym, subst}
 use Rattle.std.specs.Prelude.{IfOk, OnOk, OnErr}
+use Rattle.std.specs.List.{list_any}
 use Rattle.axiom_sets.specs.Sets.{Limited}
 use Rattle.std.proofs.lemmas.Result.{IfOk-weaker}
 use Rattle.lane_sieve.specs.Sets.{IsPart}
-use Rattle.set_questions.specs.Asked.{Answers, IsUnknownIf, ShowsNoOther}
+use Rattle.set_questions.specs.Asked.{Answers, IsUnknownIf, ShowsNoOther, AsksInBudget}
 use Rattle.set_questions.specs.Meaning.{one_more}
-use Rattle.shq_oracle.specs.Entries.{IsAnswered}
+use Rattle.set_questions.proofs.InBudget.{no_test}
+use Rattle.shq_oracle.specs.Entries.{is_spent, IsAnswered}
 use Rattle.query_asker.specs.declared.known.Known.TheVariants.{Answered, Unknown}
 use Rattle.query_asker.specs.AskerLists.{AskerLists}
 use Rattle.shq_oracle.specs.declared.answer.Outcome.TheVariants.{Undecided}
@@ -13,7 +15,7 @@ use Rattle.query_asker.specs.Told.{asker_meaning, IsUnknown, part_in}
 use Rattle.query_asker.specs.Asking.{IsLater}
 use Rattle.query_asker.specs.Deciding.{IsKnown, GainsAtMostOne}
 use Rattle.query_asker.proofs.Answering.{keeps_later, lifted, unknown_whole, left_out, shows_counted, local_inside}
-use Rattle.query_asker.proofs.Answering.{local_later}
+use Rattle.query_asker.proofs.Answering.{local_later, still_in_budget}
 use Rattle.query_asker.proofs.Logged.{with_asks}
 use Rattle.query_asker.proofs.Tested.{gains_none, gains_one}
 use Rattle.query_asker.proofs.asker.AskerEntail.ask.Goals as goal
@@ -117,3 +119,27 @@ returns-in-Unknown-clause-unchanged c =
     let known : IsKnown c.args.self.now c.known.new.self c.args.set.now (Unknown c.in-Unknown.part) =
     rw c.in-Unknown.is at c.in_ok-reply.ensures.known in
     subst (λ (b : AskerLists). OnErr c.test.result (new ≡ b)) known.0 c.test.ensures.unchanged
+
+pub returns-in-Answered-clause-in_budget : goal.returns-in-Answered-clause-in_budget
+returns-in-Answered-clause-in_budget c =
+    let a = c.args.self.now in
+    let new = c.known.new.self in
+    let reply = c.in-Answered.reply in
+    let known : IsKnown a new c.args.set.now (Answered reply) = rw c.in-Answered.is at c.in_ok-reply.ensures.known in
+    no_test (asker_meaning a) (asker_meaning new) reply (ap (λ (b : AskerLists). list_any is_spent b.gained) known.0)
+
+pub returns-in-Unknown-clause-in_budget : goal.returns-in-Unknown-clause-in_budget
+returns-in-Unknown-clause-in_budget c =
+    let new = c.test.new.self in
+    let known : IsKnown c.args.self.now c.known.new.self c.args.set.now (Unknown c.in-Unknown.part) =
+    rw c.in-Unknown.is at c.in_ok-reply.ensures.known in
+    subst (λ (b : AskerLists). IfOk c.test.result (AsksInBudget (asker_meaning b) (asker_meaning new))) known.0
+    c.test.ensures.in_budget
+
+pub returns-in-Unknown-clause-ran_out : goal.returns-in-Unknown-clause-ran_out
+returns-in-Unknown-clause-ran_out c =
+    let new = c.test.new.self in
+    let known : IsKnown c.args.self.now c.known.new.self c.args.set.now (Unknown c.in-Unknown.part) =
+    rw c.in-Unknown.is at c.in_ok-reply.ensures.known in
+    still_in_budget c.args.self.now new c.test.result
+    (subst (λ (b : AskerLists). OnErr c.test.result (new ≡ b)) known.0 c.test.ensures.unchanged)

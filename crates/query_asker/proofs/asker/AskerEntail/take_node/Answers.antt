@@ -7,7 +7,7 @@ use Rattle.query_asker.specs.Told.{asker_meaning, LogsNode}
 use Rattle.query_asker.specs.Asking.{lists_of}
 use Rattle.query_asker.proofs.Answering.{keeps_later}
 use Rattle.query_asker.proofs.Tested.{after_take, logs_node, logs_nothing, takes_by, later_by, shows_by, origin_by}
-use Rattle.query_asker.proofs.Tested.{refused_by}
+use Rattle.query_asker.proofs.Tested.{refused_by, ran_out_by}
 use Rattle.query_asker.proofs.asker.AskerEntail.take_node.Goals as goal
 
 pub invariant_of-self : goal.invariant_of-self
@@ -169,3 +169,25 @@ returns-clause-same c =
     (logs_nothing o i.query.now i.among i.first i.asks c.take_node.new.self s i.memo c.self.invariant t.same_ontology
     t.same_budget is_set r t.unchanged) in
     origin_by a b s r logs nothing
+
+pub returns-clause-ran_out : goal.returns-clause-ran_out
+returns-clause-ran_out c =
+    let i = c.self.inside in
+    let o = i.oracle in
+    let s = c.args.hit.now in
+    let limit : s.limit ≡ length o.ontology.axioms =
+    c.requires.limit ∙ ap (λ (a : AskerLists). length a.ontology.axioms) (sym c.self.view_is) in
+    let is_set : IsAxiomSet o.ontology s = record { limit_is = limit; within = c.limit-limit.ensures.within } in
+    let t = c.take_node.ensures in
+    let r = c.take_node.result in
+    let a = c.args.self.now in
+    let b = lists_of c.take_node.new.self i.query.now i.among i.first i.asks in
+    let logs : IfOk r (LogsNode a b s) =
+    subst (λ (x : AskerLists). IfOk r (LogsNode x b s)) c.self.view_is
+    (logs_node o i.query.now i.among i.first i.asks c.take_node.new.self s i.memo c.self.invariant t.same_ontology
+    t.same_budget is_set r t.taken) in
+    let nothing : OnErr r (b ≡ a) =
+    subst (λ (x : AskerLists). OnErr r (b ≡ x)) c.self.view_is
+    (logs_nothing o i.query.now i.among i.first i.asks c.take_node.new.self s i.memo c.self.invariant t.same_ontology
+    t.same_budget is_set r t.unchanged) in
+    ran_out_by a b s r logs nothing

@@ -6,6 +6,7 @@ use Rattle.set_questions.specs.Meaning.{Meaning}
 use Rattle.set_questions.specs.declared.entail.Reply.{Reply}
 use Rattle.set_questions.specs.declared.entail.Reply.TheVariants.{Yes, No, Spent}
 use Rattle.set_questions.specs.Listed.{oracle_meaning}
+use Rattle.set_questions.proofs.InBudget.{no_test}
 use Rattle.set_questions.proofs.set_oracle.SetOracleEntail.ask.Goals as goal
 
 -- an answer that holds whatever is left takes one unit
@@ -57,3 +58,10 @@ returns-clause-shown c =
     nothing_shown (oracle_meaning o.count o.yes_sets.items o.left o.asks o.taken.items)
     (oracle_meaning o.count o.yes_sets.items (o.left - 1) c.saturating_add-self-2.result o.taken.items)
     c.in_ok-found.found (λ s shown. shown)
+
+pub returns-clause-in_budget : goal.returns-clause-in_budget
+returns-clause-in_budget c =
+    let o = c.args.self.now in
+    no_test (oracle_meaning o.count o.yes_sets.items o.left o.asks o.taken.items)
+    (oracle_meaning o.count o.yes_sets.items (o.left - 1) c.saturating_add-self-2.result o.taken.items)
+    c.in_ok-found.found refl
