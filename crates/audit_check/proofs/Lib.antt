@@ -11,3 +11,4 @@ pub mod Accepted
 pub mod Places
 pub use Rattle.audit_file.proofs.Joined
 pub use Rattle.audit_file.proofs.Counted
+pub use Rattle.refutation_check.proofs.Checkable

@@ -1,7 +1,7 @@
 // Whether what an audit lists is shown.
 ghost use Rattle.std.specs.Prelude.{◌≡◌, ◌<◌, ◌≤◌, ◌↔◌, IsTrue, IfOk, MatchOption, length};
 ghost use Rattle.std.specs.List.{All};
-ghost use Rattle.refutation_check.specs.Limits.{IsInLimit};
+ghost use Rattle.refutation_check.specs.Checkable.{IsCheckable};
 ghost use Rattle.finite_model.specs.ModelLists.{meaning};
 ghost use Rattle.audit_file.specs.AuditLists.{justified_sets};
 ghost use Rattle.audit_file.specs.Fitting.{IsOfAxioms};
@@ -27,7 +27,7 @@ pub(crate) fn first_failing_justification(
 ) -> Result<Option<usize>, NoMemory>
     requires sets { sets.now ≡ justified_sets list.now }
     requires of_axioms { All (λ j. IsOfAxioms ontology.now j.set) list.now }
-    requires limits { IsInLimit ontology.now query.now }
+    requires checkable { IsCheckable ontology.now query.now }
     requires lines { All (λ j. length j.refutation.lines ≤ 4294967293) list.now }
     ensures { IfOk result (λ p. MatchOption p
         (JustificationsHold ontology.now query.now list.now (length list.now))
@@ -53,7 +53,7 @@ fn justification_holds(
     requires place { place < length list.now }
     requires sets { sets.now ≡ justified_sets list.now }
     requires of_axioms { All (λ j. IsOfAxioms ontology.now j.set) list.now }
-    requires limits { IsInLimit ontology.now query.now }
+    requires checkable { IsCheckable ontology.now query.now }
     requires lines { All (λ j. length j.refutation.lines ≤ 4294967293) list.now }
     ensures { IfOk result (λ b. IsTrue b ↔ JustificationHolds ontology.now query.now list.now place) }
 {
@@ -64,7 +64,7 @@ fn justification_holds(
 }
 
 /// Whether the refutation is valid over the set.
-#[tactic(auto, using(crate::proofs::Judged::accepted_shown, crate::proofs::Judged::rejected_not_shown, refutation_check::proofs::Checkable::in_limit_checkable))]
+#[tactic(auto, using(crate::proofs::Judged::accepted_shown, crate::proofs::Judged::rejected_not_shown))]
 fn is_shown(
     alloc: Global,
     ontology: &Ontology,
@@ -72,7 +72,7 @@ fn is_shown(
     justification: &Justification,
 ) -> Result<bool, NoMemory>
     requires of_axioms { IsOfAxioms ontology.now justification.now.set }
-    requires limits { IsInLimit ontology.now query.now }
+    requires checkable { IsCheckable ontology.now query.now }
     requires lines { length justification.now.refutation.lines ≤ 4294967293 }
     ensures { IfOk result (λ b. IsTrue b ↔ IsShown ontology.now query.now justification.now) }
 {

@@ -1,7 +1,7 @@
 // The verdict on an audit.
 ghost use Rattle.std.specs.Prelude.{◌≡◌, ◌≤◌, ◌↔◌, IsTrue, IfOk, length};
 ghost use Rattle.std.specs.List.{All};
-ghost use Rattle.refutation_check.specs.Limits.{IsInLimit};
+ghost use Rattle.refutation_check.specs.Checkable.{IsCheckable};
 ghost use Rattle.axiom_sets.specs.Sets.{IsWithin};
 ghost use Rattle.audit_check.specs.Transversals.{AreTransversals};
 ghost use Rattle.audit_file.specs.AuditLists.{justified_sets, repaired_sets, IsOrdered};
@@ -46,7 +46,7 @@ pub fn verify(
     audit: &Audit,
 ) -> Result<AuditVerdict, NoMemory>
     requires of_axioms { AreOfAxioms ontology.now audit.now }
-    requires limits { IsInLimit ontology.now query.now }
+    requires checkable { IsCheckable ontology.now query.now }
     requires lines { All (λ j. length j.refutation.lines ≤ 4294967293) audit.now.justifications }
     ensures verdict { IfOk result (IsVerdict ontology.now query.now audit.now) }
     ensures all { IfOk result (λ v. v ≡ verdict.Accepted → ListsAll ontology.now query.now audit.now) }

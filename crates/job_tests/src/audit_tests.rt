@@ -49,6 +49,7 @@ const CHANGES: &[(usize, &[u8], Result<AuditVerdict, AuditFault>)] = &[
 ];
 
 // The verdict on the audit that the lines are.
+#[tactic(auto, using(refutation_check::proofs::Checkable::in_limit_checkable))]
 fn verdict_on(
     alloc: Global,
     ontology: &Ontology,
