@@ -11,26 +11,26 @@ use Rattle.edit_session.specs.Entry.{Entry}
 use Rattle.audit_jobs.specs.Audited.{IsAuditEnd, IsJudgedOn, end_answer}
 use Rattle.audit_jobs.specs.AuditVerdict.{AuditVerdict}
 use Rattle.audit_jobs.specs.AuditVerdict.TheVariants as A
-use Rattle.audit_jobs.specs.Unread.{Unread}
-use Rattle.audit_jobs.specs.Unread.TheVariants as U
+use Rattle.job_inputs.specs.declared.unread.Unread.{Unread}
+use Rattle.job_inputs.specs.declared.unread.Unread.TheVariants as U
 use Rattle.ontology_jobs.specs.Words.{check, audit}
 use Rattle.classification_jobs.specs.LimitLaws.{with_names}
-use Rattle.classification_jobs.specs.Asked.{Reply, judged, refused_document, refused_query, malformed_line}
+use Rattle.job_inputs.specs.Asked.{Reply, judged, refused_document, refused_query, malformed_line}
 use Rattle.audit_jobs.specs.Checking.{IsVerdictOn, Shows, IsReply, no_document, no_query, shown}
-use Rattle.classification_jobs.specs.Complaints.{Complaint, sort_status, complaint}
-use Rattle.classification_jobs.specs.Answer.{line, Answer, complaint_answer}
-use Rattle.classification_jobs.specs.Replies.{reply_answer}
+use Rattle.job_inputs.specs.Complaints.{Complaint, sort_status, complaint}
+use Rattle.job_inputs.specs.Answer.{line, Answer, complaint_answer}
+use Rattle.job_inputs.specs.Replies.{reply_answer}
 use Rattle.ontology_jobs.specs.Answers.{AnswersJob}
 use Rattle.ontology_jobs.specs.Laws.{HaveRead, HaveAudited, AcceptedAuditsListAll}
 use Rattle.audit_jobs.specs.Certificate.{Certificate}
 use Rattle.audit_jobs.specs.Certificate.TheVariants as C
-use Rattle.classification_jobs.specs.Place.{Place}
-use Rattle.classification_jobs.specs.Place.TheVariants as P
-use Rattle.classification_jobs.specs.Sort.{Sort}
-use Rattle.classification_jobs.specs.Sort.TheVariants as S
-use Rattle.classification_jobs.specs.Verdict.{Verdict}
-use Rattle.classification_jobs.specs.Verdict.TheVariants.{NotEntailed, Entailed, Axiom, Query, Line}
-use Rattle.classification_jobs.specs.Status.TheVariants.{Done, NoMemory}
+use Rattle.job_inputs.specs.declared.complaint.Place.{Place}
+use Rattle.job_inputs.specs.declared.complaint.Place.TheVariants as P
+use Rattle.job_inputs.specs.declared.complaint.Sort.{Sort}
+use Rattle.job_inputs.specs.declared.complaint.Sort.TheVariants as S
+use Rattle.job_inputs.specs.declared.verdict.Verdict.{Verdict}
+use Rattle.job_inputs.specs.declared.verdict.Verdict.TheVariants.{NotEntailed, Entailed, Axiom, Query, Line}
+use Rattle.job_inputs.specs.declared.status.Status.TheVariants.{Done, NoMemory}
 
 -- ---- which replies are accepting
 

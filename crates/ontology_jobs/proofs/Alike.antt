@@ -4,15 +4,16 @@ use Rattle.std.proofs.Common.{ap, sym, ◌∙◌, subst, arith}
 use Rattle.ofn_reader.proofs.Unique.{documents_not_refused}
 use Rattle.ofn_reader.proofs.OneReason.{document_refusals}
 use Rattle.edit_session.specs.Entry.{Entry}
-use Rattle.classification_jobs.specs.Answer.{Answer}
-use Rattle.classification_jobs.specs.Asked.{Reply, refused_document}
-use Rattle.classification_jobs.specs.Questions.{has_element, follows, IsRefusedQuestion}
-use Rattle.classification_jobs.specs.Replies.{reply_answer}
-use Rattle.classification_jobs.specs.Status.{Status}
-use Rattle.classification_jobs.specs.Status.TheVariants.{Done, Rejected, BadWords, BadText, Outside, Limit, ReadFault}
-use Rattle.classification_jobs.specs.Status.TheVariants.{WriteFault, Undecided, NoMemory}
-use Rattle.classification_jobs.proofs.OneReading.{alone_not_refused, alone_refusals, questions_not_refused}
-use Rattle.classification_jobs.proofs.OneReading.{question_refusals}
+use Rattle.job_inputs.specs.Answer.{Answer}
+use Rattle.job_inputs.specs.Asked.{Reply, refused_document}
+use Rattle.job_inputs.specs.Questions.{has_element, follows, IsRefusedQuestion}
+use Rattle.job_inputs.specs.Replies.{reply_answer}
+use Rattle.job_inputs.specs.declared.status.Status.{Status}
+use Rattle.job_inputs.specs.declared.status.Status.TheVariants.{Done, Rejected, BadWords, BadText, Outside, Limit}
+use Rattle.job_inputs.specs.declared.status.Status.TheVariants.{ReadFault}
+use Rattle.job_inputs.specs.declared.status.Status.TheVariants.{WriteFault, Undecided, NoMemory}
+use Rattle.job_inputs.proofs.OneReading.{alone_not_refused, alone_refusals, questions_not_refused}
+use Rattle.job_inputs.proofs.OneReading.{question_refusals}
 use Rattle.ontology_jobs.specs.Words.{Job, check, audit, decide, classify, realize, instances, reasons, session}
 use Rattle.ontology_jobs.specs.Words.{pinpoint, evidence, Request, on_input, generated, request_of}
 use Rattle.ontology_jobs.specs.Answers.{IsBadWords, AnswersJob, AnswersRequest}

@@ -1,9 +1,9 @@
 -- Bad words are answered to the words of no job alone.
 use Rattle.std.proofs.Common.{◌≡◌, ℕ, List, [], Option, Some, None, MatchOption, inl, inr, refl, ap}
 use Rattle.edit_session.specs.Entry.{Entry}
-use Rattle.classification_jobs.specs.Answer.{Answer}
-use Rattle.classification_jobs.specs.Asked.{Reply}
-use Rattle.classification_jobs.specs.Status.TheVariants.{BadWords, Limit}
+use Rattle.job_inputs.specs.Answer.{Answer}
+use Rattle.job_inputs.specs.Asked.{Reply}
+use Rattle.job_inputs.specs.declared.status.Status.TheVariants.{BadWords, Limit}
 use Rattle.ontology_jobs.specs.Words.{Job, check, audit, decide, classify, realize, instances, reasons, session}
 use Rattle.ontology_jobs.specs.Words.{pinpoint, evidence, Request, on_input, generated, request_of}
 use Rattle.ontology_jobs.specs.Answers.{IsTooLong, IsBadWords, AnswersJob, AnswersRequest, AnswersAll}

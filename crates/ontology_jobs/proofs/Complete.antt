@@ -11,22 +11,23 @@ use Rattle.edit_session.specs.Entries.{spent_of, is_spent}
 use Rattle.audit_jobs.specs.Audited.{Audited, IsAuditEnd, end_answer}
 use Rattle.audit_jobs.specs.AuditVerdict.{AuditVerdict}
 use Rattle.audit_jobs.specs.AuditVerdict.TheVariants as A
-use Rattle.audit_jobs.specs.Unread.{Unread}
-use Rattle.audit_jobs.specs.Unread.TheVariants as U
+use Rattle.job_inputs.specs.declared.unread.Unread.{Unread}
+use Rattle.job_inputs.specs.declared.unread.Unread.TheVariants as U
 use Rattle.audit_jobs.specs.Checked.{Checked}
 use Rattle.audit_jobs.specs.Checking.{Shows, IsReply, no_document, no_query, shown}
-use Rattle.classification_jobs.specs.Answer.{Answer}
-use Rattle.classification_jobs.specs.Asked.{IsAsked, Reply, judged, refused_document, refused_query}
-use Rattle.classification_jobs.specs.Asked.{malformed_line}
+use Rattle.job_inputs.specs.Answer.{Answer}
+use Rattle.job_inputs.specs.Asked.{IsAsked, Reply, judged, refused_document, refused_query}
+use Rattle.job_inputs.specs.Asked.{malformed_line}
 use Rattle.classification_jobs.specs.LimitLaws.{with_names}
-use Rattle.classification_jobs.specs.Questions.{has_element, follows, IsRefusedQuestion}
-use Rattle.classification_jobs.specs.Replies.{reply_answer}
-use Rattle.classification_jobs.specs.Verdict.{Verdict}
-use Rattle.classification_jobs.specs.Verdict.TheVariants.{NotEntailed, Entailed, Axiom, Query, Line}
-use Rattle.classification_jobs.specs.Status.{Status}
-use Rattle.classification_jobs.specs.Status.TheVariants.{Done, Rejected, BadWords, BadText, Outside, Limit, ReadFault}
-use Rattle.classification_jobs.specs.Status.TheVariants.{WriteFault, Undecided, NoMemory}
-use Rattle.classification_jobs.proofs.OneReading.{alone_not_refused, questions_not_refused}
+use Rattle.job_inputs.specs.Questions.{has_element, follows, IsRefusedQuestion}
+use Rattle.job_inputs.specs.Replies.{reply_answer}
+use Rattle.job_inputs.specs.declared.verdict.Verdict.{Verdict}
+use Rattle.job_inputs.specs.declared.verdict.Verdict.TheVariants.{NotEntailed, Entailed, Axiom, Query, Line}
+use Rattle.job_inputs.specs.declared.status.Status.{Status}
+use Rattle.job_inputs.specs.declared.status.Status.TheVariants.{Done, Rejected, BadWords, BadText, Outside, Limit}
+use Rattle.job_inputs.specs.declared.status.Status.TheVariants.{ReadFault}
+use Rattle.job_inputs.specs.declared.status.Status.TheVariants.{WriteFault, Undecided, NoMemory}
+use Rattle.job_inputs.proofs.OneReading.{alone_not_refused, questions_not_refused}
 use Rattle.ontology_jobs.specs.Words.{Job, check, audit, decide, classify, realize, instances, reasons, session}
 use Rattle.ontology_jobs.specs.Words.{pinpoint, evidence, Request, on_input, generated, request_of}
 use Rattle.ontology_jobs.specs.Answers.{IsBadWords, AreAll, AnswersJob, AnswersRequest, AnswersAll}

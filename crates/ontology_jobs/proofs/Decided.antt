@@ -24,27 +24,28 @@ use Rattle.ontology_jobs.specs.Words.{pinpoint, evidence, Request, on_input, gen
 use Rattle.audit_jobs.specs.Audited.{IsAuditEnd, end_answer}
 use Rattle.audit_jobs.specs.AuditVerdict.{AuditVerdict}
 use Rattle.audit_jobs.proofs.OneAnswer.{IsKnown, one_end}
-use Rattle.audit_jobs.specs.Unread.{Unread}
-use Rattle.audit_jobs.specs.Unread.TheVariants as U
+use Rattle.job_inputs.specs.declared.unread.Unread.{Unread}
+use Rattle.job_inputs.specs.declared.unread.Unread.TheVariants as U
 use Rattle.audit_jobs.specs.Certificates.{certificate_lines}
 use Rattle.audit_jobs.specs.Malformed.{certificate_read}
 use Rattle.audit_jobs.proofs.FirstMalformed.{first_is_one, malformed_is_none}
 use Rattle.classification_jobs.specs.LimitLaws.{with_names}
-use Rattle.classification_jobs.specs.Asked.{IsAsked, IsNotAsked, Reply, judged, refused_document, refused_query}
-use Rattle.classification_jobs.specs.Asked.{malformed_line}
+use Rattle.job_inputs.specs.Asked.{IsAsked, IsNotAsked, Reply, judged, refused_document, refused_query}
+use Rattle.job_inputs.specs.Asked.{malformed_line}
 use Rattle.audit_jobs.specs.Checking.{IsOfModel, IsOfRefutation, IsVerdictOn, line_of_place, Shows, IsReply}
 use Rattle.audit_jobs.specs.Checking.{no_document, no_query, shown}
-use Rattle.classification_jobs.specs.Answer.{line, Answer}
-use Rattle.classification_jobs.specs.Replies.{verdict_answer, reply_answer}
+use Rattle.job_inputs.specs.Answer.{line, Answer}
+use Rattle.job_inputs.specs.Replies.{verdict_answer, reply_answer}
 use Rattle.ontology_jobs.specs.Answers.{IsTooLong, IsBadWords, AnswersJob, AnswersRequest}
 use Rattle.ontology_jobs.specs.Laws.{IsFinal, AsksForNoSearch, AnswersAreUnique}
 use Rattle.audit_jobs.specs.Certificate.{Certificate}
 use Rattle.audit_jobs.specs.Certificate.TheVariants as C
-use Rattle.classification_jobs.specs.Verdict.{Verdict}
-use Rattle.classification_jobs.specs.Verdict.TheVariants.{NotEntailed, Entailed, Axiom, Query, Line}
-use Rattle.classification_jobs.specs.Status.{Status}
-use Rattle.classification_jobs.specs.Status.TheVariants.{Done, Rejected, BadWords, BadText, Outside, Limit, ReadFault}
-use Rattle.classification_jobs.specs.Status.TheVariants.{WriteFault, Undecided, NoMemory}
+use Rattle.job_inputs.specs.declared.verdict.Verdict.{Verdict}
+use Rattle.job_inputs.specs.declared.verdict.Verdict.TheVariants.{NotEntailed, Entailed, Axiom, Query, Line}
+use Rattle.job_inputs.specs.declared.status.Status.{Status}
+use Rattle.job_inputs.specs.declared.status.Status.TheVariants.{Done, Rejected, BadWords, BadText, Outside, Limit}
+use Rattle.job_inputs.specs.declared.status.Status.TheVariants.{ReadFault}
+use Rattle.job_inputs.specs.declared.status.Status.TheVariants.{WriteFault, Undecided, NoMemory}
 
 some_same : {A : Type 0} (a b : A) → Some a ≡ Some b → a ≡ b
 some_same a b same = cc same

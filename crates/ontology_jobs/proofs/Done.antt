@@ -2,17 +2,17 @@
 use Rattle.std.proofs.Common.{◌≡◌, ℕ, Bool, List, false, true, refl, ap, sym, ◌∙◌, inl, inr}
 use Rattle.audit_jobs.specs.Answers.{IsEvidenced}
 use Rattle.audit_jobs.specs.Decisions.{IsDecisionTold}
-use Rattle.audit_jobs.specs.Listings.{end_status}
-use Rattle.audit_jobs.specs.PinpointingAnswers.{IsPinpointed}
-use Rattle.audit_jobs.specs.Wanted.{Wanted}
-use Rattle.classification_jobs.specs.Answer.{Answer, IsAnswer}
-use Rattle.classification_jobs.specs.Asked.{Reply}
-use Rattle.classification_jobs.specs.Complaints.{complaint}
-use Rattle.classification_jobs.specs.Place.TheVariants as P
-use Rattle.classification_jobs.specs.Questions.{Text, follows, IsRefusedQuestion, document, query}
-use Rattle.classification_jobs.specs.Replies.{reply_answer}
-use Rattle.classification_jobs.specs.Status.{Status}
-use Rattle.classification_jobs.specs.Status.TheVariants.{Done}
+use Rattle.pinpointing_jobs.specs.Listings.{end_status}
+use Rattle.pinpointing_jobs.specs.Answers.{IsPinpointed}
+use Rattle.pinpointing_jobs.specs.declared.wanted.Wanted.{Wanted}
+use Rattle.job_inputs.specs.Answer.{Answer, IsAnswer}
+use Rattle.job_inputs.specs.Asked.{Reply}
+use Rattle.job_inputs.specs.Complaints.{complaint}
+use Rattle.job_inputs.specs.declared.complaint.Place.TheVariants as P
+use Rattle.job_inputs.specs.Questions.{Text, follows, IsRefusedQuestion, document, query}
+use Rattle.job_inputs.specs.Replies.{reply_answer}
+use Rattle.job_inputs.specs.declared.status.Status.{Status}
+use Rattle.job_inputs.specs.declared.status.Status.TheVariants.{Done}
 use Rattle.job_inputs.proofs.Ends.{is_refusal, complaint_refuses}
 use Rattle.edit_session.specs.Entry.{Entry}
 use Rattle.ontology_jobs.specs.Answers.{IsTooLong, AnswersJob}

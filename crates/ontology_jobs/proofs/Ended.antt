@@ -9,23 +9,24 @@ use Rattle.edit_session.specs.Entry.{Entry}
 use Rattle.audit_jobs.specs.Answer.{Answer as Decision}
 use Rattle.audit_jobs.specs.Answer.TheVariants as Answered
 use Rattle.audit_jobs.specs.Decisions.{decision_status, IsDecisionTold, AnswersQuestion}
-use Rattle.classification_jobs.specs.Answer.{Answer}
-use Rattle.classification_jobs.specs.Asked.{Reply, refused_document}
+use Rattle.job_inputs.specs.Answer.{Answer}
+use Rattle.job_inputs.specs.Asked.{Reply, refused_document}
 use Rattle.classification_jobs.specs.Classifications.{AnswersClassification}
-use Rattle.classification_jobs.specs.Questions.{Text, has_element, follows, IsDocumentAlone, IsNotAlone, IsQuestion}
-use Rattle.classification_jobs.specs.Questions.{IsRefusedQuestion}
-use Rattle.classification_jobs.specs.Refusals.{IsRefusedDocument, IsRefused, HasBegun}
-use Rattle.classification_jobs.specs.Replies.{reply_answer}
-use Rattle.classification_jobs.specs.Status.{Status}
-use Rattle.classification_jobs.specs.Status.TheVariants.{Done, Rejected, BadWords, BadText, Outside, Limit, ReadFault}
-use Rattle.classification_jobs.specs.Status.TheVariants.{WriteFault, Undecided, NoMemory}
+use Rattle.job_inputs.specs.Questions.{Text, has_element, follows, IsDocumentAlone, IsNotAlone, IsQuestion}
+use Rattle.job_inputs.specs.Questions.{IsRefusedQuestion}
+use Rattle.job_inputs.specs.Refusals.{IsRefusedDocument, IsRefused, HasBegun}
+use Rattle.job_inputs.specs.Replies.{reply_answer}
+use Rattle.job_inputs.specs.declared.status.Status.{Status}
+use Rattle.job_inputs.specs.declared.status.Status.TheVariants.{Done, Rejected, BadWords, BadText, Outside, Limit}
+use Rattle.job_inputs.specs.declared.status.Status.TheVariants.{ReadFault}
+use Rattle.job_inputs.specs.declared.status.Status.TheVariants.{WriteFault, Undecided, NoMemory}
 use Rattle.audit_jobs.specs.Answers.{IsEvidenced}
 use Rattle.audit_jobs.specs.Witnessed.{IsUnspentLog}
-use Rattle.audit_jobs.specs.PinpointingAnswers.{IsPinpointed, IsMeasured, AnswersWorkload}
+use Rattle.pinpointing_jobs.specs.Answers.{IsPinpointed, IsMeasured, AnswersWorkload}
 use Rattle.edit_session.specs.HonestLog.{IsPinpointingLog}
-use Rattle.audit_jobs.specs.Memory.{UnlessNoMemory}
-use Rattle.audit_jobs.specs.Listings.{end_status}
-use Rattle.audit_jobs.specs.Wanted.{Wanted}
+use Rattle.pinpointing_jobs.specs.Memory.{UnlessNoMemory}
+use Rattle.pinpointing_jobs.specs.Listings.{end_status}
+use Rattle.pinpointing_jobs.specs.declared.wanted.Wanted.{Wanted}
 use Rattle.ofn_reader.specs.Documents.{IsDocument, IsNoDocument}
 use Rattle.individual_jobs.specs.Answers.{AnswersWhy}
 use Rattle.individual_jobs.specs.Realizations.{AnswersInstances, AnswersRealization}

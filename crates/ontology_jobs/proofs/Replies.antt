@@ -8,11 +8,12 @@ use Rattle.shq_io.specs.Causes.{TakesOut, TakesPrefix}
 use Rattle.shq_io.specs.declared.whole.ReadEnd.{ReadEnd}
 use Rattle.shq_io.specs.declared.whole.ReadEnd.TheVariants as E
 use Rattle.edit_session.specs.Entry.{Entry}
-use Rattle.classification_jobs.specs.Answer.{Answer, IsAnswer, is_fault}
-use Rattle.classification_jobs.specs.Status.{Status}
-use Rattle.classification_jobs.specs.Status.TheVariants.{Done, Rejected, BadWords, BadText, Outside, Limit, ReadFault}
-use Rattle.classification_jobs.specs.Status.TheVariants.{WriteFault, Undecided, NoMemory}
-use Rattle.audit_jobs.specs.PinpointingAnswers.{AnswersWorkload}
+use Rattle.job_inputs.specs.Answer.{Answer, IsAnswer, is_fault}
+use Rattle.job_inputs.specs.declared.status.Status.{Status}
+use Rattle.job_inputs.specs.declared.status.Status.TheVariants.{Done, Rejected, BadWords, BadText, Outside, Limit}
+use Rattle.job_inputs.specs.declared.status.Status.TheVariants.{ReadFault}
+use Rattle.job_inputs.specs.declared.status.Status.TheVariants.{WriteFault, Undecided, NoMemory}
+use Rattle.pinpointing_jobs.specs.Answers.{AnswersWorkload}
 use Rattle.ontology_jobs.specs.Words.{Job, Request, on_input, generated, request_of}
 use Rattle.ontology_jobs.specs.Answers.{end_answer, AnswersRead, AnswersJob, AnswersRequest, IsBadWords, Answers}
 use Rattle.ontology_jobs.specs.Answers.{Answered, AreAll, AnswersJobOnAll, AnswersRequestOnAll, AnswersAll, AnsweredAll}

@@ -3,20 +3,21 @@ use Rattle.std.proofs.Common.{◌≡◌, List, ℕ, Bool, true, false, Option, S
 use Rattle.audit_jobs.specs.Audited.{verdict_answer as audit_verdict, end_answer}
 use Rattle.audit_jobs.specs.AuditVerdict.{AuditVerdict}
 use Rattle.audit_jobs.specs.AuditVerdict.TheVariants as A
-use Rattle.audit_jobs.specs.Unread.{Unread}
-use Rattle.audit_jobs.specs.Unread.TheVariants as U
-use Rattle.classification_jobs.specs.Asked.{Reply, judged, refused_document, refused_query, malformed_line}
-use Rattle.classification_jobs.specs.Replies.{reply_answer}
-use Rattle.classification_jobs.specs.Answer.{Answer, complaint_answer}
-use Rattle.classification_jobs.specs.Complaints.{Complaint, sort_status, complaint}
-use Rattle.classification_jobs.specs.Place.{Place}
-use Rattle.classification_jobs.specs.Place.TheVariants as P
-use Rattle.classification_jobs.specs.Sort.{Sort}
-use Rattle.classification_jobs.specs.Sort.TheVariants as S
-use Rattle.classification_jobs.specs.Verdict.TheVariants.{NotEntailed, Entailed, Axiom, Query, Line}
-use Rattle.classification_jobs.specs.Status.{Status}
-use Rattle.classification_jobs.specs.Status.TheVariants.{Done, Rejected, BadWords, BadText, Outside, Limit, ReadFault}
-use Rattle.classification_jobs.specs.Status.TheVariants.{WriteFault, Undecided, NoMemory}
+use Rattle.job_inputs.specs.declared.unread.Unread.{Unread}
+use Rattle.job_inputs.specs.declared.unread.Unread.TheVariants as U
+use Rattle.job_inputs.specs.Asked.{Reply, judged, refused_document, refused_query, malformed_line}
+use Rattle.job_inputs.specs.Replies.{reply_answer}
+use Rattle.job_inputs.specs.Answer.{Answer, complaint_answer}
+use Rattle.job_inputs.specs.Complaints.{Complaint, sort_status, complaint}
+use Rattle.job_inputs.specs.declared.complaint.Place.{Place}
+use Rattle.job_inputs.specs.declared.complaint.Place.TheVariants as P
+use Rattle.job_inputs.specs.declared.complaint.Sort.{Sort}
+use Rattle.job_inputs.specs.declared.complaint.Sort.TheVariants as S
+use Rattle.job_inputs.specs.declared.verdict.Verdict.TheVariants.{NotEntailed, Entailed, Axiom, Query, Line}
+use Rattle.job_inputs.specs.declared.status.Status.{Status}
+use Rattle.job_inputs.specs.declared.status.Status.TheVariants.{Done, Rejected, BadWords, BadText, Outside, Limit}
+use Rattle.job_inputs.specs.declared.status.Status.TheVariants.{ReadFault}
+use Rattle.job_inputs.specs.declared.status.Status.TheVariants.{WriteFault, Undecided, NoMemory}
 
 -- whether some reply, or some check of an audit, has the status
 abbrev pub is_said : Status → Bool

@@ -3,10 +3,10 @@ use Rattle.std.proofs.Common.{◌≡◌, ℕ, List, refl, sym, ◌∙◌, inl, i
 use Rattle.edit_session.specs.Entry.{Entry}
 use Rattle.audit_jobs.specs.Decided.{Matches}
 use Rattle.audit_jobs.specs.Decisions.{IsDecisionTold}
-use Rattle.audit_jobs.specs.Listings.{IsListing}
+use Rattle.pinpointing_jobs.specs.Listings.{IsListing}
 use Rattle.classifier.proofs.Settled.{classified}
-use Rattle.classification_jobs.specs.Questions.{Text}
-use Rattle.classification_jobs.specs.Status.TheVariants.{Done}
+use Rattle.job_inputs.specs.Questions.{Text}
+use Rattle.job_inputs.specs.declared.status.Status.TheVariants.{Done}
 use Rattle.ontology_jobs.specs.Shown.{ShowsDecision, DoneAnswersAreShown}
 use Rattle.ontology_jobs.specs.Words.{check, audit, decide, classify, realize, instances, reasons, session}
 use Rattle.ontology_jobs.specs.Words.{pinpoint, evidence}

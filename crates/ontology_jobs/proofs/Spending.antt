@@ -14,19 +14,19 @@ use Rattle.edit_session.specs.Entries.{spent_of, is_spent, ended_spent}
 use Rattle.audit_jobs.specs.Answer.{Answer as Decision}
 use Rattle.audit_jobs.specs.Answer.TheVariants as Answered
 use Rattle.audit_jobs.specs.Decided.{Matches}
-use Rattle.classification_jobs.specs.Answer.{Answer}
-use Rattle.classification_jobs.specs.Status.{Status}
-use Rattle.classification_jobs.specs.Status.TheVariants.{Undecided}
-use Rattle.classification_jobs.specs.Questions.{Text, follows}
-use Rattle.classification_jobs.specs.Refusals.{IsRefused}
+use Rattle.job_inputs.specs.Answer.{Answer}
+use Rattle.job_inputs.specs.declared.status.Status.{Status}
+use Rattle.job_inputs.specs.declared.status.Status.TheVariants.{Undecided}
+use Rattle.job_inputs.specs.Questions.{Text, follows}
+use Rattle.job_inputs.specs.Refusals.{IsRefused}
 use Rattle.audit_jobs.specs.Decisions.{decision_status, IsDecisionTold}
-use Rattle.audit_jobs.specs.Wanted.{Wanted}
+use Rattle.pinpointing_jobs.specs.declared.wanted.Wanted.{Wanted}
 use Rattle.classification_jobs.specs.LogEnds.{EndsSpent}
 use Rattle.edit_session.specs.Sessions.{State, live_set}
 use Rattle.edit_session.specs.Logged.{RunsOut}
-use Rattle.audit_jobs.specs.Listings.{end_status, IsListing, IsListAnswer}
+use Rattle.pinpointing_jobs.specs.Listings.{end_status, IsListing, IsListAnswer}
 use Rattle.audit_jobs.specs.Answers.{IsEvidenceAnswer}
-use Rattle.audit_jobs.specs.Counts.{IsCount, IsCounted}
+use Rattle.pinpointing_jobs.specs.Counts.{IsCount, IsCounted}
 use Rattle.ontology_jobs.specs.Words.{check, audit, decide, classify, realize, instances, reasons, session}
 use Rattle.ontology_jobs.specs.Words.{pinpoint, evidence, Request, on_input, generated, request_of}
 use Rattle.ontology_jobs.specs.Answers.{IsTooLong, IsBadWords, AnswersJob, AnswersRequest, Answers, AnswersAll}

@@ -6,10 +6,10 @@ use Rattle.shq_terms.specs.declared.axioms.Query.{Query as Asked}
 use Rattle.edit_session.specs.Entry.{Entry}
 use Rattle.edit_session.specs.Entries.{is_spent}
 use Rattle.audit_jobs.proofs.Logged.{none_spent}
-use Rattle.classification_jobs.specs.Questions.{Text, has_element, follows}
-use Rattle.classification_jobs.specs.Refusals.{OnDocument, HasBegun, nothing, asked}
-use Rattle.classification_jobs.specs.Status.{Status}
-use Rattle.classification_jobs.specs.Status.TheVariants.{NoMemory}
+use Rattle.job_inputs.specs.Questions.{Text, has_element, follows}
+use Rattle.job_inputs.specs.Refusals.{OnDocument, HasBegun, nothing, asked}
+use Rattle.job_inputs.specs.declared.status.Status.{Status}
+use Rattle.job_inputs.specs.declared.status.Status.TheVariants.{NoMemory}
 use Rattle.ontology_jobs.specs.Words.{check, audit, decide, classify, realize, instances, reasons, session}
 use Rattle.ontology_jobs.specs.Words.{pinpoint, evidence, Request, on_input, generated, request_of}
 use Rattle.ontology_jobs.specs.Answers.{IsBadWords, AnswersRequest, Answers, AnswersAll}

@@ -5,16 +5,16 @@ use Rattle.std.specs.Io.KnownBytes.{Appends}
 use Rattle.shq_io.specs.Causes.{TakesPrefix}
 use Rattle.shq_io.specs.declared.whole.ReadEnd.{ReadEnd}
 use Rattle.shq_io.specs.declared.whole.ReadEnd.TheVariants as E
-use Rattle.classification_jobs.specs.Answer.{line, no_memory, Answer, IsAnswer}
-use Rattle.classification_jobs.specs.Refusals.{IsOutOfMemory}
-use Rattle.classification_jobs.specs.Status.{Status}
-use Rattle.classification_jobs.specs.Status.TheVariants.{BadWords, Limit, ReadFault, WriteFault, NoMemory}
+use Rattle.job_inputs.specs.Answer.{line, no_memory, Answer, IsAnswer}
+use Rattle.job_inputs.specs.Refusals.{IsOutOfMemory}
+use Rattle.job_inputs.specs.declared.status.Status.{Status}
+use Rattle.job_inputs.specs.declared.status.Status.TheVariants.{BadWords, Limit, ReadFault, WriteFault, NoMemory}
 use Rattle.edit_session.specs.Entry.{Entry}
 use Rattle.audit_jobs.specs.Checked.{Checked}
 use Rattle.audit_jobs.specs.Decisions.{AnswersQuestion}
 use Rattle.classification_jobs.specs.Classifications.{AnswersClassification}
 use Rattle.audit_jobs.specs.Answers.{AnswersEvidence}
-use Rattle.audit_jobs.specs.PinpointingAnswers.{AnswersPinpointing, AnswersWorkload}
+use Rattle.pinpointing_jobs.specs.Answers.{AnswersPinpointing, AnswersWorkload}
 use Rattle.audit_jobs.specs.Audited.{Audited}
 use Rattle.individual_jobs.specs.Answers.{AnswersWhy}
 use Rattle.individual_jobs.specs.Realizations.{AnswersInstances, AnswersRealization}

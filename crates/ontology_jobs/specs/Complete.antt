@@ -8,11 +8,12 @@ use Rattle.ofn_reader.specs.DocumentContext.{DocumentContext}
 use Rattle.ofn_reader.specs.Documents.{IsDocument}
 use Rattle.edit_session.specs.Entry.{Entry}
 use Rattle.edit_session.specs.Entries.{spent_of, is_spent}
-use Rattle.classification_jobs.specs.Asked.{IsAsked}
-use Rattle.classification_jobs.specs.Questions.{has_element, follows, IsDocumentAlone, IsQuestion}
-use Rattle.classification_jobs.specs.Status.{Status}
-use Rattle.classification_jobs.specs.Status.TheVariants.{Done, Rejected, BadWords, BadText, Outside, Limit, ReadFault}
-use Rattle.classification_jobs.specs.Status.TheVariants.{WriteFault, Undecided, NoMemory}
+use Rattle.job_inputs.specs.Asked.{IsAsked}
+use Rattle.job_inputs.specs.Questions.{has_element, follows, IsDocumentAlone, IsQuestion}
+use Rattle.job_inputs.specs.declared.status.Status.{Status}
+use Rattle.job_inputs.specs.declared.status.Status.TheVariants.{Done, Rejected, BadWords, BadText, Outside, Limit}
+use Rattle.job_inputs.specs.declared.status.Status.TheVariants.{ReadFault}
+use Rattle.job_inputs.specs.declared.status.Status.TheVariants.{WriteFault, Undecided, NoMemory}
 use Rattle.ontology_jobs.specs.Words.{Job, check, audit, decide, classify, realize, instances, reasons, session}
 use Rattle.ontology_jobs.specs.Words.{pinpoint, evidence, Request, on_input, generated}
 use Rattle.ontology_jobs.specs.Answers.{AnswersJob, AnswersRequest}

@@ -16,12 +16,13 @@ use Rattle.ontology_jobs.specs.Words.{pinpoint, evidence, Request, on_input, gen
 use Rattle.audit_jobs.specs.AuditLists.{AuditLists}
 use Rattle.audit_jobs.specs.Sound.{ListsAll}
 use Rattle.audit_jobs.specs.Audited.{audit_after, IsAskedOn}
-use Rattle.classification_jobs.specs.Asked.{IsAsked}
-use Rattle.classification_jobs.specs.Answer.{line}
+use Rattle.job_inputs.specs.Asked.{IsAsked}
+use Rattle.job_inputs.specs.Answer.{line}
 use Rattle.ontology_jobs.specs.Answers.{AnswersJob, AnswersRequest, Answers}
-use Rattle.classification_jobs.specs.Status.{Status}
-use Rattle.classification_jobs.specs.Status.TheVariants.{Done, Rejected, BadWords, BadText, Outside, Limit, ReadFault}
-use Rattle.classification_jobs.specs.Status.TheVariants.{WriteFault, Undecided, NoMemory}
+use Rattle.job_inputs.specs.declared.status.Status.{Status}
+use Rattle.job_inputs.specs.declared.status.Status.TheVariants.{Done, Rejected, BadWords, BadText, Outside, Limit}
+use Rattle.job_inputs.specs.declared.status.Status.TheVariants.{ReadFault}
+use Rattle.job_inputs.specs.declared.status.Status.TheVariants.{WriteFault, Undecided, NoMemory}
 
 -- a status that does not depend on the source, the sink or the memory
 abbrev pub IsFinal : Status → Type 0

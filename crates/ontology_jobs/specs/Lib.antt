@@ -3,5 +3,5 @@ pub mod Answers
 pub mod Laws
 pub mod Complete
 pub mod Shown
-pub use Rattle.classification_jobs.specs.Status
+pub use Rattle.job_inputs.specs.declared.status.Status
 pub use Rattle.edit_session.specs.Entry

@@ -14,10 +14,10 @@ use Rattle.audit_jobs.specs.Decided.{Matches}
 use Rattle.audit_jobs.specs.Decisions.{decision_status, decision_text}
 use Rattle.audit_jobs.specs.Witnessed.{ShowsEvidence}
 use Rattle.pinpointing_jobs.specs.Wanted.{ShowsAll}
-use Rattle.classification_jobs.specs.Questions.{Text, follows, IsQuestion}
-use Rattle.classification_jobs.specs.Refusals.{OnDocument}
+use Rattle.job_inputs.specs.Questions.{Text, follows, IsQuestion}
+use Rattle.job_inputs.specs.Refusals.{OnDocument}
 use Rattle.classifier.specs.Shown.{ShowsClasses}
-use Rattle.classification_jobs.specs.Status.TheVariants.{Done}
+use Rattle.job_inputs.specs.declared.status.Status.TheVariants.{Done}
 use Rattle.individual_jobs.specs.Answers.{OnClass}
 use Rattle.individual_jobs.specs.ReasonLogs.{joined_blocks, AreShown}
 use Rattle.realizer.specs.ShownLogs.{ShowsInstances, ShowsTypes}

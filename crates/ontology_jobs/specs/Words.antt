@@ -5,9 +5,9 @@ use Rattle.std.specs.Option.{option_and_then}
 use Rattle.std.specs.Str.{bytes_eq}
 use Rattle.std.specs.declared.alloc.Global.{Global}
 use Rattle.certificate_lines.specs.Lines.{number_in}
-use Rattle.classification_jobs.specs.Questions.{Text, has_element, follows, question_text}
-use Rattle.audit_jobs.specs.Wanted.{Wanted}
-use Rattle.audit_jobs.specs.Wanted.TheVariants.{Justifications, Repairs}
+use Rattle.job_inputs.specs.Questions.{Text, has_element, follows, question_text}
+use Rattle.pinpointing_jobs.specs.declared.wanted.Wanted.{Wanted}
+use Rattle.pinpointing_jobs.specs.declared.wanted.Wanted.TheVariants.{Justifications, Repairs}
 use Rattle.ontology_jobs.specs.declared.words.Command.{Command}
 use Rattle.ontology_jobs.specs.declared.words.Command.TheVariants.{OnInput, Workload}
 use Rattle.ontology_jobs.specs.declared.workload_number.WorkloadNumber.{WorkloadNumber}

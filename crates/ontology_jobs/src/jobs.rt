@@ -2,7 +2,7 @@
 ghost use Rattle.std.specs.Prelude.{◌≡◌, ◌≢◌, ◌≤◌, false, [], Some, None, length};
 ghost use Rattle.shq_io.specs.Causes.{Rose};
 ghost use Rattle.ontology_jobs.specs.Words.{request_of, kept_job, texts_of};
-ghost use Rattle.classification_jobs.specs.Answer.{IsAnswer, is_fault, text_bytes};
+ghost use Rattle.job_inputs.specs.Answer.{IsAnswer, is_fault, text_bytes};
 ghost use Rattle.ontology_jobs.specs.Laws.{HasSpentAll, HasSpentNoTest, AsksForNothing};
 ghost use Rattle.ontology_jobs.specs.Complete.{IsComplete};
 ghost use Rattle.ontology_jobs.specs.Answers.{AnswersRead, AnswersAll};
@@ -10,11 +10,12 @@ ghost use Rattle.ontology_jobs.specs.Answers.{AnsweredAll, SaysBadWords, IsBadWo
 ghost use Rattle.ontology_jobs.specs.Answers.{Leaves};
 
 use crate::words::{Command, Job, read_words};
-use audit_jobs::{Decide, FindEvidence, Pinpoint, run_workload, verify, verify_audit};
-use classification_jobs::{Classify, Status, Text};
+use audit_jobs::{Decide, FindEvidence, verify, verify_audit};
+use classification_jobs::Classify;
 use edit_session::{RunLog, answer_script};
 use individual_jobs::{Instances, Realize, Why};
-use job_inputs::answer_to;
+use job_inputs::{Status, Text, answer_to};
+use pinpointing_jobs::{Pinpoint, run_workload};
 use shq_io::{ReadEnd, Sink, Source, WriteFailed, read_all, write_whole};
 use std::alloc::Global;
 

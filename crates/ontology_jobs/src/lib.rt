@@ -15,8 +15,8 @@ mod laws;
 mod words;
 mod workload_number;
 
-pub use classification_jobs::Status;
 pub use edit_session::RunLog;
+pub use job_inputs::Status;
 pub use jobs::run;
 pub use laws::{
     accepted_audits_list_all, accepted_queries_do_not_follow, accepted_queries_follow,

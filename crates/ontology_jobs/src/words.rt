@@ -6,9 +6,9 @@ ghost use Rattle.ontology_jobs.specs.Words.{pinpointing_request, workload_reques
 ghost use Rattle.ontology_jobs.specs.Words.{longest_request, longer_request};
 
 use crate::workload_number::WorkloadNumber;
-use audit_jobs::Wanted;
 use certificate_lines::number;
-use classification_jobs::WrittenQuestion;
+use job_inputs::WrittenQuestion;
+use pinpointing_jobs::Wanted;
 
 /// What the words ask for.
 #[derive(Clone, Copy)]

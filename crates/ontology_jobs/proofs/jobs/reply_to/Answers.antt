@@ -1,6 +1,6 @@
 use Rattle.std.proofs.Common.{◌≡◌, List, ℕ, Option, Err, Some, refl, ap, sym, subst, ◌∙◌}
-use Rattle.classification_jobs.specs.Answer.{text_bytes}
-use Rattle.classification_jobs.specs.Status.TheVariants.{BadWords}
+use Rattle.job_inputs.specs.Answer.{text_bytes}
+use Rattle.job_inputs.specs.declared.status.Status.TheVariants.{BadWords}
 use Rattle.ontology_jobs.specs.Words.{Request, generated, kept_job, command_request, texts_of}
 use Rattle.ontology_jobs.specs.Answers.{bad_words, AnswersRequestOnAll, LeavesFor}
 use Rattle.ontology_jobs.proofs.Replies.{generated_answers, generated_leaves, read_answers, end_answers, whole_leaves}

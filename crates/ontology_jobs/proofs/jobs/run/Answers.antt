@@ -1,6 +1,6 @@
 use Rattle.std.proofs.Common.{subst}
-use Rattle.classification_jobs.specs.Answer.{text_bytes}
-use Rattle.classification_jobs.specs.Status.{Status}
+use Rattle.job_inputs.specs.Answer.{text_bytes}
+use Rattle.job_inputs.specs.declared.status.Status.{Status}
 use Rattle.ontology_jobs.specs.Words.{request_of, texts_of}
 use Rattle.ontology_jobs.specs.Answers.{AnswersAll}
 use Rattle.ontology_jobs.proofs.BadWords.{all_ask_for_nothing}
