@@ -4,7 +4,7 @@ use Rattle.std.specs.Prelude.{IfOk, OnOk, OnErr}
 use Rattle.shq_terms.specs.Listed.{Listed}
 use Rattle.shq_terms.specs.NoMemory.{NoMemory}
 use Rattle.shq_terms.specs.declared.axioms.Query.{Query as Asked}
-use Rattle.decision_jobs.specs.Entry.{Entry}
+use Rattle.run_log.specs.declared.entry.Entry.{Entry}
 use Rattle.audit_check.specs.AuditLists.{AuditLists}
 use Rattle.audit_check.specs.Written.{audit_text, IsKeptAudit}
 use Rattle.pinpointing_jobs.specs.TreeFound.{Found}

@@ -6,7 +6,7 @@ use Rattle.shq_terms.specs.NoMemory.{NoMemory}
 use Rattle.set_questions.specs.Asked.{Answers, IsUnknownIf, ShowsNoOther, AsksInBudget}
 use Rattle.set_questions.specs.Meaning.{Keeps, one_more}
 use Rattle.set_questions.specs.declared.entail.Reply.{Reply}
-use Rattle.decision_jobs.specs.Entries.{nodes_of}
+use Rattle.run_log.specs.Entries.{nodes_of}
 use Rattle.pinpointing_jobs.specs.AskerLists.{AskerLists, origin_of}
 use Rattle.pinpointing_jobs.specs.Told.{asker_meaning}
 use Rattle.pinpointing_jobs.specs.Asking.{IsLater}

@@ -18,12 +18,12 @@ use Rattle.refutation_tree.specs.RefutationLists.{RefutationLists}
 use Rattle.finite_model.specs.ModelLists.{ModelLists}
 use Rattle.set_questions.specs.Asked.{Answers, ShowsNoOther, AsksInBudget}
 use Rattle.set_questions.specs.declared.entail.Reply.{Reply}
-use Rattle.decision_jobs.specs.Entry.{Entry}
-use Rattle.decision_jobs.specs.Entry.TheVariants.{Test, Node}
-use Rattle.decision_jobs.specs.TestEnd.{TestEnd}
-use Rattle.decision_jobs.specs.TestEnd.TheVariants as E
-use Rattle.decision_jobs.specs.Entries.{nodes_of}
-use Rattle.decision_jobs.specs.HonestLog.{IsAxiomSet}
+use Rattle.run_log.specs.declared.entry.Entry.{Entry}
+use Rattle.run_log.specs.declared.entry.Entry.TheVariants.{Test, Node}
+use Rattle.run_log.specs.declared.entry.TestEnd.{TestEnd}
+use Rattle.run_log.specs.declared.entry.TestEnd.TheVariants as E
+use Rattle.run_log.specs.Entries.{nodes_of}
+use Rattle.run_log.specs.HonestLog.{IsAxiomSet}
 use Rattle.pinpointing_jobs.specs.Answer.{Answer}
 use Rattle.pinpointing_jobs.specs.Answer.TheVariants as Answered
 use Rattle.pinpointing_jobs.specs.Outcome.{Outcome}

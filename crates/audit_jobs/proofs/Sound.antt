@@ -25,8 +25,8 @@ use Rattle.finite_model.specs.ModelLists.{meaning}
 use Rattle.finite_model.specs.Written.{uses_listed_names}
 use Rattle.refutation_tree.specs.ReadBack.{IsWritable}
 use Rattle.refutation_tree.specs.Written.{names_are_listed}
-use Rattle.decision_jobs.specs.HonestLog.{IsJustificationSet}
-use Rattle.decision_jobs.proofs.Named.{axioms_are}
+use Rattle.run_log.specs.HonestLog.{IsJustificationSet}
+use Rattle.run_log.proofs.Named.{axioms_are}
 use Rattle.audit_check.specs.AuditLists.{AuditLists, repaired_sets}
 use Rattle.audit_check.specs.Fitting.{IsOfAxioms, AreOfAxioms}
 use Rattle.audit_check.specs.Written.{audit_is_listed}

@@ -23,11 +23,11 @@ use Rattle.pinpointing_jobs.specs.Tree.{LooksInBudget}
 use Rattle.shq_terms.specs.Listed.{Listed}
 use Rattle.shq_terms.specs.NoMemory.{NoMemory}
 use Rattle.shq_terms.specs.declared.axioms.Query.{Query as Asked}
-use Rattle.decision_jobs.specs.Entry.{Entry}
-use Rattle.decision_jobs.specs.Entry.TheVariants.{Test}
-use Rattle.decision_jobs.specs.TestEnd.TheVariants as E
-use Rattle.decision_jobs.specs.Entries.{spent_of, nodes_of, is_spent}
-use Rattle.decision_jobs.specs.HonestLog.{IsHonestEntry, IsJustificationSet, AreTreeNodes}
+use Rattle.run_log.specs.declared.entry.Entry.{Entry}
+use Rattle.run_log.specs.declared.entry.Entry.TheVariants.{Test}
+use Rattle.run_log.specs.declared.entry.TestEnd.TheVariants as E
+use Rattle.run_log.specs.Entries.{spent_of, nodes_of, is_spent}
+use Rattle.run_log.specs.HonestLog.{IsHonestEntry, IsJustificationSet, AreTreeNodes}
 use Rattle.pinpointing_jobs.specs.OracleLists.{OracleLists}
 use Rattle.run_log.specs.Shown.{IsShownYes, IsShownNo}
 use Rattle.pinpointing_jobs.specs.AskerLists.{AskerLists, origin_of}

@@ -4,8 +4,8 @@ use Rattle.std.specs.List.{All}
 use Rattle.shq_terms.specs.Listed.{Listed}
 use Rattle.shq_terms.specs.declared.axioms.Query.{Query as Asked}
 use Rattle.refutation_tree.specs.ReadBack.{IsWritable}
-use Rattle.decision_jobs.specs.Entry.{Entry}
-use Rattle.decision_jobs.specs.Entries.{spent_of}
+use Rattle.run_log.specs.declared.entry.Entry.{Entry}
+use Rattle.run_log.specs.Entries.{spent_of}
 use Rattle.audit_check.specs.AuditLists.{AuditLists}
 use Rattle.audit_check.specs.Fitting.{AreOfAxioms}
 use Rattle.audit_check.specs.Written.{audit_text, IsKeptAudit}

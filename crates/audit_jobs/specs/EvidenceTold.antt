@@ -1,6 +1,6 @@
 -- What is told of evidence, however its job has answered.
 use Rattle.std.proofs.Common.{◌≡◌, ℕ, List, []}
-use Rattle.decision_jobs.specs.Entry.{Entry}
+use Rattle.run_log.specs.declared.entry.Entry.{Entry}
 use Rattle.job_inputs.specs.Answered.{HasAnswered}
 use Rattle.job_inputs.specs.Inputs.{IsInputOf, IsNoInputOf}
 use Rattle.job_inputs.specs.Questions.{follows}

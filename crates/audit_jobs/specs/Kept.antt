@@ -8,10 +8,10 @@ use Rattle.calculus_specs.specs.Valid.{IsRefutation}
 use Rattle.decision_jobs.specs.Theory.{question_in}
 use Rattle.refutation_tree.specs.RefutationLists.{RefutationLists}
 use Rattle.refutation_tree.specs.ReadBack.{IsWritable}
-use Rattle.decision_jobs.specs.Entry.{Entry}
-use Rattle.decision_jobs.specs.Entry.TheVariants.{Test}
-use Rattle.decision_jobs.specs.TestEnd.TheVariants.{Yes, No}
-use Rattle.decision_jobs.specs.HonestLog.{IsAxiomSet}
+use Rattle.run_log.specs.declared.entry.Entry.{Entry}
+use Rattle.run_log.specs.declared.entry.Entry.TheVariants.{Test}
+use Rattle.run_log.specs.declared.entry.TestEnd.TheVariants.{Yes, No}
+use Rattle.run_log.specs.HonestLog.{IsAxiomSet}
 use Rattle.pinpointing_jobs.specs.Decided.{IsRefuting}
 use Rattle.pinpointing_jobs.specs.Answer.{Answer}
 use Rattle.pinpointing_jobs.specs.Answer.TheVariants as Answered

@@ -5,7 +5,7 @@ use Rattle.shq_terms.specs.declared.axioms.Query.{Query as Asked}
 use Rattle.certificate_lines.specs.Lines.{lines, is_blank}
 use Rattle.ofn_reader.specs.DocumentContext.{DocumentContext}
 use Rattle.ofn_reader.specs.Documents.{IsDocument}
-use Rattle.decision_jobs.specs.Entry.{Entry}
+use Rattle.run_log.specs.declared.entry.Entry.{Entry}
 use Rattle.audit_check.specs.AuditLists.{AuditLists}
 use Rattle.audit_check.specs.AuditText.{audit_in}
 use Rattle.audit_check.specs.Sound.{ListsAll}

@@ -4,7 +4,7 @@ use Rattle.axiom_sets.specs.Sets.{Limited}
 use Rattle.set_questions.specs.Asked.{Answers, ShowsNoOther, AsksInBudget}
 use Rattle.set_questions.specs.Meaning.{one_more}
 use Rattle.set_questions.specs.declared.entail.Reply.{Reply}
-use Rattle.decision_jobs.specs.Entries.{nodes_of}
+use Rattle.run_log.specs.Entries.{nodes_of}
 use Rattle.pinpointing_jobs.specs.AskerLists.{AskerLists}
 use Rattle.pinpointing_jobs.specs.Told.{asker_meaning, IsUnknown}
 use Rattle.pinpointing_jobs.specs.Asking.{IsLater}

@@ -12,10 +12,10 @@ use Rattle.pinpointing_jobs.specs.TreeFound.{Found}
 use Rattle.shq_terms.specs.Listed.{Listed}
 use Rattle.shq_terms.specs.declared.axioms.Query.{Query as Asked}
 use Rattle.refutation_tree.specs.RefutationLists.{RefutationLists}
-use Rattle.decision_jobs.specs.Entry.{Entry}
-use Rattle.decision_jobs.specs.Entries.{spent_of, nodes_of, is_spent}
-use Rattle.decision_jobs.specs.HonestLog.{IsJustificationSet, IsHonestWithin, AreTestsOf, AsksNoAnswer, AreTreeNodes}
-use Rattle.decision_jobs.specs.HonestLog.{AsksFewPerNode}
+use Rattle.run_log.specs.declared.entry.Entry.{Entry}
+use Rattle.run_log.specs.Entries.{spent_of, nodes_of, is_spent}
+use Rattle.run_log.specs.HonestLog.{IsJustificationSet, IsHonestWithin, AreTestsOf, AsksNoAnswer, AreTreeNodes}
+use Rattle.run_log.specs.HonestLog.{AsksFewPerNode}
 use Rattle.run_log.specs.Shown.{IsShownYes, IsShownNo}
 use Rattle.audit_jobs.specs.declared.evidence.CounterModel.{CounterModel}
 use Rattle.audit_jobs.specs.declared.searching.Searched.{Searched}

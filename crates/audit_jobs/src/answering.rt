@@ -8,8 +8,8 @@ ghost use Rattle.audit_jobs.specs.Answers.{IsAuditText, IsWritten};
 use crate::listing::audit_of;
 use crate::searching::{Searched, search};
 use audit_check::Audit;
-use decision_jobs::RunLog;
 use job_inputs::{Input, Job, Status, Text, Unread, WrittenQuestion, read_question_input};
+use run_log::RunLog;
 use shq_terms::{NoMemory, Ontology, Query};
 use std::alloc::Global;
 

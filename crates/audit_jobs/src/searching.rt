@@ -6,8 +6,8 @@ ghost use Rattle.audit_jobs.specs.Witnessed.{IsSearched, HasAsked};
 
 use crate::evidence::Evidence;
 use crate::witness::Witness;
-use decision_jobs::RunLog;
 use pinpointing_jobs::{Found, Oracle, enumerate};
+use run_log::RunLog;
 use shq_terms::{NoMemory, Ontology, Query};
 use std::alloc::Global;
 use std::mem;

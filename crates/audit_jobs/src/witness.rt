@@ -6,7 +6,7 @@ ghost use Rattle.pinpointing_specs.specs.Smallest.{numbers_to};
 ghost use Rattle.audit_check.specs.Limits.{IsInLimit};
 ghost use Rattle.set_questions.specs.Asked.{Answers, IsUnknownIf, ShowsNoOther, Takes};
 ghost use Rattle.set_questions.specs.Meaning.{Keeps, ShowsNothing, one_more};
-ghost use Rattle.decision_jobs.specs.Entries.{is_spent, IsAnswered};
+ghost use Rattle.run_log.specs.Entries.{is_spent, IsAnswered};
 ghost use Rattle.pinpointing_jobs.specs.AskerLists.{origin_of};
 ghost use Rattle.pinpointing_jobs.specs.Told.{AreTestsOfOthers, asker_meaning, IsAskerLog};
 ghost use Rattle.audit_jobs.specs.Kept.{IsEvidence};

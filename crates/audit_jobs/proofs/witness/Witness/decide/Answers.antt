@@ -1,6 +1,6 @@
 use Rattle.std.proofs.Common.{◌≡◌, ◌∙◌, length, ap, sym, subst}
-use Rattle.decision_jobs.specs.Entries.{IsAnswered}
-use Rattle.decision_jobs.specs.HonestLog.{IsAxiomSet}
+use Rattle.run_log.specs.Entries.{IsAnswered}
+use Rattle.run_log.specs.HonestLog.{IsAxiomSet}
 use Rattle.pinpointing_jobs.specs.Decided.{outcome_of}
 use Rattle.pinpointing_jobs.specs.AskerLists.{AskerLists}
 use Rattle.audit_jobs.specs.Kept.{IsEvidence}

@@ -5,7 +5,7 @@ use Rattle.set_questions.specs.Asked.{ShowsNoOther, AsksInBudget}
 use Rattle.set_questions.specs.Meaning.{Keeps, one_more}
 use Rattle.lane_sieve.specs.Sets.{IsPart}
 use Rattle.set_questions.proofs.InBudget.{no_test}
-use Rattle.decision_jobs.specs.Entries.{nodes_of, is_spent, IsAnswered}
+use Rattle.run_log.specs.Entries.{nodes_of, is_spent, IsAnswered}
 use Rattle.pinpointing_jobs.specs.AskerLists.{AskerLists, origin_of}
 use Rattle.pinpointing_jobs.specs.Told.{asker_meaning}
 use Rattle.pinpointing_jobs.proofs.Answering.{left_out, shows_counted, local_inside}
