@@ -8,10 +8,10 @@ use Rattle.shq_terms.specs.Listed.{Listed}
 use Rattle.shq_terms.specs.declared.axioms.Numbered.{Numbered}
 use Rattle.shq_terms.specs.declared.axioms.Query.{Query as Asked}
 use Rattle.shq_meaning.specs.Truth.{Interpretation, meets, meets_all, refutes_at}
-use Rattle.shq_oracle.specs.ModelLists.{ModelLists, meaning}
-use Rattle.shq_oracle.specs.ModelText.{model_of}
-use Rattle.shq_oracle.specs.Written.{model_text}
-use Rattle.shq_oracle.proofs.TextBack.{model_read_back}
+use Rattle.finite_model.specs.ModelLists.{ModelLists, meaning}
+use Rattle.finite_model.specs.ModelText.{model_of}
+use Rattle.finite_model.specs.Written.{model_text}
+use Rattle.finite_model.proofs.TextBack.{model_read_back}
 use Rattle.refutation_tree.specs.RefutationLists.{RefutationLists}
 use Rattle.refutation_tree.specs.RefutationText.{refutation_of}
 use Rattle.refutation_tree.specs.Written.{refutation_text}

@@ -13,9 +13,9 @@ use Rattle.certificate_lines.specs.Malformed.{clamped_line, BeginsText, StopsAft
 use Rattle.certificate_lines.specs.Body.{after_line, malformed_after_line}
 use Rattle.certificate_lines.proofs.FirstMalformed.{line_tells, made_tells}
 use Rattle.shq_terms.specs.Listed.{Listed}
-use Rattle.shq_oracle.specs.ModelText.{model_of}
-use Rattle.shq_oracle.specs.Malformed.{malformed_model_line}
-use Rattle.shq_oracle.proofs.FirstLine.{model_tells}
+use Rattle.finite_model.specs.ModelText.{model_of}
+use Rattle.finite_model.specs.Malformed.{malformed_model_line}
+use Rattle.finite_model.proofs.FirstLine.{model_tells}
 use Rattle.refutation_tree.specs.RefutationText.{refutation_of}
 use Rattle.refutation_tree.specs.Malformed.{malformed_refutation_line}
 use Rattle.refutation_tree.proofs.FirstLine.{refutation_tells}

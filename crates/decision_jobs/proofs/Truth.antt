@@ -6,7 +6,7 @@ use Rattle.shq_terms.specs.Listed.{Listed}
 use Rattle.shq_terms.specs.declared.axioms.Numbered.{Numbered}
 use Rattle.shq_terms.specs.declared.axioms.Query.{Query as Asked}
 use Rattle.shq_meaning.specs.Truth.{Interpretation, meets, meets_all, refutes_at, Entails}
-use Rattle.shq_oracle.specs.ModelLists.{meaning}
+use Rattle.finite_model.specs.ModelLists.{meaning}
 use Rattle.shq_oracle.proofs.Entailed.{entailed_by_all}
 use Rattle.decision_jobs.specs.Checking.{IsVerdictOn, first_unmet}
 use Rattle.decision_jobs.specs.declared.certificate.Certificate.{Certificate}

@@ -6,8 +6,8 @@ use Rattle.std.specs.Str.{bytes_eq}
 use Rattle.certificate_lines.specs.Lines.{lines, is_blank}
 use Rattle.certificate_lines.specs.Malformed.{clamped_line}
 use Rattle.shq_terms.specs.Listed.{Listed}
-use Rattle.shq_oracle.specs.ModelText.{model_of}
-use Rattle.shq_oracle.specs.Malformed.{malformed_model_line}
+use Rattle.finite_model.specs.ModelText.{model_of}
+use Rattle.finite_model.specs.Malformed.{malformed_model_line}
 use Rattle.refutation_tree.specs.RefutationText.{refutation_of}
 use Rattle.refutation_tree.specs.Malformed.{malformed_refutation_line}
 use Rattle.refutation_tree.specs.ReadBack.{IsWritable}

@@ -3,8 +3,8 @@ use Rattle.std.specs.Prelude.{IsTrue}
 use Rattle.axiom_sets.specs.Sets.{Limited}
 use Rattle.shq_terms.specs.Listed.{Listed}
 use Rattle.shq_terms.specs.declared.axioms.Query.{Query as Asked}
-use Rattle.shq_oracle.specs.ReadBack.{IsKept}
-use Rattle.shq_oracle.specs.Written.{uses_listed_names}
+use Rattle.finite_model.specs.ReadBack.{IsKept}
+use Rattle.finite_model.specs.Written.{uses_listed_names}
 use Rattle.refutation_tree.specs.Written.{names_are_listed}
 use Rattle.shq_oracle.specs.HonestLog.{IsWhole}
 use Rattle.shq_oracle.specs.Decided.{IsAnswer}

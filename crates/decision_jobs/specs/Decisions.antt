@@ -4,7 +4,7 @@ use Rattle.std.specs.List.{list_any}
 use Rattle.axiom_sets.specs.Sets.{Limited}
 use Rattle.shq_terms.specs.Listed.{Listed}
 use Rattle.shq_terms.specs.declared.axioms.Query.{Query as Asked}
-use Rattle.shq_oracle.specs.Written.{model_text}
+use Rattle.finite_model.specs.Written.{model_text}
 use Rattle.refutation_tree.specs.Written.{refutation_text}
 use Rattle.shq_oracle.specs.Entry.{Entry}
 use Rattle.shq_oracle.specs.Entry.TheVariants.{Test}

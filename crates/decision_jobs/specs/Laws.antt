@@ -4,7 +4,7 @@ use Rattle.shq_terms.specs.Listed.{Listed}
 use Rattle.shq_terms.specs.declared.axioms.Query.{Query as Asked}
 use Rattle.shq_terms.specs.declared.axioms.Axiom.{Axiom}
 use Rattle.shq_meaning.specs.Truth.{Entails}
-use Rattle.shq_oracle.specs.ModelLists.{ModelLists}
+use Rattle.finite_model.specs.ModelLists.{ModelLists}
 use Rattle.refutation_tree.specs.RefutationLists.{RefutationLists}
 use Rattle.shq_oracle.specs.Entry.{Entry}
 use Rattle.shq_oracle.specs.declared.answer.Answer.TheVariants as Answered

@@ -1,8 +1,8 @@
 // The decision on a query, and its text.
 ghost use Rattle.std.specs.Prelude.{◌≡◌, ◌≤◌, [], ◌++◌, IfOk, OnOk, OnErr, IsTrue};
 ghost use Rattle.job_inputs.specs.Limits.{IsInLimit};
-ghost use Rattle.shq_oracle.specs.ReadBack.{IsKept};
-ghost use Rattle.shq_oracle.specs.Written.{model_text, uses_listed_names};
+ghost use Rattle.finite_model.specs.ReadBack.{IsKept};
+ghost use Rattle.finite_model.specs.Written.{model_text, uses_listed_names};
 ghost use Rattle.refutation_tree.specs.Written.{refutation_text, names_are_listed};
 ghost use Rattle.job_inputs.specs.Answer.{line, text_bytes};
 ghost use Rattle.job_inputs.specs.Questions.{question_text};

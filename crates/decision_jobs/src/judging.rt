@@ -2,16 +2,17 @@
 ghost use Rattle.std.specs.Prelude.{◌≡◌, ◌≤◌, IfOk, length};
 ghost use Rattle.shq_oracle.specs.Limits.{IsInLimit};
 ghost use Rattle.refutation_tree.specs.ReadBack.{IsWritable};
-ghost use Rattle.shq_oracle.specs.ModelLists.{meaning};
+ghost use Rattle.finite_model.specs.ModelLists.{meaning};
 ghost use Rattle.decision_jobs.specs.Checking.{CanBeJudged, IsVerdict, IsOfModel, IsOfRefutation, first_unmet};
 ghost use Rattle.decision_jobs.specs.Checking.{line_of_place, verdict_of};
 
 use crate::certificate::Certificate;
 use crate::checking::Input;
 use axiom_sets::AxiomSet;
+use finite_model::Interp;
 use job_inputs::Verdict;
 use refutation_tree::Refutation;
-use shq_oracle::{Interp, check};
+use shq_oracle::check;
 use shq_terms::{NoMemory, Ontology, Query};
 use std::alloc::Global;
 

@@ -1,5 +1,5 @@
 use Rattle.std.proofs.Common.{sym, ◌∙◌}
-use Rattle.shq_oracle.specs.ModelLists.{meaning}
+use Rattle.finite_model.specs.ModelLists.{meaning}
 use Rattle.decision_jobs.proofs.Unmet.{unmet_here, met_here}
 use Rattle.decision_jobs.proofs.judging.first_unmet.Goals as goal
 

@@ -1,5 +1,5 @@
 use Rattle.std.proofs.Common.{◌≡◌, ◌+◌, drop}
-use Rattle.shq_oracle.specs.ModelLists.{meaning}
+use Rattle.finite_model.specs.ModelLists.{meaning}
 use Rattle.decision_jobs.specs.Checking.{first_unmet}
 use Rattle.decision_jobs.proofs.judging.first_unmet.Given as goal
 
