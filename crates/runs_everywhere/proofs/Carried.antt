@@ -5,8 +5,8 @@ use Rattle.shq_terms.specs.Listed.{Listed}
 use Rattle.shq_terms.specs.declared.axioms.Axiom.{Axiom}
 use Rattle.shq_terms.specs.declared.axioms.Query.{Query as Asked}
 use Rattle.decision_jobs.specs.Laws.{HaveAsked}
-use Rattle.classification_jobs.specs.Questions.{Text}
-use Rattle.classification_jobs.specs.Refusals.{OnDocument}
+use Rattle.job_inputs.specs.Questions.{Text}
+use Rattle.job_inputs.specs.Refusals.{OnDocument}
 use Rattle.individual_jobs.specs.Answers.{OnClass}
 use Rattle.ontology_jobs.specs.Laws.{HaveRead}
 

@@ -18,10 +18,10 @@ use Rattle.subsumption.proofs.InLimit.{of_class}
 use Rattle.realizer.specs.Instances.{instance_query, AreInstances}
 use Rattle.realizer.specs.Realization.{AreTypes}
 use Rattle.realizer.specs.declared.types.Types.{Types}
-use Rattle.classification_jobs.specs.Questions.{has_element, IsDocumentAlone, IsQuestion}
+use Rattle.job_inputs.specs.Questions.{has_element, IsDocumentAlone, IsQuestion}
 use Rattle.individual_jobs.specs.ReasonLists.{ReasonLists}
 use Rattle.individual_jobs.specs.Reasons.{individual_of, AreReasons}
-use Rattle.audit_jobs.specs.Wanted.TheVariants.{Justifications}
+use Rattle.pinpointing_jobs.specs.declared.wanted.Wanted.TheVariants.{Justifications}
 use Rattle.ofn_reader.specs.DocumentContext.{DocumentContext}
 use Rattle.runs_everywhere.specs.Names.{IsSubsumptionIn, AreInstancesIn, AreTypesIn, AreReasonsIn}
 use Rattle.runs_everywhere.proofs.Sets.{has_all}

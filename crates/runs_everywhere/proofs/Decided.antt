@@ -10,11 +10,11 @@ use Rattle.decision_jobs.specs.Laws.{HaveAsked}
 use Rattle.decision_jobs.proofs.Exclusive.{yes_follows, no_does_not_follow}
 use Rattle.audit_jobs.specs.Answer.{Answer as Decision}
 use Rattle.audit_jobs.specs.Answer.TheVariants as Answered
-use Rattle.audit_jobs.specs.Decisions.{entailed_line, not_entailed_line, decision_text, decision_status}
-use Rattle.audit_jobs.specs.Decisions.{IsDecisionTold}
-use Rattle.classification_jobs.specs.Answer.{line}
-use Rattle.classification_jobs.specs.Questions.{Text, has_element, follows}
-use Rattle.classification_jobs.specs.Status.TheVariants.{Done, Undecided}
+use Rattle.decision_jobs.specs.Decisions.{entailed_line, not_entailed_line, decision_text, decision_status}
+use Rattle.decision_jobs.specs.Decisions.{IsDecisionTold}
+use Rattle.job_inputs.specs.Answer.{line}
+use Rattle.job_inputs.specs.Questions.{Text, has_element, follows}
+use Rattle.job_inputs.specs.declared.status.Status.TheVariants.{Done, Undecided}
 use Rattle.ontology_jobs.specs.Entry.{Entry}
 use Rattle.ontology_jobs.proofs.Done.{decided}
 use Rattle.ontology_jobs.proofs.Accepted.{follows as accepted_follows, does_not_follow as accepted_does_not}

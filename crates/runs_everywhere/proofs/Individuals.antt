@@ -1,7 +1,7 @@
 -- Taxonomies, types, instances and reasons in every world.
 use Rattle.std.proofs.Common.{inl, inr, refl}
 use Rattle.all_worlds.specs.Worlds.{World}
-use Rattle.classification_jobs.specs.Status.TheVariants.{Done}
+use Rattle.job_inputs.specs.declared.status.Status.TheVariants.{Done}
 use Rattle.runs_everywhere.specs.Laws.{IsTaxonomyIn, IsRealizationIn, AreFoundIn, AreExplainedIn}
 use Rattle.runs_everywhere.specs.Laws.{TaxonomiesHoldIn, TypesHoldIn, InstancesHoldIn, ReasonsHoldIn}
 use Rattle.runs_everywhere.proofs.Carried.{on_document, on_class}

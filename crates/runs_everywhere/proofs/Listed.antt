@@ -6,13 +6,13 @@ use Rattle.shq_terms.specs.declared.axioms.Query.{Query as Asked}
 use Rattle.all_worlds.specs.Worlds.{World}
 use Rattle.answers_everywhere.specs.Laws.{IsOfWorld}
 use Rattle.answers_everywhere.proofs.Everywhere.{questions}
-use Rattle.audit_jobs.specs.Listings.{listing_text, end_status, IsListing}
-use Rattle.audit_jobs.specs.PinpointingAnswers.{IsPinpointed}
-use Rattle.audit_jobs.specs.Wanted.{Wanted}
+use Rattle.pinpointing_jobs.specs.Listings.{listing_text, end_status, IsListing}
+use Rattle.pinpointing_jobs.specs.Answers.{IsPinpointed}
+use Rattle.pinpointing_jobs.specs.declared.wanted.Wanted.{Wanted}
 use Rattle.audit_jobs.proofs.Accepted.{evidence_accepted}
-use Rattle.classification_jobs.specs.Questions.{follows}
-use Rattle.classification_jobs.specs.Status.{Status}
-use Rattle.classification_jobs.specs.Status.TheVariants.{Done, Undecided}
+use Rattle.job_inputs.specs.Questions.{follows}
+use Rattle.job_inputs.specs.declared.status.Status.{Status}
+use Rattle.job_inputs.specs.declared.status.Status.TheVariants.{Done, Undecided}
 use Rattle.ontology_jobs.specs.Answers.{AnswersJob}
 use Rattle.ontology_jobs.specs.Entry.{Entry}
 use Rattle.ontology_jobs.specs.Words.{pinpoint}

@@ -13,9 +13,9 @@ use Rattle.shq_terms.specs.declared.axioms.Query.{Query as Asked}
 use Rattle.all_worlds.specs.Worlds.{World}
 use Rattle.answers_everywhere.specs.Laws.{IsOfWorld}
 use Rattle.audit_jobs.specs.AuditLists.{AuditLists}
-use Rattle.audit_jobs.specs.Sound.{ListsAll}
-use Rattle.audit_jobs.specs.Wanted.{Wanted}
-use Rattle.audit_jobs.specs.Wanted.TheVariants.{Justifications, Repairs}
+use Rattle.audit_check.specs.Sound.{ListsAll}
+use Rattle.pinpointing_jobs.specs.declared.wanted.Wanted.{Wanted}
+use Rattle.pinpointing_jobs.specs.declared.wanted.Wanted.TheVariants.{Justifications, Repairs}
 use Rattle.pinpointing_jobs.specs.Wanted.{IsWanted, HasAll, HasSome}
 use Rattle.ontology_jobs.specs.Entry.{Entry}
 use Rattle.runs_everywhere.specs.Sets.{FollowsFromIn, IsJustificationIn, IsRepairIn, IsWantedSetIn, HasAllIn}

@@ -20,7 +20,7 @@ use Rattle.edit_session.specs.Scripts.{HasTold}
 use Rattle.edit_session.specs.Scripts.HasTold.{nothing as told_nothing, one_more as told_more}
 use Rattle.edit_session.specs.Sessions.{State, begun}
 use Rattle.edit_session.proofs.Limits.{query_in_limit, query_axioms, addition_in_limit, addition_count}
-use Rattle.classification_jobs.specs.Status.TheVariants.{Done}
+use Rattle.job_inputs.specs.declared.status.Status.TheVariants.{Done}
 use Rattle.ontology_jobs.proofs.Done.{never_long}
 use Rattle.runs_everywhere.specs.Laws.{SessionsHoldIn}
 use Rattle.runs_everywhere.specs.Sessions.{IsYesIn, IsNoIn, IsToldIn, HasToldIn}

@@ -9,7 +9,7 @@ use Rattle.all_worlds.proofs.Interpreted.{entailment_is_of_finite_worlds}
 use Rattle.answers_everywhere.specs.Laws.{IsOfWorld}
 use Rattle.answers_everywhere.proofs.Everywhere.{questions, instances}
 use Rattle.realizer.specs.Instances.{instance_query}
-use Rattle.classification_jobs.specs.Questions.{Text, has_element, IsQuestion}
+use Rattle.job_inputs.specs.Questions.{Text, has_element, IsQuestion}
 use Rattle.runs_everywhere.specs.Laws.{FailsInAFiniteWorld}
 
 -- what is not entailed fails in a finite world

@@ -14,18 +14,18 @@ use Rattle.decision_jobs.specs.Laws.{HaveAsked}
 use Rattle.audit_check.specs.AuditText.{audit_in}
 use Rattle.audit_jobs.specs.AuditLists.{AuditLists}
 use Rattle.audit_jobs.specs.Audited.{audit_after, IsAskedOn}
-use Rattle.audit_jobs.specs.Decisions.{entailed_line, not_entailed_line}
-use Rattle.audit_jobs.specs.Listings.{listing_text}
-use Rattle.audit_jobs.specs.Wanted.{Wanted}
+use Rattle.decision_jobs.specs.Decisions.{entailed_line, not_entailed_line}
+use Rattle.pinpointing_jobs.specs.Listings.{listing_text}
+use Rattle.pinpointing_jobs.specs.declared.wanted.Wanted.{Wanted}
 use Rattle.realizer.specs.Instances.{instances_text}
 use Rattle.realizer.specs.Realization.{realization_text}
 use Rattle.realizer.specs.declared.types.Types.{Types}
 use Rattle.subsumption.specs.Groups.{Parthood}
 use Rattle.edit_session.specs.Answers.{OnScript}
-use Rattle.classification_jobs.specs.Answer.{line}
-use Rattle.classification_jobs.specs.Questions.{Text, follows, IsQuestion}
-use Rattle.classification_jobs.specs.Refusals.{OnDocument}
-use Rattle.classification_jobs.specs.Status.TheVariants.{Done, Undecided}
+use Rattle.job_inputs.specs.Answer.{line}
+use Rattle.job_inputs.specs.Questions.{Text, follows, IsQuestion}
+use Rattle.job_inputs.specs.Refusals.{OnDocument}
+use Rattle.job_inputs.specs.declared.status.Status.TheVariants.{Done, Undecided}
 use Rattle.classification_jobs.specs.TaxonomyLaws.{taxonomy_by}
 use Rattle.classification_jobs.specs.TaxonomyText.{taxonomy_text}
 use Rattle.individual_jobs.specs.Answers.{OnClass}

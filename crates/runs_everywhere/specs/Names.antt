@@ -11,7 +11,7 @@ use Rattle.realizer.specs.Theory.{all_axioms}
 use Rattle.realizer.specs.Instances.{instance_query, individuals_by}
 use Rattle.realizer.specs.Realization.{Typing, types_by}
 use Rattle.realizer.specs.declared.types.Types.{Types}
-use Rattle.audit_jobs.specs.Wanted.TheVariants.{Justifications}
+use Rattle.pinpointing_jobs.specs.declared.wanted.Wanted.TheVariants.{Justifications}
 use Rattle.individual_jobs.specs.ReasonLists.{ReasonLists}
 use Rattle.individual_jobs.specs.Reasons.{individual_of}
 use Rattle.runs_everywhere.specs.Sets.{HasAllIn}

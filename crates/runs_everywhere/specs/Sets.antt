@@ -12,8 +12,8 @@ use Rattle.shq_terms.specs.declared.axioms.Query.{Query as Asked}
 use Rattle.all_worlds.specs.Worlds.{World}
 use Rattle.search_starts.specs.Laws.{FollowsInAll}
 use Rattle.audit_jobs.specs.AuditLists.{AuditLists, justified_sets, repaired_sets}
-use Rattle.audit_jobs.specs.Wanted.{Wanted}
-use Rattle.audit_jobs.specs.Wanted.TheVariants.{Justifications, Repairs}
+use Rattle.pinpointing_jobs.specs.declared.wanted.Wanted.{Wanted}
+use Rattle.pinpointing_jobs.specs.declared.wanted.Wanted.TheVariants.{Justifications, Repairs}
 
 -- the query follows from the axioms in the set
 abbrev pub FollowsFromIn : {d : Type 0} → World d → List Numbered → Asked → NumberSet → Type 0

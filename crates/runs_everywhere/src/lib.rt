@@ -16,7 +16,7 @@ mod lists;
 mod names;
 mod verdicts;
 
-pub use answers_everywhere::World;
+pub use all_worlds::World;
 pub use lists::{
     accepted_audits_list_all_everywhere, evidence_lists_all_everywhere, lists_are_whole_everywhere,
     partial_lists_hold_everywhere,
