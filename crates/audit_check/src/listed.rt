@@ -16,7 +16,7 @@ use std::alloc::Global;
 /// soon as it has found more sets than are listed; until then it may go through branches in which there is none.
 ///
 /// # Errors
-/// Where memory is refused.
+/// Out of memory.
 pub fn are_transversals(
     alloc: Global,
     sets: &[AxiomSet],

@@ -26,7 +26,7 @@ use std::alloc::Global;
 /// sets it is the empty set alone, and where one of the sets is empty there is none.
 ///
 /// # Errors
-/// Where memory is refused.
+/// Out of memory.
 pub fn transversals(alloc: Global, sets: &[AxiomSet], limit: u32) -> Result<Vec<AxiomSet>, NoMemory>
     requires { All (λ s. s.limit ≡ limit) sets.now }
     ensures order { IfOk result (λ v. IsAscending v.items) }

@@ -52,7 +52,7 @@ impl Deps {
     /// The set of one mark.
     ///
     /// # Errors
-    /// Memory may be refused.
+    /// Out of memory.
     pub fn one(alloc: Global, mark: u32) -> Result<Self, NoMemory>
         ensures { IfOk result (λ d. d ≡ set.insert set.empty mark) }
     {
@@ -66,7 +66,7 @@ impl Deps {
     /// The marks of both sets. Where one of the sets has them all, it is that set, shared.
     ///
     /// # Errors
-    /// Memory may be refused.
+    /// Out of memory.
     pub fn union(&self, alloc: Global, other: &Deps) -> Result<Self, NoMemory>
         ensures { IfOk result (λ d. d ≡ set.union self.now other.now) }
     {
@@ -85,7 +85,7 @@ impl Deps {
     /// The marks but the given one. Where that is no member, it is the same set, shared.
     ///
     /// # Errors
-    /// Memory may be refused.
+    /// Out of memory.
     pub fn without(&self, alloc: Global, mark: u32) -> Result<Self, NoMemory>
         ensures { IfOk result (λ d. d ≡ set.remove self.now mark) }
     {

@@ -74,7 +74,7 @@ impl Blocks {
     ///
     /// # Errors
     ///
-    /// Want of memory. The blocks of the nodes below `from` are as before.
+    /// Out of memory. The blocks of the nodes below `from` are as before.
     pub fn follow<A: Allocator + Copy>(&mut self, tree: &Tree<A>, from: u32) -> Result<(), NoMemory>
         requires { AreBlocksBelow tree.now.first (facts_in tree.now.entries) from self.old }
         ensures followed { OnOk result (IsCurrent tree.now.first (facts_in tree.now.entries) self.new) }
@@ -115,7 +115,7 @@ impl Blocks {
     ///
     /// # Errors
     ///
-    /// Want of memory.
+    /// Out of memory.
     pub fn complete<A: Allocator + Copy>(&mut self, tree: &Tree<A>) -> Result<(), NoMemory>
         requires { AreFirstBlocks tree.now.first (facts_in tree.now.entries) self.old }
         ensures current { OnOk result (IsCurrent tree.now.first (facts_in tree.now.entries) self.new) }

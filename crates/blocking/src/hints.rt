@@ -33,7 +33,7 @@ impl Known {
     ///
     /// # Errors
     ///
-    /// Want of memory.
+    /// Out of memory.
     pub(crate) fn new(
         heap: Global,
         concepts: &[u32],
@@ -178,7 +178,7 @@ impl Hints {
     ///
     /// # Errors
     ///
-    /// Want of memory. What is known is as before.
+    /// Out of memory. What is known is as before.
     pub(crate) fn put(&mut self, node: u32, known: Known, print: [u64; 4]) -> Result<(), NoMemory>
         requires there { node ≤ length self.old.known }
         requires hint { IsHint self.old.known [] node known.label known.hint }

@@ -105,7 +105,7 @@ impl<A: Allocator + Copy> Trail<A> {
     /// Puts an entry last.
     ///
     /// # Errors
-    /// Memory may be refused; nothing has changed then.
+    /// Out of memory; nothing has changed then.
     pub(crate) fn push(&mut self, entry: Entry) -> Result<(), NoMemory>
         ensures put { OnOk result (self.new ≡ self.old ++ entry ∷ []) }
         ensures unchanged { OnErr result (self.new ≡ self.old) }

@@ -80,7 +80,7 @@ impl<A: Allocator + Copy> Tree<A> {
     /// The first nodes, so many from node 0 on, of which nothing is known.
     ///
     /// # Errors
-    /// Memory may be refused.
+    /// Out of memory.
     pub fn new_in(alloc: A, first: u32) -> Result<Tree<A>, NoMemory>
         requires { 0 < first }
         ensures { IfOk result (λ t. t ≡ record { first = first; entries = [] }) }
@@ -220,7 +220,7 @@ impl<A: Allocator + Copy> Tree<A> {
     /// its very role.
     ///
     /// # Errors
-    /// Memory may be refused.
+    /// Out of memory.
     pub fn marks_of(&self, alloc: Global, fact: Fact<u32>) -> Result<Deps, NoMemory>
         requires { is_so (facts_in self.now.entries) fact ≡ true }
         ensures { IfOk result (λ marks. is_so (facts_within marks self.now.entries) fact ≡ true) }
@@ -232,7 +232,7 @@ impl<A: Allocator + Copy> Tree<A> {
     /// whose end is there makes no node.
     ///
     /// # Errors
-    /// Memory may be refused; nothing has changed then.
+    /// Out of memory; nothing has changed then.
     pub fn add(&mut self, fact: Fact<u32>, by: By) -> Result<(), NoMemory>
         requires { IsFit (node_count_from self.old.first (facts_in self.old.entries)) fact }
         ensures added { OnOk result
@@ -253,7 +253,7 @@ impl<A: Allocator + Copy> Tree<A> {
     /// Puts last that two nodes are one.
     ///
     /// # Errors
-    /// Memory may be refused; nothing has changed then.
+    /// Out of memory; nothing has changed then.
     pub fn join(&mut self, first: u32, second: u32, by: By) -> Result<(), NoMemory>
         requires first { first < node_count_from self.old.first (facts_in self.old.entries) }
         requires second { second < node_count_from self.old.first (facts_in self.old.entries) }
@@ -268,7 +268,7 @@ impl<A: Allocator + Copy> Tree<A> {
     /// All these facts rest on the same, and stand in the order of the definition.
     ///
     /// # Errors
-    /// Memory may be refused; nothing has changed then.
+    /// Out of memory; nothing has changed then.
     pub fn fresh(
         &mut self,
         node: u32,
@@ -299,7 +299,7 @@ impl<A: Allocator + Copy> Tree<A> {
     /// Puts the mark of a choice last, and answers the length of the trail before it.
     ///
     /// # Errors
-    /// Memory may be refused; nothing has changed then.
+    /// Out of memory; nothing has changed then.
     pub fn put_mark(&mut self, choice: Choice) -> Result<Mark, NoMemory>
         ensures before { IfOk result (λ mark. mark.len ≡ length self.old.entries) }
         ensures marked { OnOk result (self.new ≡ record self.old { entries = self.old.entries ++ Marks choice ∷ [] }) }

@@ -15,7 +15,7 @@ const FEW: usize = 16;
 ///
 /// # Errors
 ///
-/// Memory may be refused; the concepts stay then.
+/// Out of memory; the concepts stay then.
 pub(crate) fn put_last<A: Allocator + Copy>(
     concepts: &mut Vec<u32, A>,
     bits: &mut Vec<u64, A>,

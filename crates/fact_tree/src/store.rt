@@ -156,7 +156,7 @@ impl<A: Allocator + Copy> Store<A> {
     ///
     /// # Errors
     ///
-    /// Want of memory. What was kept is kept, and `undo` leads back to it.
+    /// Out of memory. What was kept is kept, and `undo` leads back to it.
     pub(crate) fn put(
         &mut self,
         fact: &Fact<u32>,

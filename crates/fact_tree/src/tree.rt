@@ -53,7 +53,7 @@ impl<A: Allocator + Copy> FactTree<A> {
     ///
     /// # Errors
     ///
-    /// Want of memory.
+    /// Out of memory.
     pub fn new_in(alloc: A, first: u32) -> Result<FactTree<A>, NoMemory>
         requires { 0 < first }
         ensures { IfOk result (λ t. t ≡ record { first = first; facts = [] }) }
@@ -347,7 +347,7 @@ impl<A: Allocator + Copy> FactTree<A> {
     ///
     /// # Errors
     ///
-    /// Want of memory; nothing has changed.
+    /// Out of memory; nothing has changed.
     pub fn add(&mut self, fact: Fact<u32>) -> Result<(), NoMemory>
         requires { IsFit (node_count_from self.old.first self.old.facts) fact }
         ensures added { OnOk result (self.new ≡ record self.old { facts = self.old.facts ++ fact ∷ [] }) }
@@ -367,7 +367,7 @@ impl<A: Allocator + Copy> FactTree<A> {
     ///
     /// # Errors
     ///
-    /// Want of memory; nothing has changed.
+    /// Out of memory; nothing has changed.
     pub fn fresh(&mut self, from: u32, role: u32, concept: u32, count: u32) -> Result<u32, NoMemory>
         requires from { from < node_count_from self.old.first self.old.facts }
         requires count { count ≤ 101 }

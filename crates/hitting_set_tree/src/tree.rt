@@ -64,7 +64,7 @@ pub struct Found {
 /// end.
 ///
 /// # Errors
-/// Where memory is refused. The sets that were taken until then are nodes of such a tree all the same, and no more was
+/// Out of memory. The sets that were taken until then are nodes of such a tree all the same, and no more was
 /// asked than goes with them. No test ended because the budget was spent: that is told without memory.
 pub fn enumerate<E: Entail>(alloc: Global, entail: &mut E) -> Result<Found, NoMemory>
     requires { (E.meaning entail.old).taken ≡ [] }

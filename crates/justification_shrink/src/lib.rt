@@ -33,7 +33,7 @@ pub enum Shrunk {
 /// budget was spent, it has a yes-set as part of which no answer says whether it is a smallest one.
 ///
 /// # Errors
-/// Where memory is refused. The object has then answered some asks, and means what it did. No test ended because the
+/// Out of memory. The object has then answered some asks, and means what it did. No test ended because the
 /// budget was spent: that is always told.
 pub fn shrink<E: Entail>(entail: &mut E, start: &AxiomSet) -> Result<Shrunk, NoMemory>
     requires limit { start.now.limit ≡ (E.meaning entail.old).size }

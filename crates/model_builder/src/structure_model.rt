@@ -48,7 +48,7 @@ pub struct Edge {
 /// chains. The first individuals are the elements in `places`, which are below `size`, and each other is the element 0.
 ///
 /// # Errors
-/// Where memory is refused.
+/// Out of memory.
 pub fn interpretation(
     alloc: Global,
     size: u32,

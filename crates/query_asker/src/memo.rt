@@ -38,7 +38,7 @@ impl Memo {
     /// What the log says of the set. All its entries are seen first.
     ///
     /// # Errors
-    /// Where memory is refused, nothing that was seen is lost.
+    /// Out of memory; nothing that was seen is lost.
     pub fn recall(&mut self, log: &[Entry], set: &AxiomSet) -> Result<Option<Reply>, NoMemory>
         requires yes_limits { All (λ s. s.limit ≡ set.now.limit) (yes_sets log.now) }
         requires no_limits { All (λ s. s.limit ≡ set.now.limit) (no_sets log.now) }

@@ -24,7 +24,7 @@ use std::alloc::Global;
 /// are exactly the smallest sets whose removal leaves no yes-set, by [`finished_repairs_are_all`].
 ///
 /// # Errors
-/// Where memory is refused.
+/// Out of memory.
 pub fn repairs(alloc: Global, found: &Found) -> Result<Vec<AxiomSet>, NoMemory>
     requires { HaveOneLimit (found.now.justifications.items ++ found.now.leaves.items) }
     ensures order { IfOk result (λ v. IsAscending v.items) }

@@ -54,7 +54,7 @@ impl Antichain {
     /// the new one.
     ///
     /// # Errors
-    /// Where memory is refused, the same sets are kept as before.
+    /// Out of memory; the same sets are kept as before.
     pub fn put(&mut self, set: AxiomSet) -> Result<(), NoMemory>
         requires { All (λ s. s.limit ≡ set.limit) (kept_sets self.old) }
         ensures kind { kind_of self.new ≡ kind_of self.old }

@@ -15,7 +15,7 @@ use std::cmp::Ordering;
 /// Puts a set into an ascending list, unless it stands there.
 ///
 /// # Errors
-/// Where memory is refused, the list stays as it was.
+/// Out of memory; the list stays as it was.
 pub fn put_in_order(sets: &mut Vec<AxiomSet>, set: AxiomSet) -> Result<(), NoMemory>
     requires limits { All (λ s. s.limit ≡ set.limit) sets.old.items }
     requires order { IsAscending sets.old.items }

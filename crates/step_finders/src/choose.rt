@@ -234,7 +234,7 @@ fn find_by_union<S: State, R: Rules>(
 ///
 /// # Errors
 ///
-/// Want of memory.
+/// Out of memory.
 pub fn find_most_by<S: State, R: Rules>(
     alloc: Global,
     search: &StateWithRules<'_, S, R>,
@@ -260,7 +260,7 @@ pub fn find_most_by<S: State, R: Rules>(
 ///
 /// # Errors
 ///
-/// Want of memory.
+/// Out of memory.
 pub fn find_pair_by<S: State, R: Rules>(
     alloc: Global,
     search: &StateWithRules<'_, S, R>,
@@ -302,7 +302,7 @@ pub fn find_union_by<S: State, R: Rules>(
 ///
 /// # Errors
 ///
-/// Want of memory.
+/// Out of memory.
 pub fn find_most_at<S: State, R: Rules>(
     alloc: Global,
     search: &StateWithRules<'_, S, R>,
@@ -375,7 +375,7 @@ fn find_union_of_rep<S: State, R: Rules>(
 ///
 /// # Errors
 ///
-/// Want of memory.
+/// Out of memory.
 pub fn find_most<S: State, R: Rules>(
     alloc: Global,
     search: &StateWithRules<'_, S, R>,
@@ -410,7 +410,7 @@ pub fn find_union<S: State, R: Rules>(search: &StateWithRules<'_, S, R>) -> Opti
 ///
 /// # Errors
 ///
-/// Want of memory.
+/// Out of memory.
 pub fn find_choice<S: State, R: Rules>(
     alloc: Global,
     search: &StateWithRules<'_, S, R>,

@@ -12,7 +12,7 @@ use std::alloc::Global;
 ///
 /// # Errors
 ///
-/// Want of memory.
+/// Out of memory.
 pub fn filled_successors<S: State, R: Rules>(
     alloc: Global,
     search: &StateWithRules<'_, S, R>,

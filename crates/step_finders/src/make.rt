@@ -150,7 +150,7 @@ fn find_by_some<S: State, R: Rules>(
 ///
 /// # Errors
 ///
-/// Want of memory.
+/// Out of memory.
 pub fn find_making_by<S: State, R: Rules>(
     alloc: Global,
     search: &StateWithRules<'_, S, R>,
@@ -207,7 +207,7 @@ fn find_by_least<S: State, R: Rules>(
 ///
 /// # Errors
 ///
-/// Want of memory.
+/// Out of memory.
 pub fn find_making_at<S: State, R: Rules>(
     alloc: Global,
     search: &StateWithRules<'_, S, R>,
@@ -249,7 +249,7 @@ fn find_at_open<S: StateWithBlocks, R: Rules>(
 ///
 /// # Errors
 ///
-/// Want of memory.
+/// Out of memory.
 pub fn find_making<S: StateWithBlocks, R: Rules>(
     alloc: Global,
     search: &StateWithRules<'_, S, R>,

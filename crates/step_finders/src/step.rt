@@ -29,7 +29,7 @@ pub enum Step {
 ///
 /// # Errors
 ///
-/// Want of memory.
+/// Out of memory.
 pub fn find_step<S: StateWithBlocks, R: Rules>(
     alloc: Global,
     search: &StateWithRules<'_, S, R>,

@@ -93,7 +93,7 @@ fn line_of_pair<S: State, R: Rules>(
 ///
 /// # Errors
 ///
-/// Want of memory.
+/// Out of memory.
 pub fn line_of_choice<S: State, R: Rules>(
     alloc: Global,
     search: &StateWithRules<'_, S, R>,

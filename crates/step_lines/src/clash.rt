@@ -81,7 +81,7 @@ fn line_of_differ<S: State, R: Rules>(
 ///
 /// # Errors
 ///
-/// Want of memory.
+/// Out of memory.
 pub fn line_of_clash<S: State, R: Rules>(
     alloc: Global,
     search: &StateWithRules<'_, S, R>,

@@ -14,7 +14,7 @@ use step_finders::{Given, Rules};
 ///
 /// # Errors
 ///
-/// Want of memory.
+/// Out of memory.
 pub fn line_of_given<R: Rules>(
     alloc: Global,
     rules: &R,

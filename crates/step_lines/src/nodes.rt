@@ -26,7 +26,7 @@ fn making_line<R: Rules>(rules: &R, parent: u32, first: u32, concept: u32) -> Li
 ///
 /// # Errors
 ///
-/// Want of memory.
+/// Out of memory.
 pub fn line_of_new_nodes<S: State, R: Rules>(
     alloc: Global,
     search: &StateWithRules<'_, S, R>,
