@@ -78,7 +78,10 @@ impl Beginning {
     }
 }
 
-/// The items of a trail behind its first two.
+/// How many facts each search starts with: the two concepts of the node in question.
+const START: u32 = 2;
+
+/// The items of a trail behind the facts of its start.
 pub(crate) fn rest_of<A: Allocator + Copy>(
     heap: Global,
     tree: &Tree<A>,
@@ -86,7 +89,7 @@ pub(crate) fn rest_of<A: Allocator + Copy>(
     ensures { IfOk result (λ v. v.items ≡ drop 2 (items_of tree.now.entries)) }
 {
     let mut rest = Vec::new(heap);
-    for place in 2..tree.len() {
+    for place in START..tree.len() {
         rest.push(tree.item(place))?;
     }
     Ok(rest)

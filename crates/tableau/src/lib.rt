@@ -1,11 +1,11 @@
 //! A search whether a query follows from a set of axioms, by a tableau (Horrocks, Sattler and Tobies, "Practical
 //! Reasoning for Expressive Description Logics", 1999).
 //!
-//! Going back takes facts out of a trail. What one run shows of other queries depends on all that it ever put
-//! (`search_laws`), so with which classes a run has had to do is noted beside the trail (`seen`), as two sets of bits
-//! over the classes of an ontology: those that the node in question was given, and those whose complements bear on it.
-//! A new fact costs a look at its concept, and a union of the node in question one at each part. A search of which
-//! nothing will be asked is given sets without room, which keep nothing.
+//! Going back takes facts out of a trail. But what one run shows of other queries depends on all that it ever put
+//! (`search_laws`). So it is noted beside the trail with which classes a run has had to do (`seen`), as sets of bits
+//! over the classes of an ontology and over the concepts of the search. A new fact costs a look at its concept, a union
+//! of the node in question a look at each part, and the complement of a class at another node a look through the label
+//! of that node. A search of which nothing will be asked is given sets without room, which keep nothing.
 //!
 //! Where axioms speak of many individuals, each search would give all that they say, and follow it up. One search can
 //! do it for many (`beginning`, `behind`): it asks whether anything is in top and not in bottom, and others go on from

@@ -1,4 +1,4 @@
-// The search.
+// The search: one step, runs of steps, and how they end.
 ghost use Rattle.std.specs.Prelude.{◌≡◌, ◌+◌, ◌<◌, ◌≤◌, ◌^◌, [], ◌∷◌, true, false, IsTrue, ◌||◌, IfOk, OnOk, OnErr};
 ghost use Rattle.std.specs.Prelude.{length};
 ghost use Rattle.std.specs.Prelude.{IsSome, ℕ};
@@ -358,7 +358,7 @@ impl<'b, A: Allocator + Copy> Search<'b, A> {
         self.ended = !goes_on_elsewhere(&event);
         self.failed = false;
 
-        // What bounds the count stands after each step.
+        // Called for what it promises: steps and marks are few.
         self.steps();
         Ok(event)
     }
@@ -405,7 +405,7 @@ impl<'b, A: Allocator + Copy> Search<'b, A> {
         self.ended = !event.goes_on();
         self.failed = false;
 
-        // What bounds the count stands after each step.
+        // Called for what it promises: steps and marks are few.
         self.steps();
         Ok(event)
     }
@@ -430,7 +430,7 @@ impl<'b, A: Allocator + Copy> Search<'b, A> {
         self.ended = !end.is_spent();
         self.failed = false;
 
-        // What bounds the count stands after this look.
+        // Called for what it promises: steps and marks are few.
         self.steps();
         Ok(end)
     }
@@ -450,10 +450,10 @@ impl<'b, A: Allocator + Copy> Search<'b, A> {
         self.steps
     }
 
-    /// The classes of the ontology, each number greater by one, of which the search, which has ended at a model, shows
-    /// that the query's subclass is not part of them: by the steps that were made, which a search for that could have
-    /// made. These are the classes that the run has left out, and there are none where the query is on an individual or
-    /// asks for more than whether anything is in its subclass.
+    /// The classes of the ontology, each number greater by one, in which the query's subclass is not included, as this
+    /// search shows, which has ended at a model: a search for each of them could have made the same steps. They are the
+    /// classes that the run has left out. None are returned if the query is on an individual, or asks for more than
+    /// whether anything is in its subclass.
     ///
     /// # Errors
     ///

@@ -1,4 +1,11 @@
-// The classes with which a run has had to do.
+// The classes with which a run has had to do, and what tells other nodes apart from the node in question.
+//
+// A search that ends at a model answers for class W too if its run had nothing to do with W: the node in question was
+// never given W, nor its complement, nor a union of which that is a part. Another node may have been given the
+// complement if the node in question could not block it even with the complement: if the other node has a concept of
+// its own, which the node in question was never given. Such a concept is noted for each of these nodes (`own`), and all
+// concepts of the node in question (`there`). As long as the two sets share nothing, the classes in `bearing` count;
+// once they do, those in `complements` count: all whose complement any node was given.
 ghost use Rattle.std.specs.Prelude.{◌≡◌, ℕ, ◌<◌, ◌≤◌, ◌==◌, ◌&&◌, not, [], ◌∷◌, length, drop, IfOk};
 ghost use Rattle.calculus_specs.specs.declared.facts.Fact.TheVariants.{Has};
 ghost use Rattle.calculus_specs.specs.Shape.{shape_of};
@@ -35,7 +42,7 @@ pub struct SeenClasses {
     own: AxiomSet,
     // The concepts that the node in question was given, each number greater by one.
     there: AxiomSet,
-    // Whether it is known that it was given none of the former.
+    // Whether the node in question was given none of the concepts in `own`, as far as is known.
     tells_apart: bool,
     // Whether it is known that the run has said no more of the node in question than that it has top.
     bare: bool,
