@@ -68,9 +68,9 @@ abbrev pub room_for : ℕ → On → ℕ → ℕ
 room_for count on not_sup = if is_any on && not_sup == 0 then count else 0
 
 -- Its run: all its trails, as many as steps were made and the first one, and the classes with which they had to do.
--- Where the search did not go on behind a beginning, it is known whether the run gave the node in question no more than
--- top, and other nodes are told apart from this node. What tells them apart is not noted of a beginning's run, for the
--- searches that go on from it
+-- Where the search began from nothing, it is known whether the run gave the node in question no more than top, and what
+-- tells other nodes apart from this node is noted. A search that went on behind a beginning tells none apart, since
+-- what would do so in the beginning's run is not looked at again
 pub record HasRun (s : SearchState) : Type 0 where
   pub earlier : List (List Item)
   pub is_run : IsRun (context_of s) (start (question_of s).at s.sub s.not_sup) (trail_of s ∷ earlier)

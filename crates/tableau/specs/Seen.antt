@@ -18,9 +18,10 @@ use Rattle.search_laws.specs.Runs.{was_ever, puts_at, SetsApart}
 -- Sets of classes: those that the node in question was given, and those whose complement bears on it: the complement
 -- was given to some node, or is a part of a union that the node in question was given. Class numbers begin at 0 and
 -- members at 1, so class a stands in a set as a + 1. Of the latter classes, those that bear on it even where other
--- nodes that were given a complement are told apart from it. These are told apart by concepts of their own, which stand
--- in a set as classes do, and in another set stand the concepts that the node in question was given. And whether it is
--- known that it was given none of the former, and whether it is known that it was given no more than top
+-- nodes that were given a complement are told apart from it. Such nodes are told apart by concepts of their own, which
+-- stand in a set as classes do, and in another set stand the concepts that the node in question was given. And whether
+-- it is known that this node was given none of those own concepts, and whether it is known that it was given no more
+-- than top
 pub record SeenSets : Type 0 where
   pub at_node : Limited
   pub complements : Limited
@@ -237,6 +238,7 @@ BearsBy first at table all some s a =
     (list_any (gives_bearing at table a) some ≡ true) ⊎ IsLikeThere first at table all some s a
 
 -- some of the facts give the complement of a class to another node, which by all of them has the concept `own` besides
+-- the complement and top
 pub record IsOwnBy (first at : ℕ) (table : List Shape) (all some : List (Fact ℕ)) (own : ℕ) : Type 0 where
   pub node : ℕ
   pub concept : ℕ
@@ -246,7 +248,7 @@ pub record IsOwnBy (first at : ℕ) (table : List Shape) (all some : List (Fact 
   pub is_not_top : ¬ (own ≡ 0)
   pub is_another : ¬ (own ≡ concept)
 
--- so do the facts of some trail of a run
+-- some trail of a run gives the complement of a class to another node, which has the concept `own` besides
 pub record IsOwnIn (first at : ℕ) (table : List Shape) (run : List (List Item)) (own : ℕ) : Type 0 where
   pub trail : List Item
   pub of_run : Contains run trail
@@ -265,9 +267,10 @@ Bears first at table run a =
     (was_ever (gives_bearing at table a) run ≡ true) ⊎ (¬ All (SetsApart first at table run a) run)
 
 -- What is noted of a run to tell other nodes apart from the node in question. A class is noted where the run gave this
--- node the complement, or a union of which that is a part, and no class is noted that does not bear on this node. Just
--- the concepts that it was given are noted, and some that are own ones of other nodes. These are told apart just as
--- long as the node in question was given none of them
+-- node the complement, or a union of which that is a part, and no class is noted that does not bear on this node.
+-- Exactly the concepts that this node was given are noted, and some that other nodes have besides the complement of a
+-- class: of these, at least one for each such node whose class is not noted. Other nodes are told apart exactly if the
+-- node in question was given none of these
 pub record IsToldApart (first at : ℕ) (table : List Shape) (run : List (List Item)) (s : SeenSets) : Type 0 where
   pub limit : s.bearing.limit ≡ s.at_node.limit
   pub there_limit : s.there.limit ≡ concept_room s.bearing.limit (length table)

@@ -46,7 +46,7 @@ pub record IsOwnConcept (s : SeenSets) (fs : List (Fact ℕ)) (node concept own 
   pub holds_it : has fs node own ≡ true
   pub may_be : may_be_own s own concept ≡ true
 
--- the node has a concept besides top and another one, which is the complement of a class
+-- the concept is the complement of a class, and besides it and top the node has the concept `own`
 pub record IsOwnBeside (table : List Shape) (fs : List (Fact ℕ)) (node concept own : ℕ) : Type 0 where
   pub class : ℕ
   pub shape : shape_of table concept ≡ not_name class
@@ -54,8 +54,9 @@ pub record IsOwnBeside (table : List Shape) (fs : List (Fact ℕ)) (node concept
   pub is_not_top : ¬ (own ≡ 0)
   pub is_another : ¬ (own ≡ concept)
 
--- another node was given a concept: where it is the complement of a class, it has an own one besides, or the class
--- bears on the node in question. No other class does, and no other concept is noted
+-- another node was given a concept. If that is the complement of a class, the node has an own concept besides, which is
+-- noted, or the class is noted as one that bears on the node in question. No other class is noted, and no concept but
+-- such as this node has besides
 pub record HasToldOther (table : List Shape) (fs : List (Fact ℕ)) (node concept : ℕ) (old new : SeenSets) : Type 0 where
   pub tells_apart : new.tells_apart ≡ old.tells_apart
   pub there : new.there ≡ old.there

@@ -38,11 +38,11 @@ pub struct SeenClasses {
     // Of these, the classes that count even where other nodes with a complement are told apart from the node in
     // question.
     bearing: AxiomSet,
-    // Concepts that tell them apart, each number greater by one.
+    // Concepts that tell other nodes apart from it, each number greater by one.
     own: AxiomSet,
     // The concepts that the node in question was given, each number greater by one.
     there: AxiomSet,
-    // Whether the node in question was given none of the concepts in `own`, as far as is known.
+    // Whether it is known that the node in question was given none of the concepts in `own`.
     tells_apart: bool,
     // Whether it is known that the run has said no more of the node in question than that it has top.
     bare: bool,
