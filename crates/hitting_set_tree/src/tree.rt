@@ -31,8 +31,8 @@ pub struct Tree {
     /// The smallest yes-sets that were found, in the order in which a label is looked for among them.
     justifications: Vec<AxiomSet>,
 
-    /// The same sets in the order of sets. Each is put here when it is found, so that no memory is needed once the
-    /// budget is spent.
+    /// The same sets in the order of sets. Each is put here when it is found, so that no memory is needed once a test
+    /// has ended because the budget was spent.
     ordered: Vec<AxiomSet>,
     leaves: Vec<AxiomSet>,
     frames: Vec<Frame>,
