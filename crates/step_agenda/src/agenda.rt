@@ -96,6 +96,40 @@ impl Cursors {
             ..Cursors::start()
         }
     }
+
+    // Up to which entry it has looked for choices of this kind.
+    fn choice(&self, wanted: Wanted) -> u32 {
+        match wanted {
+            Wanted::Pair => self.pairs,
+            Wanted::Part => self.unions,
+            Wanted::FirstPart => self.first_unions,
+            Wanted::Most => self.mosts,
+        }
+    }
+
+    fn put_choice(&mut self, wanted: Wanted, place: u32) {
+        match wanted {
+            Wanted::Pair => self.pairs = place,
+            Wanted::Part => self.unions = place,
+            Wanted::FirstPart => self.first_unions = place,
+            Wanted::Most => self.mosts = place,
+        }
+    }
+
+    // Up to where it has looked for concepts that these rows add, with all other additions or alone.
+    fn addition(&self, wanted: WantedRows) -> Reached {
+        match wanted {
+            WantedRows::All | WantedRows::NoUnions => self.additions,
+            WantedRows::Alone => self.rows,
+        }
+    }
+
+    fn put_addition(&mut self, wanted: WantedRows, reached: Reached) {
+        match wanted {
+            WantedRows::All | WantedRows::NoUnions => self.additions = reached,
+            WantedRows::Alone => self.rows = reached,
+        }
+    }
 }
 
 /// How far a search has looked for steps, and where it looked when each of its choices was made.
@@ -234,7 +268,8 @@ impl Agenda {
         if let Some(step) = self.general(search) {
             return Ok(Some(step));
         }
-        if let Some(step) = self.addition(tree, search)? {
+        let rows = self.rows_for_first_nodes();
+        if let Some(step) = self.addition(tree, search, rows)? {
             return Ok(Some(step));
         }
         if let Some(step) = self.forced(tree, search)? {
@@ -247,11 +282,11 @@ impl Agenda {
             if let Some(step) = self.outwards(search) {
                 return Ok(Some(step));
             }
-            if let Some(step) = self.by_rows(tree, search)? {
+            if let Some(step) = self.addition(tree, search, WantedRows::Alone)? {
                 return Ok(Some(step));
             }
         }
-        if let Some(step) = self.pair(heap, tree, search)? {
+        if let Some(step) = self.choice(heap, tree, search, Wanted::Pair)? {
             return Ok(Some(step));
         }
         if let Some(step) = self.below_first(heap, tree, search)? {
@@ -292,7 +327,7 @@ impl Agenda {
         if let Some(step) = self.union(heap, tree, search)? {
             return Ok(Some(step));
         }
-        if let Some(step) = self.most(heap, tree, search)? {
+        if let Some(step) = self.choice(heap, tree, search, Wanted::Most)? {
             return Ok(Some(step));
         }
         Ok(self.outwards(search))
@@ -356,22 +391,27 @@ impl Agenda {
         }
     }
 
-    // A concept that an entry adds. If the question is on an individual, first nodes get no unions from rows here.
+    // Which of the rows that wait for classes are used at first nodes before all given facts are put.
+    fn rows_for_first_nodes(&self) -> WantedRows {
+        if self.is_on_individual() {
+            WantedRows::NoUnions
+        } else {
+            WantedRows::All
+        }
+    }
+
+    // A concept that an entry adds. Of the rows that wait for classes those that are wanted are used.
     fn addition<A: Allocator + Copy, S: State, R: Rules>(
         &mut self,
         tree: &Tree<A>,
         search: &StateWithRules<'_, S, R>,
+        wanted: WantedRows,
     ) -> Result<Option<Step>, NoMemory>
         ensures { IfOk result
             (λ found. IfSome found (IsStep (R.context search.now.rules.now) (S.facts search.now.state.now)
             (R.files search.now.rules.now))) }
     {
-        let wanted = if self.is_on_individual() {
-            WantedRows::NoUnions
-        } else {
-            WantedRows::All
-        };
-        let from = self.cursors.additions;
+        let from = self.cursors.addition(wanted);
         let (reached, addition) = first_addition(
             tree,
             search,
@@ -381,34 +421,7 @@ impl Agenda {
             from,
         )?;
         self.count_looks(from.place, reached.place);
-        self.cursors.additions = reached;
-        match addition {
-            Some(addition) => Ok(Some(Step::Add(addition))),
-            None => Ok(None),
-        }
-    }
-
-    // A concept that is added by a row that waits for classes, also if it is a union.
-    fn by_rows<A: Allocator + Copy, S: State, R: Rules>(
-        &mut self,
-        tree: &Tree<A>,
-        search: &StateWithRules<'_, S, R>,
-    ) -> Result<Option<Step>, NoMemory>
-        ensures { IfOk result
-            (λ found. IfSome found (IsStep (R.context search.now.rules.now) (S.facts search.now.state.now)
-            (R.files search.now.rules.now))) }
-    {
-        let from = self.cursors.rows;
-        let (reached, addition) = first_addition(
-            tree,
-            search,
-            &mut self.waiting,
-            WantedRows::Alone,
-            self.passed,
-            from,
-        )?;
-        self.count_looks(from.place, reached.place);
-        self.cursors.rows = reached;
+        self.cursors.put_addition(wanted, reached);
         match addition {
             Some(addition) => Ok(Some(Step::Add(addition))),
             None => Ok(None),
@@ -434,22 +447,23 @@ impl Agenda {
         Ok(forced)
     }
 
-    // Two successors to be made one or kept apart, where there may be too many.
-    fn pair<A: Allocator + Copy, S: State, R: Rules>(
+    // A choice of this kind that an entry makes possible.
+    fn choice<A: Allocator + Copy, S: State, R: Rules>(
         &mut self,
         heap: Global,
         tree: &Tree<A>,
         search: &StateWithRules<'_, S, R>,
+        wanted: Wanted,
     ) -> Result<Option<Step>, NoMemory>
         ensures { IfOk result
             (λ found. IfSome found (IsStep (R.context search.now.rules.now) (S.facts search.now.state.now)
             (R.files search.now.rules.now))) }
     {
-        let from = self.cursors.pairs;
-        let (place, pair) = first_branching(heap, tree, search, Wanted::Pair, self.passed, from)?;
+        let from = self.cursors.choice(wanted);
+        let (place, choosing) = first_branching(heap, tree, search, wanted, self.passed, from)?;
         self.count_looks(from, place);
-        self.cursors.pairs = place;
-        match pair {
+        self.cursors.put_choice(wanted, place);
+        match choosing {
             Some(choosing) => Ok(Some(Step::Choose(choosing))),
             None => Ok(None),
         }
@@ -526,21 +540,7 @@ impl Agenda {
         if search.rules.first() == 1 || self.has_turned || self.has_many_choices() {
             return Ok(None);
         }
-        let from = self.cursors.first_unions;
-        let (place, union) = first_branching(
-            heap,
-            tree,
-            search,
-            Wanted::FirstPart,
-            self.passed,
-            from,
-        )?;
-        self.count_looks(from, place);
-        self.cursors.first_unions = place;
-        match union {
-            Some(choosing) => Ok(Some(Step::Choose(choosing))),
-            None => Ok(None),
-        }
+        self.choice(heap, tree, search, Wanted::FirstPart)
     }
 
     // Whether the choices are many, and have doubled since it last looked for all new nodes.
@@ -629,35 +629,8 @@ impl Agenda {
             (λ found. IfSome found (IsStep (R.context search.now.rules.now) (S.facts search.now.state.now)
             (R.files search.now.rules.now))) }
     {
-        let from = self.cursors.unions;
-        let (place, union) = first_branching(heap, tree, search, Wanted::Part, self.passed, from)?;
-        self.count_looks(from, place);
-        self.cursors.unions = place;
-        self.cursors.union_node = node_at(tree, place);
-        match union {
-            Some(choosing) => Ok(Some(Step::Choose(choosing))),
-            None => Ok(None),
-        }
-    }
-
-    // Whether a successor has a filler, to be chosen.
-    fn most<A: Allocator + Copy, S: StateWithBlocks, R: Rules>(
-        &mut self,
-        heap: Global,
-        tree: &Tree<A>,
-        search: &StateWithRules<'_, S, R>,
-    ) -> Result<Option<Step>, NoMemory>
-        ensures { IfOk result
-            (λ found. IfSome found (IsStep (R.context search.now.rules.now) (S.facts search.now.state.now)
-            (R.files search.now.rules.now))) }
-    {
-        let from = self.cursors.mosts;
-        let (place, most) = first_branching(heap, tree, search, Wanted::Most, self.passed, from)?;
-        self.count_looks(from, place);
-        self.cursors.mosts = place;
-        match most {
-            Some(choosing) => Ok(Some(Step::Choose(choosing))),
-            None => Ok(None),
-        }
+        let step = self.choice(heap, tree, search, Wanted::Part)?;
+        self.cursors.union_node = node_at(tree, self.cursors.unions);
+        Ok(step)
     }
 }
