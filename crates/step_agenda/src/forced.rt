@@ -157,26 +157,16 @@ fn forced_by_concept<S: State, R: Rules>(
     ensures { IfOk result (λ found. IfSome found
         (IsStep (R.context search.now.rules.now) (S.facts search.now.state.now) (R.files search.now.rules.now))) }
 {
-    match search.rules.shape(concept) {
-        Shape::Or(parts) => {
+    let found = match union_parts(search.rules, concept) {
+        Some(parts) => {
             index.meet(search.rules, concept, parts)?;
-            match forced_at(search, index, node, concept) {
-                Some(step) => Ok(Some(step)),
-                None => Ok(forced_by_watches(search, index, node, concept)),
-            }
+            forced_at(search, index, node, concept)
         }
-        Shape::Top
-        | Shape::Bottom
-        | Shape::Name(_)
-        | Shape::NotName(_)
-        | Shape::And(_)
-        | Shape::SomeOf(_, _)
-        | Shape::AllOf(_, _)
-        | Shape::Min(_, _, _)
-        | Shape::Max(_, _, _) => match forced_by_rows(search, index, node, concept)? {
-            Some(step) => Ok(Some(step)),
-            None => Ok(forced_by_watches(search, index, node, concept)),
-        },
+        None => forced_by_rows(search, index, node, concept)?,
+    };
+    match found {
+        Some(step) => Ok(Some(step)),
+        None => Ok(forced_by_watches(search, index, node, concept)),
     }
 }
 
@@ -214,21 +204,13 @@ fn forced_by_row_at<S: State, R: Rules>(
     ensures { IfOk result (λ found. IfSome found
         (IsStep (R.context search.now.rules.now) (S.facts search.now.state.now) (R.files search.now.rules.now))) }
 {
-    match search.rules.shape(gives) {
-        Shape::Or(parts) => {
+    match union_parts(search.rules, gives) {
+        Some(parts) => {
             index.meet(search.rules, gives, parts)?;
             index.meet_row(gives, row)?;
             Ok(forced_at(search, index, node, gives))
         }
-        Shape::Top
-        | Shape::Bottom
-        | Shape::Name(_)
-        | Shape::NotName(_)
-        | Shape::And(_)
-        | Shape::SomeOf(_, _)
-        | Shape::AllOf(_, _)
-        | Shape::Min(_, _, _)
-        | Shape::Max(_, _, _) => Ok(None),
+        None => Ok(None),
     }
 }
 
@@ -357,31 +339,24 @@ fn forced_by_row<S: State, R: Rules>(
 
 // Whether the node has no part of the union.
 fn is_open<S: State, R: Rules>(search: &StateWithRules<'_, S, R>, node: u32, union: u32) -> bool {
-    match search.rules.shape(union) {
-        Shape::Or(parts) => {
-            for part in parts {
-                if search.state.has(node, *part) {
-                    return false;
-                }
-            }
-            true
-        }
-        Shape::Top
-        | Shape::Bottom
-        | Shape::Name(_)
-        | Shape::NotName(_)
-        | Shape::And(_)
-        | Shape::SomeOf(_, _)
-        | Shape::AllOf(_, _)
-        | Shape::Min(_, _, _)
-        | Shape::Max(_, _, _) => false,
+    match union_parts(search.rules, union) {
+        Some(parts) => !has_any(search.state, node, parts),
+        None => false,
     }
 }
 
 // Whether at most one part of the union does not clash at once.
 fn is_forced<S: State, R: Rules>(search: &StateWithRules<'_, S, R>, node: u32, union: u32) -> bool {
-    match search.rules.shape(union) {
-        Shape::Or(parts) => !are_two_open(search, node, parts),
+    match union_parts(search.rules, union) {
+        Some(parts) => !are_two_open(search, node, parts),
+        None => false,
+    }
+}
+
+// The parts of the concept, if it is a union.
+fn union_parts<R: Rules>(rules: &R, concept: u32) -> Option<&[u32]> {
+    match rules.shape(concept) {
+        Shape::Or(parts) => Some(parts),
         Shape::Top
         | Shape::Bottom
         | Shape::Name(_)
@@ -390,8 +365,18 @@ fn is_forced<S: State, R: Rules>(search: &StateWithRules<'_, S, R>, node: u32, u
         | Shape::SomeOf(_, _)
         | Shape::AllOf(_, _)
         | Shape::Min(_, _, _)
-        | Shape::Max(_, _, _) => false,
+        | Shape::Max(_, _, _) => None,
     }
+}
+
+// Whether the node has one of the concepts.
+fn has_any<S: State>(state: &S, node: u32, concepts: &[u32]) -> bool {
+    for concept in concepts {
+        if state.has(node, *concept) {
+            return true;
+        }
+    }
+    false
 }
 
 // Whether two of the concepts do not clash at once.
