@@ -51,8 +51,8 @@ struct Cursors {
     // For new nodes below any node, and for unions of any node.
     makings: u32,
     unions: u32,
-    // The node of the union that was found last, as its entry has it; no node before that.
-    union_node: u32,
+    // The node of the union that was found last, as its entry has it, if one was found.
+    union_node: Option<u32>,
     // For fillers that successors may have.
     mosts: u32,
     // How many choices had been made when it last looked for all new nodes, and found none.
@@ -79,7 +79,7 @@ impl Cursors {
             asked_makings: 0,
             makings: 0,
             unions: 0,
-            union_node: u32::MAX,
+            union_node: None,
             mosts: 0,
             choices: 0,
             touched: u32::MAX,

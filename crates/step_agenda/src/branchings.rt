@@ -64,8 +64,8 @@ fn branching_by<S: State, R: Rules>(
 {
     match wanted {
         Wanted::Pair => pair_by(heap, item, search),
-        Wanted::Part => Ok(union_by(item, search, u32::MAX)),
-        Wanted::FirstPart => Ok(union_by(item, search, search.rules.first())),
+        Wanted::Part => Ok(union_by(item, search)),
+        Wanted::FirstPart => Ok(first_union_by(item, search)),
         Wanted::Most => most_by(heap, item, search),
     }
 }
@@ -123,27 +123,27 @@ fn most_at<S: State, R: Rules>(
     find_most_at(heap, search, node)
 }
 
-/// The node to which the entry at a place gives a concept; `u32::MAX`, which is no node, if it gives none.
-pub(crate) fn node_at<A: Allocator + Copy>(tree: &Tree<A>, place: u32) -> u32 {
+/// The node to which the entry at a place gives a concept, if there is such an entry.
+pub(crate) fn node_at<A: Allocator + Copy>(tree: &Tree<A>, place: u32) -> Option<u32> {
     if place >= tree.len() {
-        return u32::MAX;
+        return None;
     }
     match tree.item(place) {
-        Item::Fact(Fact::Has(node, _)) => node,
-        Item::Fact(Fact::Edge(_, _, _)) => u32::MAX,
-        Item::Fact(Fact::Apart(_, _)) => u32::MAX,
-        Item::Fact(Fact::Same(_, _)) => u32::MAX,
-        Item::Mark(_) => u32::MAX,
+        Item::Fact(Fact::Has(node, _)) => Some(node),
+        Item::Fact(Fact::Edge(_, _, _)) => None,
+        Item::Fact(Fact::Apart(_, _)) => None,
+        Item::Fact(Fact::Same(_, _)) => None,
+        Item::Mark(_) => None,
     }
 }
 
 /// The first entry from `from` on by which a part of a union of the node is to be chosen, and that choice; or the first
-/// entry that gives the node no concept.
+/// entry that gives the node no concept. If there is no node, that is the first entry that gives a concept to any.
 pub(crate) fn next_union_of<A: Allocator + Copy, S: State, R: Rules>(
     tree: &Tree<A>,
     search: &StateWithRules<'_, S, R>,
     passed: Passed,
-    node: u32,
+    node: Option<u32>,
     from: u32,
 ) -> (u32, Option<Choosing>)
     ensures { IfSome result.1 (IsChoosable (R.context search.now.rules.now) (S.facts search.now.state.now)) }
@@ -155,7 +155,7 @@ pub(crate) fn next_union_of<A: Allocator + Copy, S: State, R: Rules>(
         if node_at(tree, place) != node {
             return (place, None);
         }
-        match union_by(tree.item(place), search, u32::MAX) {
+        match union_by(tree.item(place), search) {
             Some(choosing) => return (place, Some(choosing)),
             None => {}
         }
@@ -163,19 +163,31 @@ pub(crate) fn next_union_of<A: Allocator + Copy, S: State, R: Rules>(
     (tree.len(), None)
 }
 
-// The choice of a part, if the entry gives a union of which one is to be chosen, to a node below `below`.
-fn union_by<S: State, R: Rules>(
+// The choice of a part, if the entry gives a first node a union of which one is to be chosen.
+fn first_union_by<S: State, R: Rules>(
     item: Item,
     search: &StateWithRules<'_, S, R>,
-    below: u32,
 ) -> Option<Choosing>
     ensures { IfSome result (IsChoosable (R.context search.now.rules.now) (S.facts search.now.state.now)) }
 {
     match item {
-        Item::Fact(Fact::Has(node, concept)) if node < below => {
+        Item::Fact(Fact::Has(node, _)) if node < search.rules.first() => union_by(item, search),
+        Item::Fact(Fact::Has(_, _)) => None,
+        Item::Fact(Fact::Edge(_, _, _)) => None,
+        Item::Fact(Fact::Apart(_, _)) => None,
+        Item::Fact(Fact::Same(_, _)) => None,
+        Item::Mark(_) => None,
+    }
+}
+
+// The choice of a part, if the entry gives a union of which one is to be chosen.
+fn union_by<S: State, R: Rules>(item: Item, search: &StateWithRules<'_, S, R>) -> Option<Choosing>
+    ensures { IfSome result (IsChoosable (R.context search.now.rules.now) (S.facts search.now.state.now)) }
+{
+    match item {
+        Item::Fact(Fact::Has(node, concept)) => {
             union_of(search, search.state.representative(node), concept)
         }
-        Item::Fact(Fact::Has(_, _)) => None,
         Item::Fact(Fact::Edge(_, _, _)) => None,
         Item::Fact(Fact::Apart(_, _)) => None,
         Item::Fact(Fact::Same(_, _)) => None,

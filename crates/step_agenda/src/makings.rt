@@ -172,7 +172,7 @@ pub(crate) fn first_below_first<A: Allocator + Copy, S: State, R: Rules>(
 // Whether the entry at a place gives a concept to the node `alone`. If there is no such node, each entry counts.
 fn is_wanted<A: Allocator + Copy>(tree: &Tree<A>, place: u32, alone: Option<u32>) -> bool {
     match alone {
-        Some(node) => node_at(tree, place) == node,
+        Some(node) => node_at(tree, place) == Some(node),
         None => true,
     }
 }
