@@ -54,6 +54,7 @@ mod branchings;
 mod forced;
 mod givings;
 mod makings;
+mod met;
 mod nearness;
 mod pairs;
 mod passed;

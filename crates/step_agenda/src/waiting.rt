@@ -1,6 +1,7 @@
 // Rows that wait for a name and are filed under another one.
 
 use crate::NoMemory;
+use crate::met::MetConcepts;
 use blocking::Item;
 use calculus_specs::Fact;
 use std::alloc::Global;
@@ -11,8 +12,7 @@ use step_finders::{NamedRow, Rules};
 #[derive(Drop)]
 pub(crate) struct WaitingRows {
     heap: Global,
-    // By the number of a concept, whether it was met.
-    is_met: Vec<bool>,
+    met: MetConcepts,
     // By the number of a name, the met names under which rows are filed that wait for it too.
     files: Vec<Vec<u32>>,
 }
@@ -22,7 +22,7 @@ impl WaitingRows {
     pub(crate) fn new(heap: Global) -> WaitingRows {
         WaitingRows {
             heap,
-            is_met: Vec::new(heap),
+            met: MetConcepts::none(heap),
             files: Vec::new(heap),
         }
     }
@@ -51,31 +51,13 @@ impl WaitingRows {
     }
 
     fn meet_concept<R: Rules>(&mut self, rules: &R, concept: u32) -> Result<(), NoMemory> {
-        if self.is_met(concept) {
+        if self.met.has(concept) {
             return Ok(());
         }
         for row in rules.named(concept) {
             self.put_row(concept, row)?;
         }
-        self.put_met(concept)
-    }
-
-    fn is_met(&self, concept: u32) -> bool {
-        match self.is_met.get(concept as usize) {
-            Some(is_met) => *is_met,
-            None => false,
-        }
-    }
-
-    fn put_met(&mut self, concept: u32) -> Result<(), NoMemory> {
-        let place = concept as usize;
-        for _ in self.is_met.len()..place + 1 {
-            self.is_met.push(false)?;
-        }
-        if place < self.is_met.len() {
-            self.is_met[place] = true;
-        }
-        Ok(())
+        self.met.put(concept)
     }
 
     // Puts where the row is filed, for each other name that it waits for.

@@ -1,6 +1,7 @@
 // Unions that a search has met, by the concepts that close a part of them.
 
 use crate::NoMemory;
+use crate::met::MetConcepts;
 use std::alloc::Global;
 use step_finders::{Rules, Shape};
 
@@ -41,8 +42,7 @@ pub(crate) struct RowPlace {
 pub(crate) struct UnionIndex {
     // By the number of a concept, the place of its latest watch, or the end.
     latest: Vec<u32>,
-    // By the number of a union, whether it was met.
-    is_met: Vec<bool>,
+    met: MetConcepts,
     // By the number of a union, a row that gives it, where one was met.
     rows: Vec<Option<RowPlace>>,
     // Whether unions that a row would give count too.
@@ -55,7 +55,7 @@ impl UnionIndex {
     pub(crate) fn new(heap: Global) -> UnionIndex {
         UnionIndex {
             latest: Vec::new(heap),
-            is_met: Vec::new(heap),
+            met: MetConcepts::none(heap),
             rows: Vec::new(heap),
             looks_at_rows: false,
             watches: Vec::new(heap),
@@ -94,13 +94,13 @@ impl UnionIndex {
         union: u32,
         parts: &[u32],
     ) -> Result<(), NoMemory> {
-        if self.is_met(union) {
+        if self.met.has(union) {
             return Ok(());
         }
         for part in parts {
             self.put_part(rules, union, *part)?;
         }
-        self.put_met(union)
+        self.met.put(union)
     }
 
     /// Whether unions that a row would give count too.
@@ -135,24 +135,6 @@ impl UnionIndex {
             Some(row) => *row,
             None => None,
         }
-    }
-
-    fn is_met(&self, union: u32) -> bool {
-        match self.is_met.get(union as usize) {
-            Some(is_met) => *is_met,
-            None => false,
-        }
-    }
-
-    fn put_met(&mut self, union: u32) -> Result<(), NoMemory> {
-        let place = union as usize;
-        for _ in self.is_met.len()..place + 1 {
-            self.is_met.push(false)?;
-        }
-        if place < self.is_met.len() {
-            self.is_met[place] = true;
-        }
-        Ok(())
     }
 
     // Puts what closes a part.
