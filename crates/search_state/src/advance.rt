@@ -273,7 +273,11 @@ impl<'b, A: Allocator + Copy> Progress<'b, A> {
     }
 
     /// Makes the next step, if there is one.
-    pub(crate) fn advance<R: Rules>(&mut self, rules: &R) -> Result<Stepped, NoMemory>
+    ///
+    /// # Errors
+    ///
+    /// Out of memory. The search serves no more then.
+    pub fn step<R: Rules>(&mut self, rules: &R) -> Result<Stepped, NoMemory>
         requires searching { IsSearching (R.context rules.now) self.old }
         requires countable { self.old.steps + 1 < 2 ^ 64 }
         ensures { IfOk result (IsStepped (R.context rules.now) self.old self.new) }

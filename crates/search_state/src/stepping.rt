@@ -1,5 +1,5 @@
 // What a step of a search comes to.
-ghost use Rattle.std.specs.Prelude.{◌≡◌, ◌+◌, ◌<◌, ◌^◌, false, None, IfOk};
+ghost use Rattle.std.specs.Prelude.{◌≡◌, false, None, IfOk};
 ghost use Rattle.search_trace.specs.RuleLine.{line_of};
 ghost use Rattle.tableau_specs.specs.Steps.{HasClash};
 ghost use Rattle.search_trace.specs.Trace.{begun, answer_of, is_turn};
@@ -7,7 +7,7 @@ ghost use Rattle.search_state.specs.Resting.{RestsClash};
 ghost use Rattle.step_agenda.specs.Trail.{facts_in, items_of};
 ghost use Rattle.step_finders.specs.Clashing.{IsShown};
 ghost use Rattle.search_state.specs.Progress.{tree_in, IsAsked, IsClashOf, IsSearching, IsStanding};
-ghost use Rattle.search_state.specs.Stepping.{HasBegun, IsStepped, IsRested};
+ghost use Rattle.search_state.specs.Stepping.{IsRested};
 
 use crate::resting::{RestingLine, rest_clash};
 use crate::{Effort, NoMemory, Progress};
@@ -41,19 +41,6 @@ pub enum Rested {
 }
 
 impl<'b, A: Allocator + Copy> Progress<'b, A> {
-    /// Makes the next step, if there is one.
-    ///
-    /// # Errors
-    ///
-    /// Out of memory. The search serves no more then.
-    pub fn step<R: Rules>(&mut self, rules: &R) -> Result<Stepped, NoMemory>
-        requires searching { IsSearching (R.context rules.now) self.old }
-        requires countable { self.old.steps + 1 < 2 ^ 64 }
-        ensures { IfOk result (IsStepped (R.context rules.now) self.old self.new) }
-    {
-        self.advance(rules)
-    }
-
     /// Looks whether there is a step, and makes none.
     ///
     /// # Errors

@@ -2,7 +2,7 @@ use Rattle.std.proofs.Common.{◌≡◌, ◌∙◌, ap, sym, subst, reverse, Opt
 use Rattle.step_agenda.specs.Trail.{facts_in}
 use Rattle.step_finders.specs.declared.clash.Clash.{Clash}
 use Rattle.search_state.specs.Progress.{ProgressLists, IsClashOf}
-use Rattle.search_state.proofs.progress.Progress.advance.Goals as goal
+use Rattle.search_state.proofs.progress.Progress.step.Goals as goal
 
 pub go_on-requires-clause-none : goal.go_on-requires-clause-none
 go_on-requires-clause-none g c =
