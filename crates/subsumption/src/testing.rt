@@ -82,7 +82,7 @@ fn decide<'a>(
     ensures unchanged { OnErr result (oracle.new.log ≡ oracle.old.log) }
     ensures kept { IfSome kept.new (IsAbout oracle.old.ontology axioms.now query.now.sub) }
 {
-    let noted = is_noted(oracle, kept, axioms, query, y, count)?;
+    let noted = note_if_shown(oracle, kept, axioms, query, y, count)?;
     if noted {
         return Ok(Verdict::No);
     }
@@ -91,7 +91,7 @@ fn decide<'a>(
 
 // Logs that the query does not follow, if what is kept shows it and the budget allows it. Answers whether it did.
 #[tactic(auto, using(crate::proofs::Begun::alike_still))]
-fn is_noted(
+fn note_if_shown(
     oracle: &mut Oracle<'_>,
     kept: &Option<Apart<'_>>,
     axioms: &AxiomSet,
@@ -111,16 +111,19 @@ fn is_noted(
     ensures unchanged { OnErr result (oracle.new.log ≡ oracle.old.log) }
 {
     match kept {
-        Some(apart) => note(oracle, apart, axioms, query, y, count),
+        Some(apart) => note_shown(oracle, apart, axioms, query, y, count),
         None => {
+            // The contract of `left` says that what was spent is within the budget.
             oracle.left();
             Ok(false)
         }
     }
 }
 
+// Logs that the query does not follow, if its superclass is a listed class of which an earlier search shows that, and
+// the budget allows it. Answers whether it did.
 #[tactic(auto, using(crate::proofs::Begun::alike_still))]
-fn note(
+fn note_shown(
     oracle: &mut Oracle<'_>,
     apart: &Apart<'_>,
     axioms: &AxiomSet,
@@ -140,6 +143,7 @@ fn note(
     ensures unchanged { OnErr result (oracle.new.log ≡ oracle.old.log) }
 {
     if y >= count {
+        // The contract of `left` says that what was spent is within the budget.
         oracle.left();
         return Ok(false);
     }

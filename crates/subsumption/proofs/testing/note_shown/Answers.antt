@@ -2,7 +2,7 @@ use Rattle.std.proofs.Common.{◌<◌, arith}
 use Rattle.subsumption.specs.Tests.{IsNoted}
 use Rattle.subsumption.proofs.Begun.{alike_still}
 use Rattle.subsumption.proofs.Tested.{noted_so, is_new, noted_alike}
-use Rattle.subsumption.proofs.testing.note.Goals as goal
+use Rattle.subsumption.proofs.testing.note_shown.Goals as goal
 
 pub note_apart-requires-clause-is_new : goal.note_apart-requires-clause-is_new
 note_apart-requires-clause-is_new c =
