@@ -243,7 +243,7 @@ left_out s run a is_first lt out =
           sym (ap (λ (b : Bool). holds (cond b s.seen.bearing s.seen.complements) a) tells) ∙ unseen.1 in
           leaves_out first at table a all no_class
           (false_from_ne_true (was_ever (gives_bearing at table a) all)
-          (λ ever. (let k = told.bearing a bearing_lt ever in cc)))
+          (λ ever. (let k = told.all_noted a bearing_lt ever in cc)))
           (elsewhere first at table a all s.seen is_first told tells bearing_lt none)
       | inr not_told ↦
           let none : holds s.seen.complements a ≡ false =

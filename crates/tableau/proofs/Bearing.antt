@@ -94,9 +94,6 @@ none_of_label s fs x c cs label each own held = among cs each (label own ∙ hel
 pub contains_first : {X : Type 0} (x : X) (xs : List X) → Contains (x ∷ xs) x
 contains_first x xs = (0, omega arith, refl)
 
-pub contains_later : {X : Type 0} (x y : X) (xs : List X) → Contains xs y → Contains (x ∷ xs) y
-contains_later x y xs m = (suc m.0, omega (arith, m.1), m.2)
-
 module _ (first at : ℕ) (table : List Shape) (a : ℕ) where
   -- what bears on the node in question still does once the run has gone on
   module _ (trail : List Item) (earlier : List (List Item)) where

@@ -124,15 +124,7 @@ module _ (first at : ℕ) (table : List Shape) (all : List (Fact ℕ)) (node con
         own = h.own;
         owned = λ c lt held. elim (h.owned c lt held) [
           | inl was ↦ inl was
-          | inr fresh ↦ inr (record {
-            node = node;
-            concept = concept;
-            class = fresh.class;
-            gives = gives fresh.class fresh.shape;
-            holds_it = fresh.holds_it;
-            is_not_top = fresh.is_not_top;
-            is_another = fresh.is_another;
-          })
+          | inr fresh ↦ inr (own_by c fresh.0, fresh.1)
         ];
         are_own = λ t. h.are_own;
         still = λ t are. h.tells_apart ∙ t;
@@ -147,6 +139,18 @@ module _ (first at : ℕ) (table : List Shape) (all : List (Fact ℕ)) (node con
       gives : (a : ℕ) → shape_of table concept ≡ not_name a
           → GivesComplement first at table (Has node concept ∷ []) node concept a
       gives a sh = record { is_no_first = no_first; is_other = elsewhere; is_given = given_itself; shape = sh }
+
+      own_by : (c : ℕ) → IsOwnBeside table all node concept c
+          → IsOwnBy first at table all (Has node concept ∷ []) c
+      own_by c own = record {
+        node = node;
+        concept = concept;
+        class = own.class;
+        gives = gives own.class own.shape;
+        holds_it = own.holds_it;
+        is_not_top = own.is_not_top;
+        is_another = own.is_another;
+      }
 
   -- a first node
   pub told_first : ¬ (node ≡ at) → node < first → new ≡ old
@@ -224,24 +228,24 @@ module _ (first at : ℕ) (table : List Shape) (all fs gs : List (Fact ℕ)) (ol
   bears_early k a (inl put) =
       let p = gives_bearing at table a in
       inl (list_any-append p fs gs ∙ or_left (list_any p fs) (list_any p gs) put)
-  bears_early k a (inr like) = inr (record {
-    node = like.node;
-    concept = like.concept;
-    gives = gives_early like.node like.concept a like.gives;
+  bears_early k a (inr given) = inr (record {
+    node = given.node;
+    concept = given.concept;
+    gives = gives_early given.node given.concept a given.gives;
     has_none =
-        none_later mid new all like.node like.concept k.there.limit
-        (λ d lt was. k.there.held d lt ∙ or_right (list_any (puts_at at d) gs) (holds mid.there d) was) like.has_none;
+        none_later mid new all given.node given.concept k.there.limit
+        (λ d lt was. k.there.held d lt ∙ or_right (list_any (puts_at at d) gs) (holds mid.there d) was) given.has_none;
   })
 
   bears_late : (a : ℕ) → BearsBy first at table all gs new a → BearsBy first at table all (fs ++ gs) new a
   bears_late a (inl put) =
       let p = gives_bearing at table a in
       inl (list_any-append p fs gs ∙ or_right (list_any p fs) (list_any p gs) put)
-  bears_late a (inr like) = inr (record {
-    node = like.node;
-    concept = like.concept;
-    gives = gives_late like.node like.concept a like.gives;
-    has_none = like.has_none;
+  bears_late a (inr given) = inr (record {
+    node = given.node;
+    concept = given.concept;
+    gives = gives_late given.node given.concept a given.gives;
+    has_none = given.has_none;
   })
 
   own_early : (c : ℕ) → IsOwnBy first at table all fs c → IsOwnBy first at table all (fs ++ gs) c
@@ -310,9 +314,9 @@ module _ (first at : ℕ) (table : List Shape) (all fs gs : List (Fact ℕ)) (ol
         elim (k.owned c (omega (arith, lt, h.there.limit)) held) [
           | inl before ↦ elim (h.owned c lt before) [
             | inl was ↦ inl was
-            | inr early ↦ inr (own_early c early)
+            | inr early ↦ inr (own_early c early.0, early.1)
           ]
-          | inr late ↦ inr (own_late c late)
+          | inr late ↦ inr (own_late c late.0, not_there_before c lt late.1)
         ];
     are_own = λ t own. k.are_own t (h.are_own (k.before t) own);
     still = λ t own. k.still (h.still t (own_before first at table all gs mid new k own)) own;
@@ -332,6 +336,12 @@ module _ (first at : ℕ) (table : List Shape) (all fs gs : List (Fact ℕ)) (ol
       turned true false c = refl
       turned false true c = refl
       turned false false c = refl
+
+      -- what was not there then was not there before
+      not_there_before : (c : ℕ) → c < old.there.limit → holds mid.there c ≡ false → holds old.there c ≡ false
+      not_there_before c lt out = false_from_ne_true (holds old.there c) (λ was.
+          both_ways (holds mid.there c) out
+          (h.there.held c lt ∙ or_right (list_any (puts_at at c) fs) (holds old.there c) was))
 
       not_before : (a : ℕ) → a < mid.bearing.limit → holds new.bearing a ≡ false → holds mid.bearing a ≡ false
       not_before a lt out = false_from_ne_true (holds mid.bearing a) (λ held.
@@ -439,7 +449,10 @@ module _ (table : List Shape) (fs : List (Fact ℕ)) (node concept : ℕ) (old n
             gained.held c (omega (arith, lt, limits)) ∙ or_right (own == c) (holds old.own c) held;
         owned = λ c lt held.
             elim (or_cases (own == c) (holds old.own c) (sym (gained.held c (omega (arith, lt, limits))) ∙ held)) [
-              | inl here ↦ inr (subst (IsOwnBeside table fs node concept) (eqb-true own c here) (is_beside v))
+              | inl here ↦ inr (
+                subst (IsOwnBeside table fs node concept) (eqb-true own c here) (is_beside v),
+                ap (holds old.there) (sym (eqb-true own c here)) ∙ not-true (holds old.there own) t.1,
+              )
               | inr before ↦ inl before
             ];
         are_own = λ was c lt held.
@@ -558,7 +571,7 @@ module _ (at : ℕ) (table : List Shape) (fs : List (Fact ℕ)) (old mid new : S
             h.own c (omega (arith, lt, there_limit)) (ap (λ (s : Limited). holds s c) same.own ∙ held);
         owned = λ c lt held. elim (h.owned c (omega (arith, lt, there_limit)) held) [
           | inl was ↦ inl (sym (ap (λ (s : Limited). holds s c) same.own) ∙ was)
-          | inr fresh ↦ inr fresh
+          | inr fresh ↦ inr (fresh.0, sym (ap (λ (s : Limited). holds s c) same.there) ∙ fresh.1)
         ];
         still = λ t are. h.still (same.tells_apart ∙ t) are;
         are_own = λ t was.

@@ -31,7 +31,7 @@ use Rattle.tableau.specs.Seen.{SeenSets, holds, no_classes, nothing_seen, gives_
 use Rattle.tableau.specs.Seen.{AreToldFrom, AreTold, HasTold, IsToldApart, HasNoted, HasNoOwn, BearsBy, Bears, IsOwnBy}
 use Rattle.tableau.specs.Seen.{IsOwnIn, concept_room}
 use Rattle.tableau.specs.Inside.{HasNotedNew, HasToldNew}
-use Rattle.tableau.proofs.Bearing.{not_own_is_there, contains_first, contains_later, bears_later, not_set_apart}
+use Rattle.tableau.proofs.Bearing.{not_own_is_there, contains_first, bears_later, not_set_apart}
 use Rattle.tableau.proofs.Noted.{still_ever, none_held, any_of_all}
 use Rattle.tableau.proofs.Telling.{own_later, own_before}
 
@@ -220,21 +220,21 @@ module _ (first at a b : ℕ) (table : List Shape) (trail : List Item) (count co
   bears_at_start : (c : ℕ) → BearsBy first at table (facts_of trail) (facts_of trail) s c
       → Bears first at table (trail ∷ []) c
   bears_at_start c (inl put) = inl (ever_now (gives_bearing at table c) trail [] put)
-  bears_at_start c (inr like) =
+  bears_at_start c (inr given) =
       absurd
-      (like.gives.is_other
-      (start_puts at a b like.node like.concept
-      (subst (λ (t : List Item). list_any (puts_at like.node like.concept) (facts_of t) ≡ true) is
-      like.gives.is_given)))
+      (given.gives.is_other
+      (start_puts at a b given.node given.concept
+      (subst (λ (t : List Item). list_any (puts_at given.node given.concept) (facts_of t) ≡ true) is
+      given.gives.is_given)))
 
   pub told_at_start : IsToldApart first at table (trail ∷ []) s
   told_at_start = record {
     limit = h.limit ∙ sym noted.at_node.limit;
     there_limit = h.there.limit ∙ room ∙ ap (λ (n : ℕ). concept_room n (length table)) (sym h.limit);
-    bearing = λ c lt ever.
+    all_noted = λ c lt ever.
         h.bearing c (omega (arith, lt, h.limit))
         (alone (list_any (gives_bearing at table c) (facts_of trail)) (holds (no_classes count) c) ever);
-    bears = λ c lt held. elim (h.bears c (omega (arith, lt, h.limit)) held) [
+    none_else = λ c lt held. elim (h.bears c (omega (arith, lt, h.limit)) held) [
       | inl was ↦ absurd (both_ways (holds (no_classes count) c) (none_held count c) was)
       | inr fresh ↦ bears_at_start c fresh
     ];
@@ -243,7 +243,14 @@ module _ (first at a b : ℕ) (table : List Shape) (trail : List Item) (count co
         ∙ ap (λ (t : Bool). list_any (puts_at at c) (facts_of trail) || t) (none_held concepts c);
     own = λ c lt held. elim (h.owned c (omega (arith, lt, h.there.limit)) held) [
       | inl was ↦ absurd (both_ways (holds (no_classes concepts) c) (none_held concepts c) was)
-      | inr fresh ↦ record { trail = trail; of_run = contains_first trail []; by_trail = fresh }
+      | inr fresh ↦ record {
+        later = [];
+        trail = trail;
+        earlier = [];
+        run_is = refl;
+        by_trail = fresh.0;
+        was_not_there = refl;
+      }
     ];
     tells = (λ tells. h.are_own tells (λ c lt held. none_held concepts c), λ own. h.still refl own);
     each =
@@ -306,7 +313,7 @@ module _ (rules : RuleLists) (first at : ℕ) (old new : List Entry) (earlier : 
       (still_ever p place (context_in rules) (items_of old) (items_of new) earlier (was_ever p before)
       (fresh || was_ever p before) legal within last refl refl ∙ ever)) [
         | inl put ↦ told.bearing a below (or_left fresh (holds s.bearing a) put)
-        | inr held ↦ told.bearing a below (or_right fresh (holds s.bearing a) (was.bearing a below held))
+        | inr held ↦ told.bearing a below (or_right fresh (holds s.bearing a) (was.all_noted a below held))
       ]
 
   -- a node without a concept that may be noted as its own one has none
@@ -326,17 +333,20 @@ module _ (rules : RuleLists) (first at : ℕ) (old new : List Entry) (earlier : 
       → Bears first at table run a
   bears_now a lt (inl put) =
       let p = gives_bearing at table a in inl (ever_now p (items_of new) before (any_of_all p place (items_of new) put))
-  bears_now a lt (inr like) =
+  bears_now a lt (inr given) =
       inr
-      (not_set_apart first at table a run (items_of new) like.node like.concept (contains_first (items_of new) before)
-      like.gives.is_no_first
-      (any_of_all (puts_at like.node like.concept) place (items_of new) like.gives.is_given) like.gives.shape
-      (none_there a like.node like.concept lt like.has_none))
+      (not_set_apart first at table a run (items_of new) given.node given.concept (contains_first (items_of new) before)
+      given.gives.is_no_first
+      (any_of_all (puts_at given.node given.concept) place (items_of new) given.gives.is_given) given.gives.shape
+      (none_there a given.node given.concept lt given.has_none))
 
-  own_now : (c : ℕ) → IsOwnBy first at table (facts_in new) some c → IsOwnIn first at table run c
-  own_now c own = record {
+  own_now : (c : ℕ) → IsOwnBy first at table (facts_in new) some c → was_ever (puts_at at c) before ≡ false
+      → IsOwnIn first at table run c
+  own_now c own none = record {
+    later = [];
     trail = items_of new;
-    of_run = contains_first (items_of new) before;
+    earlier = before;
+    run_is = refl;
     by_trail = record {
       node = own.node;
       concept = own.concept;
@@ -352,13 +362,17 @@ module _ (rules : RuleLists) (first at : ℕ) (old new : List Entry) (earlier : 
       is_not_top = own.is_not_top;
       is_another = own.is_another;
     };
+    was_not_there = none;
   }
 
   own_still : (c : ℕ) → IsOwnIn first at table before c → IsOwnIn first at table run c
   own_still c own = record {
+    later = items_of new ∷ own.later;
     trail = own.trail;
-    of_run = contains_later (items_of new) own.trail before own.of_run;
+    earlier = own.earlier;
+    run_is = ap (λ (ts : List (List Item)). items_of new ∷ ts) own.run_is;
     by_trail = own.by_trail;
+    was_not_there = own.was_not_there;
   }
 
   told_now_by : AreToldBy first at table (facts_of (items_of new)) some s'
@@ -370,16 +384,18 @@ module _ (rules : RuleLists) (first at : ℕ) (old new : List Entry) (earlier : 
     limit = told.limit ∙ was.limit ∙ sym noted.at_node.limit;
     there_limit =
         told.there.limit ∙ was.there_limit ∙ ap (λ (n : ℕ). concept_room n (length table)) (sym told.limit);
-    bearing = bearing_now;
-    bears = λ a lt held. elim (told.bears a (omega (arith, lt, told.limit)) held) [
+    all_noted = bearing_now;
+    none_else = λ a lt held. elim (told.bears a (omega (arith, lt, told.limit)) held) [
       | inl earlier' ↦
-          bears_later first at table a (items_of new) before (was.bears a (omega (arith, lt, told.limit)) earlier')
+          bears_later first at table a (items_of new) before (was.none_else a (omega (arith, lt, told.limit)) earlier')
       | inr fresh ↦ bears_now a lt fresh
     ];
     there = there_now;
     own = λ c lt held. elim (told.owned c (omega (arith, lt, told.there.limit)) held) [
       | inl earlier' ↦ own_still c (was.own c (omega (arith, lt, told.there.limit)) earlier')
-      | inr fresh ↦ own_now c fresh
+      | inr fresh ↦
+          let below : c < s.there.limit = omega (arith, lt, told.there.limit) in
+          own_now c fresh.0 (sym (was.there c below) ∙ fresh.1)
     ];
     tells = (
       λ tells. told.are_own tells (was.tells.0 (told.before tells)),

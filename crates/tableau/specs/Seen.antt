@@ -1,6 +1,6 @@
 -- With which classes the run of a search has had to do.
 use Rattle.std.specs.Prelude.{◌≡◌, ◌↔◌, ◌⊎◌, ℕ, ◌+◌, ◌<◌, ◌≤◌, ◌==◌, nat_lt, ◌&&◌, ◌||◌, not, Bool, true, false}
-use Rattle.std.specs.Prelude.{List, [], ◌∷◌, ◌++◌, length, Option, Some, None, All, Contains, if◌then◌else◌}
+use Rattle.std.specs.Prelude.{List, [], ◌∷◌, ◌++◌, length, Option, Some, None, All, if◌then◌else◌}
 use Rattle.std.specs.List.{list_any}
 use Rattle.std.specs.FinSet as set
 use Rattle.axiom_sets.specs.Sets.{Limited}
@@ -224,7 +224,7 @@ abbrev pub HasNoOwn : SeenSets → List (Fact ℕ) → ℕ → ℕ → Type 0
 HasNoOwn s fs x c = (own : ℕ) → has fs x own ≡ true → may_be_own s own c ≡ false
 
 -- some of the facts give the complement of class a to another node, which has no own concept by all of them
-pub record IsLikeThere (first at : ℕ) (table : List Shape) (all some : List (Fact ℕ)) (s : SeenSets) (a : ℕ) :
+pub record IsGivenWithoutOwn (first at : ℕ) (table : List Shape) (all some : List (Fact ℕ)) (s : SeenSets) (a : ℕ) :
     Type 0 where
   pub node : ℕ
   pub concept : ℕ
@@ -235,7 +235,7 @@ pub record IsLikeThere (first at : ℕ) (table : List Shape) (all some : List (F
 -- a part, or they give the complement to a node that has no own concept
 abbrev pub BearsBy : ℕ → ℕ → List Shape → List (Fact ℕ) → List (Fact ℕ) → SeenSets → ℕ → Type 0
 BearsBy first at table all some s a =
-    (list_any (gives_bearing at table a) some ≡ true) ⊎ IsLikeThere first at table all some s a
+    (list_any (gives_bearing at table a) some ≡ true) ⊎ IsGivenWithoutOwn first at table all some s a
 
 -- some of the facts give the complement of a class to another node, which by all of them has the concept `own` besides
 -- the complement and top
@@ -248,11 +248,15 @@ pub record IsOwnBy (first at : ℕ) (table : List Shape) (all some : List (Fact 
   pub is_not_top : ¬ (own ≡ 0)
   pub is_another : ¬ (own ≡ concept)
 
--- some trail of a run gives the complement of a class to another node, which has the concept `own` besides
+-- some trail of a run gives the complement of a class to another node, which has the concept `own` besides, and no
+-- trail before it gave the node in question that concept. The latest trail of a run is its first one
 pub record IsOwnIn (first at : ℕ) (table : List Shape) (run : List (List Item)) (own : ℕ) : Type 0 where
+  pub later : List (List Item)
   pub trail : List Item
-  pub of_run : Contains run trail
+  pub earlier : List (List Item)
+  pub run_is : run ≡ later ++ trail ∷ earlier
   pub by_trail : IsOwnBy first at table (facts_of trail) (facts_of trail) own
+  pub was_not_there : was_ever (puts_at at own) earlier ≡ false
 
 -- for how many concepts there is room, where there is room for so many classes: for all of the table, or for none
 abbrev pub concept_room : ℕ → ℕ → ℕ
@@ -269,14 +273,14 @@ Bears first at table run a =
 -- What is noted of a run to tell other nodes apart from the node in question. A class is noted where the run gave this
 -- node the complement, or a union of which that is a part, and no class is noted that does not bear on this node.
 -- Exactly the concepts that this node was given are noted, and some that other nodes have besides the complement of a
--- class: of these, at least one for each such node whose class is not noted. Other nodes are told apart exactly if the
--- node in question was given none of these
+-- class, and that this node was not given before: of these, at least one for each such node whose class is not noted.
+-- Other nodes are told apart exactly if the node in question was given none of these
 pub record IsToldApart (first at : ℕ) (table : List Shape) (run : List (List Item)) (s : SeenSets) : Type 0 where
   pub limit : s.bearing.limit ≡ s.at_node.limit
   pub there_limit : s.there.limit ≡ concept_room s.bearing.limit (length table)
-  pub bearing : (a : ℕ) → a < s.bearing.limit → was_ever (gives_bearing at table a) run ≡ true
+  pub all_noted : (a : ℕ) → a < s.bearing.limit → was_ever (gives_bearing at table a) run ≡ true
       → holds s.bearing a ≡ true
-  pub bears : (a : ℕ) → a < s.bearing.limit → holds s.bearing a ≡ true → Bears first at table run a
+  pub none_else : (a : ℕ) → a < s.bearing.limit → holds s.bearing a ≡ true → Bears first at table run a
   pub there : (c : ℕ) → c < s.there.limit → holds s.there c ≡ was_ever (puts_at at c) run
   pub own : (c : ℕ) → c < s.there.limit → holds s.own c ≡ true → IsOwnIn first at table run c
   pub tells : s.tells_apart ≡ true ↔ AreOwn s
@@ -293,7 +297,7 @@ pub record HasTold (first at : ℕ) (table : List Shape) (all some : List (Fact 
   pub there : HasGained (λ c. list_any (puts_at at c) some) old.there new.there
   pub own : (c : ℕ) → c < old.there.limit → holds old.own c ≡ true → holds new.own c ≡ true
   pub owned : (c : ℕ) → c < old.there.limit → holds new.own c ≡ true
-      → (holds old.own c ≡ true) ⊎ IsOwnBy first at table all some c
+      → (holds old.own c ≡ true) ⊎ (IsOwnBy first at table all some c × (holds old.there c ≡ false))
   pub are_own : new.tells_apart ≡ true → AreOwn old → AreOwn new
   pub still : old.tells_apart ≡ true → AreOwn new → new.tells_apart ≡ true
   pub told : AreToldBy first at table all some new

@@ -56,7 +56,7 @@ pub record IsOwnBeside (table : List Shape) (fs : List (Fact ℕ)) (node concept
 
 -- another node was given a concept. If that is the complement of a class, the node has an own concept besides, which is
 -- noted, or the class is noted as one that bears on the node in question. No other class is noted, and no concept but
--- such as this node has besides
+-- one that this node has besides and that the node in question was not given before
 pub record HasToldOther (table : List Shape) (fs : List (Fact ℕ)) (node concept : ℕ) (old new : SeenSets) : Type 0 where
   pub tells_apart : new.tells_apart ≡ old.tells_apart
   pub there : new.there ≡ old.there
@@ -66,7 +66,7 @@ pub record HasToldOther (table : List Shape) (fs : List (Fact ℕ)) (node concep
       → (holds old.bearing a ≡ true) ⊎ ((shape_of table concept ≡ not_name a) × HasNoOwn old fs node concept)
   pub own : (c : ℕ) → c < old.there.limit → holds old.own c ≡ true → holds new.own c ≡ true
   pub owned : (c : ℕ) → c < old.there.limit → holds new.own c ≡ true
-      → (holds old.own c ≡ true) ⊎ IsOwnBeside table fs node concept c
+      → (holds old.own c ≡ true) ⊎ (IsOwnBeside table fs node concept c × (holds old.there c ≡ false))
   pub are_own : AreOwn old → AreOwn new
   pub told : (a : ℕ) → a < old.bearing.limit → shape_of table concept ≡ not_name a → holds new.bearing a ≡ false
       → HasOwn new fs node concept
