@@ -234,10 +234,11 @@ left_out s run a is_first lt out =
     let no_class : was_ever (gives_class at table a) all ≡ false = sym (run.are_seen.at_node a node_lt) ∙ unseen.0 in
     elim (cases_Bool s.seen.tells_apart) [
       | inl tells ↦
-          let told =
-          run.told_apart
+          let noted =
+          run.from_nothing
           (false_from_ne_true s.behind (λ is_behind.
           both_ways s.seen.tells_apart (run.not_apart is_behind) tells)) in
+          let told = noted.told_apart in
           let bearing_lt : a < s.seen.bearing.limit = omega (arith, node_lt, told.limit) in
           let none : holds s.seen.bearing a ≡ false =
           sym (ap (λ (b : Bool). holds (cond b s.seen.bearing s.seen.complements) a) tells) ∙ unseen.1 in

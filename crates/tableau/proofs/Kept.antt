@@ -151,8 +151,7 @@ begun_is_kept rules query sub not_sup p seen limit set numbers h q at_is s n ove
       counted = refl;
       are_over = over;
       are_seen = seen_is;
-      bare = λ from_nothing. bare;
-      told_apart = λ from_nothing. told;
+      from_nothing = λ begins. record { bare = bare; told_apart = told };
       not_apart = λ is_behind. (let k : false ≡ true = is_behind in absurd (cc));
     })
 
@@ -424,19 +423,24 @@ module _ (rules : RuleLists) (query : Query) (sub not_sup : ℕ) (p p' : Progres
               (sym entries)
               (subst (AreSeenIn (asked rules query).at rules.table (items_of p.entries ∷ run.earlier)) (sym seen_is)
               run.are_seen);
-          bare = λ from_nothing none.
-              ap (λ (u : SeenSets). u.bare) seen_is
-              ∙ run.bare from_nothing
-              (subst
-              (λ (es : List Entry). was_ever (gives_more (asked rules query).at) (items_of es ∷ run.earlier) ≡ false)
-              entries none);
-          told_apart = λ from_nothing.
-              subst
-              (λ (es : List Entry). IsToldApart w.first (asked rules query).at rules.table (items_of es ∷ run.earlier)
-              seen')
-              (sym entries)
-              (subst (IsToldApart w.first (asked rules query).at rules.table (items_of p.entries ∷ run.earlier))
-              (sym seen_is) (run.told_apart from_nothing));
+          from_nothing = λ begins.
+              let noted = run.from_nothing begins in
+              record {
+                bare = λ none.
+                    ap (λ (u : SeenSets). u.bare) seen_is
+                    ∙ noted.bare
+                    (subst
+                    (λ (es : List Entry).
+                    was_ever (gives_more (asked rules query).at) (items_of es ∷ run.earlier) ≡ false)
+                    entries none);
+                told_apart =
+                    subst
+                    (λ (es : List Entry).
+                    IsToldApart w.first (asked rules query).at rules.table (items_of es ∷ run.earlier) seen')
+                    (sym entries)
+                    (subst (IsToldApart w.first (asked rules query).at rules.table (items_of p.entries ∷ run.earlier))
+                    (sym seen_is) noted.told_apart);
+              };
           not_apart = λ is_behind. ap (λ (u : SeenSets). u.tells_apart) seen_is ∙ run.not_apart is_behind;
         }
 
@@ -516,11 +520,14 @@ module _ (rules : RuleLists) (query : Query) (sub not_sup : ℕ) (p p' : Progres
               p'.entries seen seen' run.are_over noted;
           are_seen =
               seen_after rules at p.entries p'.entries run.earlier seen seen' moved.is_legal run.are_seen noted_there;
-          bare = λ from_nothing.
-              bare_after rules at p.entries p'.entries run.earlier seen seen' noted_there (run.bare from_nothing);
-          told_apart = λ from_nothing.
-              told_after rules first at p.entries p'.entries run.earlier seen seen' (listed p' h) moved.is_legal
-              noted_there told_there (run.told_apart from_nothing);
+          from_nothing = λ begins.
+              let before = run.from_nothing begins in
+              record {
+                bare = bare_after rules at p.entries p'.entries run.earlier seen seen' noted_there before.bare;
+                told_apart =
+                    told_after rules first at p.entries p'.entries run.earlier seen seen' (listed p' h) moved.is_legal
+                    noted_there told_there before.told_apart;
+              };
           not_apart = λ is_behind.
               false_from_ne_true seen'.tells_apart (λ tells.
               both_ways seen.tells_apart (run.not_apart is_behind) (told.before tells));

@@ -461,8 +461,7 @@ kept_behind rules query sub not_sup b p seen limit set numbers serves h q at_is 
       counted = held.counted;
       are_over = noted.are_over;
       are_seen = subst (λ (t : List Item). AreSeenIn at rules.table (t ∷ held.before) seen) (sym trail) noted.are_seen;
-      bare = λ from_nothing. (let k : true ≡ false = from_nothing in absurd (cc));
-      told_apart = λ from_nothing. (let k : true ≡ false = from_nothing in absurd (cc));
+      from_nothing = λ begins. (let k : true ≡ false = begins in absurd (cc));
       not_apart = λ is_behind. noted.not_apart;
     })
 

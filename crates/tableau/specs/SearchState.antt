@@ -67,6 +67,11 @@ is_any (Individual a) = false
 abbrev pub room_for : ℕ → On → ℕ → ℕ
 room_for count on not_sup = if is_any on && not_sup == 0 then count else 0
 
+-- what more is noted of a run where the search began from nothing
+pub record IsNotedWhole (s : SearchState) (earlier : List (List Item)) : Type 0 where
+  pub bare : was_ever (gives_more (question_of s).at) (trail_of s ∷ earlier) ≡ false → s.seen.bare ≡ true
+  pub told_apart : IsToldApart (context_of s).first (question_of s).at s.rules.table (trail_of s ∷ earlier) s.seen
+
 -- Its run: all its trails, as many as steps were made and the first one, and the classes with which they had to do.
 -- Where the search began from nothing, it is known whether the run gave the node in question no more than top, and what
 -- tells other nodes apart from this node is noted. A search that went on behind a beginning tells none apart, since
@@ -77,10 +82,7 @@ pub record HasRun (s : SearchState) : Type 0 where
   pub counted : length earlier ≡ s.steps
   pub are_over : AreOver (room_for (length s.rules.ontology.classes) s.query.on s.not_sup) s.seen
   pub are_seen : AreSeenIn (question_of s).at s.rules.table (trail_of s ∷ earlier) s.seen
-  pub bare : s.behind ≡ false → was_ever (gives_more (question_of s).at) (trail_of s ∷ earlier) ≡ false
-      → s.seen.bare ≡ true
-  pub told_apart : s.behind ≡ false
-      → IsToldApart (context_of s).first (question_of s).at s.rules.table (trail_of s ∷ earlier) s.seen
+  pub from_nothing : s.behind ≡ false → IsNotedWhole s earlier
   pub not_apart : s.behind ≡ true → s.seen.tells_apart ≡ false
 
 -- a search that begins
