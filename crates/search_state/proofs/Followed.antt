@@ -85,6 +85,8 @@ stepped_after w old mid new same s h = by_kind s (subst (λ (q : ProgressLists).
       blocks = h.blocks;
       steps = h.steps;
       has_clash = h.has_clash;
+      from = h.from;
+      from_is = h.from_is;
       closes = h.closes;
       fit = h.fit;
     }

@@ -1,12 +1,10 @@
 -- Where a search is once its trace has gone back from a clash.
-use Rattle.std.proofs.Common.{◌≡◌, List, [], ◌∷◌, ◌++◌, length, Some, sym, subst}
+use Rattle.std.proofs.Common.{◌≡◌, List, [], ◌∷◌, ◌++◌, length, sym, subst}
 use Rattle.lane_sieve.specs.Sets.{NumberSet}
 use Rattle.calculus_specs.specs.Rules.{Question}
 use Rattle.calculus_specs.specs.Line.{Line}
 use Rattle.tableau_specs.specs.Steps.{SearchContext, HasClash}
 use Rattle.std.specs.List.{All}
-use Rattle.search_trace.specs.Back.{step_of}
-use Rattle.search_trace.specs.Leaves.{leaves}
 use Rattle.search_trace.specs.Noted.{Noted}
 use Rattle.search_trace.specs.Places.{Place}
 use Rattle.step_agenda.specs.Trail.{items_of}
@@ -74,9 +72,9 @@ module _ (w : SearchContext) (old : ProgressLists) (st : IsStanding w old) (clas
     follows = st.follows;
     blocks = st.blocks;
     has_clash = clash;
-    closes = λ begun.
-        subst (λ (n : Noted). leaves (step_of asked w.table) (n ∷ []) (turned_back lined u).lines ≡ Some [])
-        (st.from_is begun) is;
+    from = start;
+    from_is = st.from_is;
+    closes = is;
     fit = fit;
   }
   by_left [] (Turned mark marks) are count is = absurd is

@@ -129,6 +129,8 @@ closing_is_closed w old new same h = record {
   blocks = h.blocks;
   steps = ap (λ (q : ProgressLists). q.steps) same;
   has_clash = h.has_clash;
+  from = h.from;
+  from_is = h.from_is;
   closes = h.closes;
   fit = h.fit;
 }

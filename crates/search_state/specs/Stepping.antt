@@ -4,7 +4,7 @@ use Rattle.tableau_specs.specs.declared.Item.{Item}
 use Rattle.tableau_specs.specs.Steps.{SearchContext, IsLegal, IsSaturated, HasClash, HasPlainClash}
 use Rattle.tableau_specs.specs.Reached.{start}
 use Rattle.search_trace.specs.Leaves.{leaves}
-use Rattle.search_trace.specs.Noted.{start_of}
+use Rattle.search_trace.specs.Noted.{Noted, start_of}
 use Rattle.search_trace.specs.Back.{step_of}
 use Rattle.step_agenda.specs.Trail.{facts_in, items_of}
 use Rattle.step_agenda.specs.Followed.{AreFirstBlocks, IsCurrent}
@@ -41,16 +41,18 @@ pub record HasFollowed (old new : ProgressLists) : Type 0 where
   pub current : IsCurrent new.first (facts_in new.entries) new.found_blocks
 
 module _ (w : SearchContext) where
-  -- The lines close everything: they are a refutation where the search began with the query's start. The trail is as
-  -- it was, and the blocks that are known are those of the trail.
+  -- The trail is as it was, and has a clash, and the blocks that are known are those of the trail. There is a branch
+  -- from which the lines of the trace close everything. It is the query's start, and the lines are a refutation, unless
+  -- the search went on behind a trail that it was given.
   pub record IsClosed (old new : ProgressLists) : Type 0 where
     pub same : IsSameQuery old new
     pub entries : new.entries ≡ old.entries
     pub blocks : AreFirstBlocks new.first (facts_in new.entries) new.found_blocks
     pub steps : new.steps ≡ old.steps
     pub has_clash : HasClash w (items_of new.entries)
-    pub closes : new.behind ≡ false
-        → leaves (step_of (asked_by w new) w.table) (start_of (asked_by w new) ∷ []) new.trace.lines ≡ Some []
+    pub from : Noted
+    pub from_is : new.behind ≡ false → from ≡ start_of (asked_by w new)
+    pub closes : leaves (step_of (asked_by w new) w.table) (from ∷ []) new.trace.lines ≡ Some []
     pub fit : All (IsFitLine w new.sub new.not_sup) new.trace.lines
 
   abbrev pub IsStepped : ProgressLists → ProgressLists → Stepped → Type 0

@@ -44,16 +44,17 @@ pub record IsTurning (w : SearchContext) (s : ProgressLists) (mark : ℕ) (marks
       (turned_place place s.trace.lines used rest ∷ older) (place.facts ++ map (marked marks) new)
   pub fit : All (IsFitLine w s.sub s.not_sup) s.trace.lines
 
--- the trail has a clash, and the lines of the trace close everything: also the branch of the query's start, where the
--- trace began with it
+-- The trail has a clash, and there is a branch from which the lines of the trace close everything. It is the query's
+-- start, unless the search went on behind a trail that it was given.
 pub record IsClosing (w : SearchContext) (s : ProgressLists) : Type 0 where
   pub asked : IsAsked w s.query s.at s.sub s.not_sup
   pub first_is : s.first ≡ w.first
   pub follows : Follows w (start s.at s.sub s.not_sup) s.steps (items_of s.entries)
   pub blocks : AreFirstBlocks s.first (facts_in s.entries) s.found_blocks
   pub has_clash : HasClash w (items_of s.entries)
-  pub closes : s.behind ≡ false
-      → leaves (step_of (asked_by w s) w.table) (start_of (asked_by w s) ∷ []) s.trace.lines ≡ Some []
+  pub from : Noted
+  pub from_is : s.behind ≡ false → from ≡ start_of (asked_by w s)
+  pub closes : leaves (step_of (asked_by w s) w.table) (from ∷ []) s.trace.lines ≡ Some []
   pub fit : All (IsFitLine w s.sub s.not_sup) s.trace.lines
 
 -- where a search is after going back: at a branching that turns, or closing

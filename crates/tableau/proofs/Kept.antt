@@ -9,6 +9,9 @@ use Rattle.std.proofs.lemmas.Bool.{ltb-true, both_ways, false_from_ne_true}
 use Rattle.search_rules.specs.Limits.{IsInLimit, is_on_listed}
 use Rattle.calculus_specs.specs.Rules.{Question}
 use Rattle.closed_search.specs.Theory.{node_in_question, question_in}
+use Rattle.closed_search.specs.Back.{step_of}
+use Rattle.closed_search.specs.Leaves.{leaves}
+use Rattle.closed_search.specs.Noted.{Noted}
 use Rattle.closed_search.specs.RefutationLists.{RefutationLists}
 use Rattle.tableau_specs.specs.Reached.{start, IsReached, Follows}
 use Rattle.tableau_specs.specs.Steps.{SearchContext, IsLegal, IsSaturated, HasClash}
@@ -173,7 +176,9 @@ closing_from rules old mid limit set at searching h =
           (subst (λ (q : Query). IsAsked w q old.at old.sub old.not_sup) (sym same.query) searching.standing.asked)));
       at_is =
           same.at ∙ at ∙ ap (λ (q : Query). node_in_question (length rules.ontology.individuals) q.on) (sym same.query);
-      closes = h.closes;
+      closes = λ from_nothing.
+          subst (λ (n : Noted). leaves (step_of (asked_by w mid) rules.table) (n ∷ []) mid.trace.lines ≡ Some [])
+          (h.from_is from_nothing) h.closes;
       fit = h.fit;
     }
 
