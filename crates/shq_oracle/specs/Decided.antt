@@ -15,9 +15,11 @@ use Rattle.model_builder.specs.Written.{uses_listed_names}
 use Rattle.tableau.specs.CounterModelLaws.{IsCounterModel}
 use Rattle.tableau_specs.specs.declared.Item.{Item}
 use Rattle.tableau_specs.specs.Steps.{IsLegal}
+use Rattle.tableau_specs.specs.Reached.{IsReached}
 use Rattle.tableau.specs.declared.search.End.{End}
 use Rattle.tableau.specs.declared.search.End.TheVariants.{Saturated, Closed, Lost, Spent as OutOfFuel}
-use Rattle.tableau.specs.RuleLists.{AreNumbersOf}
+use Rattle.tableau.specs.RuleLists.{RuleLists, AreNumbersOf, numbers_in, context_in}
+use Rattle.tableau.specs.Beginning.{LastMeets}
 use Rattle.tableau.specs.SearchState.{SearchState, context_of, trail_of, IsReachedBy, HasRun}
 use Rattle.tableau.specs.Steps.{IsAtModel, IsAtRefutation, ShowsApart}
 use Rattle.run_log.specs.declared.entry.Entry.{Entry}
@@ -90,8 +92,18 @@ pub record AddsTest (o : Listed) (s : Limited) (q : Query) (before after : List 
 abbrev pub AppendsTest : Listed → Limited → Query → List Entry → List Entry → Answer → Type 0
 AppendsTest o s q before after a = AddsTest o s q before after (outcome_of a)
 
--- a search for the query by the axioms of the set, which ended at a model after so many legal steps; its run has the
--- trail after each of them
+-- Some legal steps of a search for the query, begun from nothing, lead to a trail whose last item speaks of another
+-- first node than the one in question. There is no such node if no individual is listed and the query is on any
+-- element: the node in question is number 0 then, and the only first one
+pub record MeetsOther (rules : RuleLists) (q : Query) : Type 0 where
+  pub steps : ℕ
+  pub trail : List Item
+  pub reached : IsReached (question_in rules.ontology (numbers_in rules) q) rules.table (context_in rules).rows steps
+      trail
+  pub meets : LastMeets (context_in rules).first (question_in rules.ontology (numbers_in rules) q).at trail
+
+-- A search for the query by the axioms of the set, which ended at a model after so many legal steps; its run has the
+-- trail after each of them. It goes on from a beginning only if a search from nothing can meet another first node
 pub record EndsAtModel (o : Listed) (s : Limited) (q : Query) (steps : ℕ) (search : SearchState) : Type 0 where
   pub ontology_is : search.rules.ontology ≡ o
   pub set_is : search.rules.set ≡ s
@@ -100,6 +112,7 @@ pub record EndsAtModel (o : Listed) (s : Limited) (q : Query) (steps : ℕ) (sea
   pub numbers : AreNumbersOf search.rules search.query search.sub search.not_sup
   pub reached : IsReachedBy search
   pub has_run : HasRun search
+  pub behind : search.behind ≡ true → MeetsOther search.rules search.query
   pub at_model : IsAtModel search
 
 -- The further classes that a test with this outcome returns. If the query does not follow, they are exactly those that
@@ -189,11 +202,13 @@ HasEnded fuel s (Closed r) = IsAtRefutation r s
 HasEnded fuel s Lost = ⊥
 HasEnded fuel s OutOfFuel = (s.steps ≡ fuel) × MayGoOn s
 
--- a search has found no outcome, and may go on: memory was not refused, and it has made no more steps than it may
+-- a search has found no outcome, and may go on: memory was not refused, it has made no more steps than it may, and a
+-- search from nothing for its query can meet another first node
 pub record IsGoingOn (fuel : ℕ) (s : SearchState) : Type 0 where
   pub whole : s.failed ≡ false
   pub goes_on : s.ended ≡ false
   pub within : s.steps ≤ fuel
+  pub meets : MeetsOther s.rules s.query
 
 -- if no outcome was found, the search may go on
 abbrev pub MayRunOn : ℕ → SearchState → Option Tested → Type 0

@@ -10,12 +10,12 @@
 // nothing. So each test begins with a search from nothing, and leaves it when it meets an individual. It is taken up
 // again only if no outcome is found from the beginning. The steps of a search that is left for good are no steps of a
 // test.
-ghost use Rattle.std.specs.Prelude.{◌≡◌, ◌≤◌, false, IfOk, IfSome};
+ghost use Rattle.std.specs.Prelude.{◌≡◌, ◌≤◌, true, false, IfOk, IfSome};
 ghost use Rattle.model_builder.specs.Limits.{IsInLimit};
 ghost use Rattle.tableau.specs.RuleLists.{AreNumbersOf};
 ghost use Rattle.tableau.specs.Beginning.{Serves};
 ghost use Rattle.run_log.specs.HonestLog.{IsAxiomSet};
-ghost use Rattle.shq_oracle.specs.Decided.{IsTested, IsTestedBy, HasNumbers, HasEnded, is_lost};
+ghost use Rattle.shq_oracle.specs.Decided.{IsTested, IsTestedBy, HasNumbers, HasEnded, MeetsOther, is_lost};
 
 use crate::NoMemory;
 use crate::tested::{Tested, tested_by};
@@ -42,6 +42,7 @@ pub(crate) fn test_behind(
     requires numbers { AreNumbersOf rules.now query.now numbers.0 numbers.1 }
     requires set { IsAxiomSet rules.now.ontology rules.now.set }
     requires in_limit { IsInLimit rules.now.ontology query.now }
+    requires meets { MeetsOther rules.now query.now }
     requires served { IfSome kept.now (Serves rules.now) }
     ensures { IfOk result
         (λ t. IfSome t (IsTested rules.now.ontology rules.now.set query.now fuel wants_apart)) }
@@ -66,6 +67,7 @@ fn go_on(
     requires numbers { AreNumbersOf rules.now query.now numbers.0 numbers.1 }
     requires set { IsAxiomSet rules.now.ontology rules.now.set }
     requires in_limit { IsInLimit rules.now.ontology query.now }
+    requires meets { MeetsOther rules.now query.now }
     requires serves { Serves rules.now beginning.now }
     ensures { IfOk result
         (λ t. IfSome t (IsTested rules.now.ontology rules.now.set query.now fuel wants_apart)) }
@@ -97,6 +99,7 @@ fn unless_lost<A: Allocator + Copy>(
     requires numbers { HasNumbers search.now }
     requires set { IsAxiomSet search.now.rules.ontology search.now.rules.set }
     requires in_limit { IsInLimit search.now.rules.ontology search.now.query }
+    requires behind { search.now.behind ≡ true → MeetsOther search.now.rules search.now.query }
     requires within { search.now.steps ≤ fuel }
     requires ended { is_lost end ≡ false → HasEnded fuel search.now end }
     ensures { IfOk result (λ t. IfSome t (IsTestedBy search.now fuel wants_apart)) }

@@ -6,7 +6,7 @@ ghost use Rattle.tableau.specs.Beginning.{Serves};
 ghost use Rattle.tableau.specs.SearchState.{HasBegun, IsSameSearch};
 ghost use Rattle.tableau.specs.Steps.{IsAtModel, IsAtRefutation, AreLeftOut, ShowsApart};
 ghost use Rattle.run_log.specs.HonestLog.{IsAxiomSet};
-ghost use Rattle.shq_oracle.specs.Decided.{IsTested, IsTestedBy, HasNumbers, MayGoOn, MayRunOn, HasEnded};
+ghost use Rattle.shq_oracle.specs.Decided.{IsTested, IsTestedBy, HasNumbers, MayGoOn, MayRunOn, HasEnded, MeetsOther};
 
 use crate::beginning::test_behind;
 use crate::found::{kept_axioms, kept_trail};
@@ -123,7 +123,11 @@ fn tested_alone<A: Allocator + Copy>(
             let tested = tested_by(alloc, search, fuel, end, wants_apart)?;
             Ok(Some(tested))
         }
-        None => Ok(None),
+        None => {
+            // Called for what it promises: the steps lead to the trail.
+            search.steps();
+            Ok(None)
+        }
     }
 }
 
@@ -193,6 +197,7 @@ pub(crate) fn tested_by<A: Allocator + Copy>(
     requires numbers { HasNumbers search.now }
     requires set { IsAxiomSet search.now.rules.ontology search.now.rules.set }
     requires in_limit { IsInLimit search.now.rules.ontology search.now.query }
+    requires behind { search.now.behind ≡ true → MeetsOther search.now.rules search.now.query }
     requires within { search.now.steps ≤ fuel }
     requires ended { HasEnded fuel search.now end }
     ensures { IfOk result (IsTestedBy search.now fuel wants_apart) }
@@ -213,6 +218,7 @@ fn with_no<A: Allocator + Copy>(
     requires whole { search.now.failed ≡ false }
     requires numbers { HasNumbers search.now }
     requires in_limit { IsInLimit search.now.rules.ontology search.now.query }
+    requires behind { search.now.behind ≡ true → MeetsOther search.now.rules search.now.query }
     requires ended { IsAtModel search.now }
     ensures { IfOk result (λ t. (fuel : ℕ) → search.now.steps ≤ fuel → IsTestedBy search.now fuel wants_apart t) }
 {

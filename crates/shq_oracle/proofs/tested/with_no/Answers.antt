@@ -18,6 +18,7 @@ returns g c = λ fuel le. record {
       numbers = c.requires.numbers;
       reached = c.steps-steps.ensures.reached c.requires.whole;
       has_run = c.steps-steps.ensures.run c.requires.whole;
+      behind = c.requires.behind;
       at_model = c.requires.ended;
     },
     c.in_ok-apart.ensures.shown wanted,
